@@ -1,0 +1,13 @@
+-- What a reader is asked to believe, one subject a page. Ports, slots and positions are numbered from 0 on these pages;
+-- document 01's numbers, from 1, stand where an answer is given and in the bytes of a frame.
+pub mod Words
+pub mod Loads
+pub mod Frames
+pub mod Refusals
+pub mod Rules
+pub mod Schedule
+pub mod Build
+pub mod Inspect
+pub mod Service
+pub mod Wire
+pub mod Sheet

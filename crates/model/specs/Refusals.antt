@@ -1,0 +1,95 @@
+-- Refusals 1 to 13: each condition with its number and what it carries, and the number and values of each answer.
+use Prim.Native.Nat.{ℕ, suc, zero, _*_, _^_}
+use mathlib.Core.List.{List, [], _∷_}
+use mathlib.Core.Bool.{Bool, true, false, not}
+use lib.Dec.{eqb, ltb}
+use lib.ListN.{length}
+use Rattle.model.specs.Words.{if, both, within, first}
+use Rattle.model.specs.Loads.{Class, input, output, load}
+use Rattle.model.specs.declared.Refusal.{Refusal}
+use Rattle.model.specs.declared.Refusal.the-variants.{Ports, Slots, MatrixLength, FrameLength, InputLoad, OutputLoad, LineForm, LinePort, LinePair, SheetLength, SlotNumber, PortNumber, RunLength}
+use Rattle.model.specs.declared.Answer.{Answer}
+use Rattle.model.specs.declared.Answer.the-variants.{Accepted, Refused}
+
+-- An answer as numbers: a refusal's is its number and then its values, acceptance's is 0.
+abbrev pub refusal : Refusal → List ℕ
+refusal Ports = 1 ∷ []
+refusal Slots = 2 ∷ []
+refusal MatrixLength = 3 ∷ []
+refusal FrameLength = 4 ∷ []
+refusal (InputLoad port cells) = 5 ∷ port ∷ cells ∷ []
+refusal (OutputLoad port cells) = 6 ∷ port ∷ cells ∷ []
+refusal (LineForm line) = 7 ∷ line ∷ []
+refusal (LinePort line) = 8 ∷ line ∷ []
+refusal (LinePair line) = 9 ∷ line ∷ []
+refusal SheetLength = 10 ∷ []
+refusal SlotNumber = 11 ∷ []
+refusal PortNumber = 12 ∷ []
+refusal RunLength = 13 ∷ []
+
+abbrev pub accepted : List ℕ
+accepted = 0 ∷ []
+
+abbrev pub answered : Answer → List ℕ
+answered Accepted = accepted
+answered (Refused r) = refusal r
+
+-- A condition, with the answer where it holds.
+abbrev pub Check : Type 0
+Check = Bool × List ℕ
+
+-- The first condition that holds is the one reported; if none holds, the answer is the one that is asked for.
+abbrev pub report : List Check → List ℕ → List ℕ
+report [] asked = asked
+report (c ∷ cs) asked = if (c .0) (c .1) (report cs asked)
+
+-- No condition holds.
+abbrev pub clear : List Check → Bool
+clear [] = true
+clear (c ∷ cs) = both (not (c .0)) (clear cs)
+
+-- 1: ports not 1 to 16.
+abbrev pub bad-ports : ℕ → Check
+bad-ports ports = (not (within 1 16 ports), 1 ∷ [])
+
+-- Slots are a power of two, 2 ^ k with k from 0 to 10: the k, and 11 for any other number.
+abbrev pub levels : ℕ → ℕ
+levels slots = first (λ k. eqb slots (2 ^ k)) 0 11
+
+-- 2: slots not a power of two from 1 to 1,024.
+abbrev pub bad-slots : ℕ → Check
+bad-slots slots = (eqb (levels slots) 11, 2 ∷ [])
+
+-- 3: matrix length not ports × ports.
+abbrev pub bad-matrix : ℕ → List ℕ → Check
+bad-matrix ports matrix = (not (eqb (length matrix) (ports * ports)), 3 ∷ [])
+
+-- 4: frame length not slots × ports.
+abbrev pub bad-frame : ℕ → ℕ → List ℕ → Check
+bad-frame ports slots bytes = (not (eqb (length bytes) (slots * ports)), 4 ∷ [])
+
+-- The lowest port of a kind whose load is above slots; ports where there is none.
+abbrev pub overloaded : (ℕ → Class) → ℕ → ℕ → List ℕ → ℕ
+overloaded kind ports slots matrix = first (λ x. ltb slots (load (kind x) ports matrix)) 0 ports
+
+-- 5, for inputs, and 6, for outputs: a port's load is above slots. Carries the lowest such port and its load.
+abbrev pub overload : ℕ → (ℕ → Class) → ℕ → ℕ → List ℕ → Check
+overload number kind ports slots matrix =
+    let x = overloaded kind ports slots matrix in
+    (ltb x ports, number ∷ suc x ∷ load (kind x) ports matrix ∷ [])
+
+-- 11: slot or start outside 1 to slots.
+abbrev pub bad-slot : ℕ → ℕ → Check
+bad-slot slots slot = (not (within 1 slots slot), 11 ∷ [])
+
+-- Admit: 1, 2, 3, 5, 6.
+unfoldable pub admitted : ℕ → ℕ → List ℕ → List ℕ
+admitted ports slots matrix =
+    report (
+    bad-ports ports
+    ∷ bad-slots slots
+    ∷ bad-matrix ports matrix
+    ∷ overload 5 input ports slots matrix
+    ∷ overload 6 output ports slots matrix
+    ∷ []
+    ) accepted

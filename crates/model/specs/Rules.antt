@@ -1,0 +1,74 @@
+-- Rules 2 to 6 of the splitting, as stated; rule 1 is `Block` of Frames.
+use Prim.Native.Nat.{ℕ, suc, zero, _+_, _*_, _/_, _%_, _≤_, _<_}
+use mathlib.Core.Path.{_≡_}
+use mathlib.Core.List.{List, [], _∷_, _++_}
+use mathlib.Core.Bool.{Bool, true, false, not}
+use lib.Dec.{eqb, ltb}
+use lib.ListN.{length, getD}
+use Rattle.model.specs.Words.{both, bit, upFrom, keep, Near}
+use Rattle.model.specs.Loads.{countOf}
+
+-- The two sides of a switch, and the port of a position of the matrix on each.
+pub data Side : Type 0 where
+  inputs : Side
+  outputs : Side
+
+abbrev pub portOf : ℕ → Side → ℕ → ℕ
+portOf ports inputs p = p / ports
+portOf ports outputs p = p % ports
+
+abbrev pub odd : List ℕ → ℕ → Bool
+odd m p = eqb (getD m p 0 % 2) 1
+
+-- The odd counts of port x by rising position: at an input by rising output, at an output by rising input.
+abbrev pub oddsAt : (ℕ → ℕ) → List ℕ → ℕ → List ℕ
+oddsAt port m x = keep (λ p. both (odd m p) (eqb (port p) x)) (upFrom 0 (length m))
+
+-- Rule 3: first with second, third with fourth, and so on. A last one may stay single.
+pub data Partners : List ℕ → ℕ → ℕ → Type 0 where
+  these : {p q : ℕ} {l : List ℕ} → Partners (p ∷ q ∷ l) p q
+  later : {x y p q : ℕ} {l : List ℕ} → Partners l p q → Partners (x ∷ y ∷ l) p q
+
+-- Rule 5: a group is all odd counts joined by partnership, directly or through others, at the ports of either side.
+pub data Joined (port : Side → ℕ → ℕ) (m : List ℕ) (p : ℕ) : ℕ → Type 0 where
+  itself : Joined port m p p
+  onward : (s : Side) (x : ℕ) {q r : ℕ} → Joined port m p q → Partners (oddsAt (port s) m x) q r → Joined port m p r
+  backward : (s : Side) (x : ℕ) {q r : ℕ} → Joined port m p q → Partners (oddsAt (port s) m x) r q → Joined port m p r
+
+-- A count favours the first half if that gets more of it.
+abbrev pub favoursFirst : List ℕ → List ℕ → ℕ → Bool
+favoursFirst a b p = ltb (getD b p 0) (getD a p 0)
+
+-- The counts m of a block, shared between its halves, a and b, over the port of each position on each side.
+pub record Split (port : Side → ℕ → ℕ) (m a b : List ℕ) : Type 0 where
+  pub first-size : length a ≡ length m
+  pub second-size : length b ≡ length m
+  -- Rule 2: an even count gives half to each, an odd one gives one half one cell more than the other.
+  pub shared : (p : ℕ) → getD a p 0 + getD b p 0 ≡ getD m p 0
+  pub evenly : (p : ℕ) → Near 1 (getD a p 0) (getD b p 0)
+  -- Rule 4: partners favour opposite halves.
+  pub opposite : (s : Side) (x p q : ℕ) → Partners (oddsAt (port s) m x) p q → favoursFirst a b p ≡ not (favoursFirst a b q)
+  -- Rule 5: in each group the count that comes first in matrix order gives its extra cell to the first half.
+  pub tie : (p : ℕ) → odd m p ≡ true → ((q : ℕ) → Joined port m p q → p ≤ q) → favoursFirst a b p ≡ true
+
+-- Rule 6: the counts of a block of one slot are the slot's cells.
+pub record Slot (ports : ℕ) (m bytes : List ℕ) : Type 0 where
+  pub size : length bytes ≡ ports
+  pub most : (i : ℕ) → i < ports → getD bytes i 0 ≤ ports
+  pub same : (i o : ℕ) → i < ports → o < ports → bit (eqb (getD bytes i 0) (suc o)) ≡ countOf ports m i o
+
+-- A block that is halved: the rules on each half, which P says, give the bytes end to end.
+pub record Halved (ports : ℕ) (P : List ℕ → List ℕ → Type 0) (m bytes : List ℕ) : Type 0 where
+  pub first : List ℕ
+  pub second : List ℕ
+  pub front : List ℕ
+  pub back : List ℕ
+  pub split : Split (portOf ports) m first second
+  pub first-half : P first front
+  pub second-half : P second back
+  pub joined : bytes ≡ front ++ back
+
+-- The bytes of a block of 2 ^ k slots meet rules 1 to 6 for the matrix m. The recursion goes down to single slots.
+unfoldable pub Scheduled : ℕ → ℕ → List ℕ → List ℕ → Type 0
+Scheduled ports zero m bytes = Slot ports m bytes
+Scheduled ports (suc k) m bytes = Halved ports (Scheduled ports k) m bytes

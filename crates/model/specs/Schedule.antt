@@ -1,0 +1,70 @@
+-- The frame as a function. The laws of proofs/ show that this is the only thing that meets the rules.
+use Prim.Native.Nat.{ℕ, suc, zero, _+_, _-_, _/_, _%_}
+use mathlib.Core.List.{List, [], _∷_, _++_}
+use mathlib.Core.Bool.{Bool, true, false}
+use lib.Dec.{eqb}
+use lib.ListN.{length, getD, set, replicate}
+use Rattle.model.specs.Words.{if, both, bit, upFrom, keep}
+use Rattle.model.specs.Rules.{Side, inputs, outputs, portOf, odd, oddsAt}
+
+-- The partner of p in a list, first with second, third with fourth, ..; a single one is its own.
+abbrev pub partnerIn : List ℕ → ℕ → ℕ
+partnerIn [] p = p
+partnerIn (a ∷ []) p = p
+partnerIn (a ∷ b ∷ l) p = if (eqb p a) b (if (eqb p b) a (partnerIn l p))
+
+abbrev pub partner : (ℕ → ℕ) → List ℕ → ℕ → ℕ
+partner port m p = partnerIn (oddsAt port m (port p)) p
+
+-- Each count has 0 until it is settled, then the half that it favours, 1 or 2. From p, which favours h, its partner on
+-- one side is settled with the other half, that one's partner on the other side with h, and so on, until a settled one.
+unfoldable pub walk : ℕ → (ℕ → ℕ) → (ℕ → ℕ) → ℕ → ℕ → List ℕ → List ℕ
+walk zero go back p h c = c
+walk (suc n) go back p h c =
+    let q = go p in
+    elim (eqb (getD c q 0) 0) [ true ↦ walk n back go q (3 - h) (set c q (3 - h)) | false ↦ c ]
+
+-- The half that the first count of a group favours.
+abbrev pub tieHalf : ℕ
+tieHalf = 1
+
+-- The group of p is settled if p is odd and not settled yet: p is its first.
+unfoldable pub settleAt : (ℕ → ℕ) → (ℕ → ℕ) → List ℕ → ℕ → List ℕ → List ℕ
+settleAt i o m p c =
+    elim (both (odd m p) (eqb (getD c p 0) 0)) [
+      | true ↦ walk (length m) o i p tieHalf (walk (length m) i o p tieHalf (set c p tieHalf))
+      | false ↦ c
+    ]
+
+abbrev pub settle : (ℕ → ℕ) → (ℕ → ℕ) → List ℕ → List ℕ → List ℕ → List ℕ
+settle i o m [] c = c
+settle i o m (p ∷ l) c = settle i o m l (settleAt i o m p c)
+
+-- The half that each count favours, 0 for an even one: groups are settled by their first counts, in matrix order.
+unfoldable pub favours : (Side → ℕ → ℕ) → List ℕ → List ℕ
+favours port m =
+    settle (partner (port inputs) m) (partner (port outputs) m) m (upFrom 0 (length m)) (replicate (length m) 0)
+
+-- What half h gets of each count.
+abbrev pub halfBy : ℕ → List ℕ → List ℕ → List ℕ
+halfBy h [] c = []
+halfBy h (x ∷ m) [] = []
+halfBy h (x ∷ m) (y ∷ c) = (x / 2 + bit (eqb y h)) ∷ halfBy h m c
+
+abbrev pub halfOf : (Side → ℕ → ℕ) → ℕ → List ℕ → List ℕ
+halfOf port h m = halfBy h m (favours port m)
+
+-- The cells of the positions of a list, written into a slot: at the input the output, numbered from 1.
+abbrev pub put : ℕ → List ℕ → List ℕ → List ℕ
+put ports [] slot = slot
+put ports (p ∷ l) slot = put ports l (set slot (p / ports) (p % ports + 1))
+
+unfoldable pub slotOf : ℕ → List ℕ → List ℕ
+slotOf ports m = put ports (keep (odd m) (upFrom 0 (length m))) (replicate ports 0)
+
+-- The bytes of a block of 2 ^ k slots.
+unfoldable pub frameOf : ℕ → ℕ → List ℕ → List ℕ
+frameOf ports zero m = slotOf ports m
+frameOf ports (suc k) m =
+    let c = favours (portOf ports) m in
+    frameOf ports k (halfBy 1 m c) ++ frameOf ports k (halfBy 2 m c)

@@ -1,0 +1,169 @@
+-- The sheet: what the program prints for each list of bytes.
+use Prim.Native.Nat.{ℕ, suc, zero, _+_, _-_, _*_, _/_, _%_}
+use Prim.Native.String.{String}
+use Prim.Native.String as string
+use Prim.Native.Char.{code}
+use mathlib.Core.List.{List, [], _∷_, _++_}
+use mathlib.Core.Bool.{Bool, true, false, not}
+use lib.Dec.{eqb, ltb, leb}
+use lib.ListN.{length, getD, set, replicate}
+use Rattle.model.specs.Words.{if, both, within}
+use Rattle.model.specs.Loads.{input, output}
+use Rattle.model.specs.Refusals.{Check, report, clear, bad-ports, bad-slots, levels, overload}
+use Rattle.model.specs.Schedule.{frameOf}
+
+-- The bytes of a text.
+abbrev pub text : String → List ℕ
+text string.[] = []
+text (string._∷_ c s) = code c ∷ text s
+
+-- A number in decimal digits, without leading zeros.
+unfoldable pub digits : ℕ → ℕ → List ℕ
+digits zero n = []
+digits (suc more) n = elim (ltb n 10) [ true ↦ (48 + n) ∷ [] | false ↦ digits more (n / 10) ++ ((48 + n % 10) ∷ []) ]
+
+abbrev pub decimal : ℕ → List ℕ
+decimal n = digits (suc n) n
+
+-- The form of each line. Each line ends in byte 10, the last one too.
+unfoldable pub portsLine : ℕ → List ℕ
+portsLine ports = text "(ports " ++ (decimal ports ++ text ")\n")
+
+unfoldable pub slotsLine : ℕ → List ℕ
+slotsLine slots = text "(slots " ++ (decimal slots ++ text ")\n")
+
+unfoldable pub pairLine : ℕ → ℕ → ℕ → List ℕ
+pairLine i o m =
+    text "(pair (in " ++ (decimal i ++ (text ") (out " ++ (decimal o ++ (text ") (cells " ++ (decimal m ++ text "))\n")))))
+
+-- The lines of a sheet, each with its byte 10; what is left at the end without it is a line too, of no form.
+abbrev pub onFirst : ℕ → List (List ℕ) → List (List ℕ)
+onFirst b [] = (b ∷ []) ∷ []
+onFirst b (l ∷ ls) = (b ∷ l) ∷ ls
+
+unfoldable pub lines : List ℕ → List (List ℕ)
+lines [] = []
+lines (b ∷ bytes) = elim (eqb b 10) [ true ↦ (b ∷ []) ∷ lines bytes | false ↦ onFirst b (lines bytes) ]
+
+-- The numbers that stand in a line, from the left: the values of its stretches of digits. v is the value so far of the
+-- stretch that the bytes continue, where inside is true.
+unfoldable pub numbersFrom : Bool → ℕ → List ℕ → List ℕ
+numbersFrom inside v [] = if inside (v ∷ []) []
+numbersFrom inside v (b ∷ line) =
+    elim (within 48 57 b) [
+      | true ↦ numbersFrom true (10 * v + (b - 48)) line
+      | false ↦ (let rest = numbersFrom false 0 line in if inside (v ∷ rest) rest)
+    ]
+
+abbrev pub numberIn : ℕ → List ℕ → ℕ
+numberIn n line = getD (numbersFrom false 0 line) n 0
+
+abbrev pub same : List ℕ → List ℕ → Bool
+same [] [] = true
+same [] (y ∷ m) = false
+same (x ∷ l) [] = false
+same (x ∷ l) (y ∷ m) = both (eqb x y) (same l m)
+
+-- 7: the line is not what is printed for its numbers, or one is above 65535. Carries the line number.
+abbrev pub bad-line : ℕ → List ℕ → List ℕ → ℕ → Check
+bad-line number line form largest = (not (both (same line form) (leb largest 65535)), 7 ∷ number ∷ [])
+
+-- 8: a pair line names a port outside 1 to ports. Carries the line number.
+abbrev pub bad-port : ℕ → ℕ → ℕ → ℕ → Check
+bad-port number ports i o = (not (both (within 1 ports i) (within 1 ports o)), 8 ∷ number ∷ [])
+
+abbrev pub has : ℕ → List ℕ → Bool
+has p [] = false
+has p (q ∷ l) = if (eqb p q) true (has p l)
+
+-- 9: a pair line names a pair named on an earlier line. Carries the line number.
+abbrev pub bad-pair : ℕ → ℕ → List ℕ → Check
+bad-pair number p named = (has p named, 9 ∷ number ∷ [])
+
+-- What a sheet asks for: ports, slots and a matrix; or its refusal.
+pub data Asked : Type 0 where
+  loads : ℕ → ℕ → List ℕ → Asked
+  refused : List ℕ → Asked
+
+abbrev pub unless : List Check → Asked → Asked
+unless checks asked = if (clear checks) asked (refused (report checks []))
+
+abbrev pub most : ℕ → ℕ → ℕ
+most a b = if (leb a b) b a
+
+-- The pair lines, the first of which has the number given: a pair not named has 0 cells, a pair may be named with 0.
+unfoldable pub readPairs : ℕ → ℕ → ℕ → List ℕ → List ℕ → List (List ℕ) → Asked
+readPairs ports slots number named matrix [] = loads ports slots matrix
+readPairs ports slots number named matrix (line ∷ ls) =
+    let i = numberIn 0 line in
+    let o = numberIn 1 line in
+    let m = numberIn 2 line in
+    let p = (i - 1) * ports + (o - 1) in
+    unless (
+    bad-line number line (pairLine i o m) (most i (most o m))
+    ∷ bad-port number ports i o
+    ∷ bad-pair number p named
+    ∷ []
+    ) (readPairs ports slots (suc number) (p ∷ named) (set matrix p m) ls)
+
+-- Line 2; a missing one is 7 at that line.
+abbrev pub readSlots : ℕ → List (List ℕ) → Asked
+readSlots ports [] = refused (7 ∷ 2 ∷ [])
+readSlots ports (line ∷ ls) =
+    let slots = numberIn 0 line in
+    unless (bad-line 2 line (slotsLine slots) slots ∷ bad-slots slots ∷ []) (readPairs ports slots 3 [] (replicate (ports * ports) 0) ls)
+
+-- Line 1; a missing one is 7 at that line.
+abbrev pub readPorts : List (List ℕ) → Asked
+readPorts [] = refused (7 ∷ 1 ∷ [])
+readPorts (line ∷ ls) =
+    let ports = numberIn 0 line in
+    unless (bad-line 1 line (portsLine ports) ports ∷ bad-ports ports ∷ []) (readSlots ports ls)
+
+-- 10: the sheet is longer than 16,384 bytes.
+abbrev pub bad-sheet : List ℕ → Check
+bad-sheet bytes = (ltb 16384 (length bytes), 10 ∷ [])
+
+-- Refusal 10 comes before all else; overload, 5 then 6, comes last.
+abbrev pub overloads : Asked → Asked
+overloads (refused r) = refused r
+overloads (loads ports slots matrix) =
+    unless (overload 5 input ports slots matrix ∷ overload 6 output ports slots matrix ∷ []) (loads ports slots matrix)
+
+unfoldable pub readSheet : List ℕ → Asked
+readSheet bytes = unless (bad-sheet bytes ∷ []) (overloads (readPorts (lines bytes)))
+
+-- A slot's (input output) pairs by rising input, input at being the first of the bytes.
+abbrev pub printCells : ℕ → List ℕ → List ℕ
+printCells at [] = []
+printCells at (b ∷ bytes) =
+    if (eqb b 0) [] (text " (" ++ (decimal at ++ (text " " ++ (decimal b ++ text ")")))) ++ printCells (suc at) bytes
+
+-- The slots from number s on, a line each: its number and its cells.
+unfoldable pub printSlots : ℕ → ℕ → ℕ → List ℕ → List ℕ
+printSlots ports s zero bytes = []
+printSlots ports s (suc n) bytes =
+    text "(slot " ++ (decimal s ++ (printCells 1 (lib.ListN.take ports bytes) ++ (text ")\n" ++ printSlots ports (suc s) n (lib.ListN.drop ports bytes))))
+
+-- A frame is printed as its ports and slots, and then each slot.
+abbrev pub printFrame : ℕ → ℕ → List ℕ → List ℕ
+printFrame ports slots bytes =
+    text "(frame (ports " ++ (decimal ports ++ (text ") (slots " ++ (decimal slots ++ (text "))\n" ++ printSlots ports 1 slots bytes))))
+
+-- A refusal is printed as its number, with the line for 7 to 9, and with port and cells for 5 and 6.
+abbrev pub printValues : List ℕ → List ℕ
+printValues [] = []
+printValues (line ∷ []) = text " (line " ++ (decimal line ++ text ")")
+printValues (port ∷ cells ∷ l) = text " (port " ++ (decimal port ++ (text ") (cells " ++ (decimal cells ++ text ")")))
+
+abbrev pub printRefusal : List ℕ → List ℕ
+printRefusal [] = []
+printRefusal (number ∷ values) = text "(refused " ++ (decimal number ++ (printValues values ++ text ")\n"))
+
+-- The program's whole response.
+abbrev pub printed : Asked → List ℕ
+printed (refused r) = printRefusal r
+printed (loads ports slots matrix) = printFrame ports slots (frameOf ports (levels slots) matrix)
+
+unfoldable pub response : List ℕ → List ℕ
+response bytes = printed (readSheet bytes)

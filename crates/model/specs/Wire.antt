@@ -1,0 +1,81 @@
+-- The wire: what a list of Build calls puts on it, and demand 3 as one statement about the list.
+use Prim.Native.Nat.{ℕ, suc, zero, _+_, _*_, _-_, _^_, _≤_, min, max}
+use mathlib.Core.Path.{_≡_}
+use mathlib.Core.List.{List, [], _∷_, _++_}
+use mathlib.Core.Bool.{Bool, true, false}
+use lib.ListN.{length, replicate}
+use Rattle.model.specs.Words.{Near, Every}
+use Rattle.model.specs.Loads.{Class, Of, load}
+use Rattle.model.specs.Frames.{cells, runOf}
+use Rattle.model.specs.Build.{buildAccepts, left}
+
+-- A call of Build, and how many times the wire carries the whole buffer after it, none too.
+pub record Call : Type 0 where
+  pub ports : ℕ
+  pub slots : ℕ
+  pub matrix : List ℕ
+  pub times : ℕ
+
+-- One frame of the chain: the bytes of the buffer, and the last accepted call before it, whose ports, slots and matrix are
+-- the frame's ports, slots and load.
+pub record Carried : Type 0 where
+  pub call : Call
+  pub bytes : List ℕ
+
+-- The last accepted call; until a call has been accepted there is none, and nothing is carried.
+pub data Last : Type 0 where
+  none : Last
+  last : Call → Last
+
+abbrev pub carry : Last → List ℕ → ℕ → List Carried
+carry none buffer times = []
+carry (last call) buffer times = replicate times (record { call = call; bytes = buffer })
+
+-- The last accepted call after one more, by whether that is accepted.
+abbrev pub next : Bool → Call → Last → Last
+next true call before = last call
+next false call before = before
+
+-- The frames of the chain: each call gets the buffer as the last one left it.
+unfoldable pub chain : Last → List ℕ → List Call → List Carried
+chain before buffer [] = []
+chain before buffer (c ∷ calls) =
+    let now = next (buildAccepts (c .ports) (c .slots) (c .matrix) buffer) c before in
+    let after = left (c .ports) (c .slots) (c .matrix) buffer in
+    carry now after (c .times) ++ chain now after calls
+
+-- The frames end to end, first slot first.
+unfoldable pub wire : List Carried → List ℕ
+wire [] = []
+wire (f ∷ frames) = f .bytes ++ wire frames
+
+-- How many slots of the run, len slots from slot start on, are inside the frame of the slots low .. high - 1.
+abbrev pub inside : ℕ → ℕ → ℕ → ℕ → ℕ
+inside low high start len = min high (start + len) - max low start
+
+-- The share of a run times the slots of a frame: the sum, over the frames, the first of which begins at slot low, of the
+-- frame's load times the slots of the run inside it. A frame that the run does not touch adds 0.
+unfoldable pub share : Class → ℕ → List Carried → ℕ → ℕ → ℕ
+share c low [] start len = 0
+share c low (f ∷ frames) start len =
+    let high = low + f .call .slots in
+    load c (f .call .ports) (f .call .matrix) * inside low high start len + share c high frames start len
+
+-- The frame has these ports and slots.
+pub record Shape (ports slots : ℕ) (f : Carried) : Type 0 where
+  pub ports-are : f .call .ports ≡ ports
+  pub slots-are : f .call .slots ≡ slots
+
+-- Over a chain of frames of 2 ^ k slots: over any run of consecutive slots, none too, and for every pair, input and output,
+-- 3 × 2 ^ k × cells differs by at most (2k + 1) × 2 ^ k, either way, from three times the share times 2 ^ k.
+abbrev pub Accurate : ℕ → ℕ → List Carried → Type 0
+Accurate ports k frames =
+    (start len : ℕ) → start + len ≤ length frames * 2 ^ k → (c : Class) → Of ports c
+    → Near ((2 * k + 1) * 2 ^ k) (3 * 2 ^ k * cells c ports (runOf ports start len (wire frames))) (3 * share c 0 frames start len)
+
+-- Demand 3: for every first buffer and every list of Build calls, refused ones included, whose carried frames all have the
+-- same ports and the same 2 ^ k slots.
+abbrev pub Demand3 : Type 0
+Demand3 =
+    (buffer : List ℕ) (calls : List Call) (ports k : ℕ)
+    → Every (Shape ports (2 ^ k)) (chain none buffer calls) → Accurate ports k (chain none buffer calls)

@@ -1,0 +1,52 @@
+// The answers that the calls share. Their numbers and values are given in specs/Refusals.antt.
+
+// A refusal, with what it carries.
+pub enum Refusal {
+    Ports,
+    Slots,
+    MatrixLength,
+    FrameLength,
+    InputLoad { port: usize, cells: usize },
+    OutputLoad { port: usize, cells: usize },
+    LineForm { line: usize },
+    LinePort { line: usize },
+    LinePair { line: usize },
+    SheetLength,
+    SlotNumber,
+    PortNumber,
+    RunLength,
+}
+
+// What Admit and Build answer.
+pub enum Answer {
+    Accepted,
+    Refused(Refusal),
+}
+
+// What Inspect answers; slots, ports and the first slot of a block are numbered from 1.
+pub enum Inspection {
+    Clean,
+    ByteTooLarge { slot: usize, input: usize },
+    OutputTwice { slot: usize, output: usize },
+    PairCount { input: usize, output: usize },
+    UnbalancedBlock { slot: usize, size: usize },
+    Refused(Refusal),
+}
+
+// Whom Service count counts for, numbered from 1.
+pub enum Who {
+    Pair { input: usize, output: usize },
+    Input(usize),
+    Output(usize),
+}
+
+// What a run had of a pair or a port.
+pub struct Count {
+    pub cells: usize,
+}
+
+// What Service count answers.
+pub enum Service {
+    Counted(Count),
+    Refused(Refusal),
+}
