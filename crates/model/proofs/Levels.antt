@@ -1,0 +1,36 @@
+-- Levels: the k of slots that are 2 ^ k.
+use Prim.Native.Nat.{ℕ, suc, zero, _+_, _*_, _^_, _≤_, _<_}
+use mathlib.Core.Path.{_≡_, refl, sym, ap, _∙_}
+use mathlib.Core.Logic.{_≢_}
+use mathlib.Core.Bool.{Bool, true, false}
+use native.Mathlib.Omega.{arith}
+use native.Mathlib.Nat.{pow-le-pow-right, two-pow-succ}
+use lib.Dec.{eqb}
+use lib.Pow.{pow-pos}
+use borrow.Author.Tests.{eqb-true, eq-eqb, ne-eqb}
+use Rattle.model.specs.Words.{first}
+use Rattle.model.specs.Refusals.{levels}
+use Rattle.model.proofs.Cases.{byLt}
+use Rattle.model.proofs.Searches.{first-high, first-found, first-is}
+
+-- powers of two rise
+pub pow-less : (j k : ℕ) → j < k → 2 ^ j < 2 ^ k
+pow-less j k h =
+    let a : 2 ^ suc j ≤ 2 ^ k = pow-le-pow-right (omega arith) h in
+    let b = two-pow-succ j in
+    let c = pow-pos j in
+    omega arith
+
+pub levels-most : (slots : ℕ) → levels slots ≤ 11
+levels-most slots = omega (arith, first-high (λ k. eqb slots (2 ^ k)) 11 0)
+
+pub levels-power : (slots : ℕ) → levels slots ≢ 11 → slots ≡ 2 ^ levels slots
+levels-power slots n =
+    let h = levels-most slots in
+    let t : ℕ → Bool = λ k. eqb slots (2 ^ k) in
+    eqb-true slots (2 ^ levels slots) (first-found t 11 0 (omega arith))
+
+pub levels-of : (k : ℕ) → k ≤ 10 → levels (2 ^ k) ≡ k
+levels-of k h =
+    first-is (λ j. eqb (2 ^ k) (2 ^ j)) 11 0 k (omega arith) (omega arith) (eq-eqb (2 ^ k) (2 ^ k) refl)
+    (λ j _ l. ne-eqb (2 ^ k) (2 ^ j) (λ e. let p = pow-less j k l in omega arith))

@@ -1,0 +1,48 @@
+-- A search: the first of some numbers that passes a test.
+use Prim.Native.Nat.{ℕ, suc, zero, _+_, _≤_, _<_}
+use mathlib.Core.Path.{_≡_, refl, sym, ap, subst, _∙_}
+use mathlib.Core.Bool.{Bool, true, false, true≢false}
+use native.Mathlib.Omega.{arith}
+use native.Mathlib.Nat.{add-suc}
+use Rattle.model.specs.Words.{first}
+use Rattle.model.proofs.Cases.{byBool, byEq}
+
+module _ (t : ℕ → Bool) where
+  pub first-low : (n a : ℕ) → a ≤ first t a n
+  first-low zero a = omega arith
+  first-low (suc n) a = byBool (t a) (λ e. rw e (omega arith)) (λ e. rw e (omega (arith, first-low n (suc a))))
+
+  pub first-high : (n a : ℕ) → first t a n ≤ a + n
+  first-high zero a = omega arith
+  first-high (suc n) a = byBool (t a) (λ e. rw e (omega arith)) (λ e. rw e (omega (arith, first-high n (suc a))))
+
+  -- what it finds passes
+  pub first-found : (n a : ℕ) → first t a n < a + n → t (first t a n) ≡ true
+  first-found zero a = λ h. absurd (omega arith)
+  first-found (suc n) a =
+      byBool (t a) (λ e. rw e (λ h. e)) (λ e. rw e (λ h. first-found n (suc a) (omega arith)))
+
+  -- what stands before it fails
+  pub first-before : (n a x : ℕ) → a ≤ x → x < first t a n → t x ≡ false
+  first-before zero a x l = λ h. absurd (omega arith)
+  first-before (suc n) a x l =
+      byBool (t a) (λ e. rw e (λ h. absurd (omega arith)))
+      (λ e. rw e (λ h. byEq x a (λ d. rw d e) (λ d. first-before n (suc a) x (omega arith) h)))
+
+  -- x passes, and nothing before it does
+  pub first-is : (n a x : ℕ) → a ≤ x → x < a + n → t x ≡ true → ((y : ℕ) → a ≤ y → y < x → t y ≡ false) → first t a n ≡ x
+  first-is zero a x l h e b = absurd (omega arith)
+  first-is (suc n) a x l h e b =
+      byEq x a (λ d. rw (rw d at e) (sym d))
+      (λ d. rw (b a (omega arith) (omega arith)) (first-is n (suc a) x (omega arith) (omega arith) e (λ y k. b y (omega arith))))
+
+  -- none passes
+  pub first-none : (n a : ℕ) → ((y : ℕ) → a ≤ y → y < a + n → t y ≡ false) → first t a n ≡ a + n
+  first-none zero a b = omega arith
+  first-none (suc n) a b =
+      rw (b a (omega arith) (omega arith)) (first-none n (suc a) (λ y k h. b y (omega arith) (omega arith)) ∙ omega arith)
+
+  -- one step more
+  pub first-snoc : (n a : ℕ) → first t a n ≡ a + n → t (a + n) ≡ false → first t a (suc n) ≡ a + suc n
+  first-snoc n a e f =
+      first-none (suc n) a (λ y l h. byEq y (a + n) (λ d. rw d f) (λ d. first-before n a y l (omega arith)))
