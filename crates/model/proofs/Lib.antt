@@ -3,4 +3,7 @@ pub mod Cases
 pub mod Sums
 pub mod Searches
 pub mod Levels
+pub mod Partners
+pub mod Walks
+pub mod Settled
 pub mod Bench
