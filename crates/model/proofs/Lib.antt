@@ -6,4 +6,5 @@ pub mod Levels
 pub mod Partners
 pub mod Walks
 pub mod Settled
+pub mod Groups
 pub mod Bench

@@ -1,5 +1,5 @@
 -- Loads: what a matrix asks for.
-use Prim.Native.Nat.{ℕ, suc, zero, _+_, _*_, _<_}
+use Prim.Native.Nat.{ℕ, _+_, _*_, _≤_, _<_}
 use mathlib.Core.List.{List}
 use lib.ListN.{getD}
 use Rattle.model.specs.Words.{sumTo}
@@ -25,3 +25,7 @@ unfoldable pub load : Class → ℕ → List ℕ → ℕ
 load (pair i o) ports matrix = countOf ports matrix i o
 load (input i) ports matrix = sumTo ports (λ o. countOf ports matrix i o)
 load (output o) ports matrix = sumTo ports (λ i. countOf ports matrix i o)
+
+-- A load fits some slots if no input and no output is asked for more cells than there are slots.
+abbrev pub Fits : ℕ → ℕ → List ℕ → Type 0
+Fits ports slots matrix = (x : ℕ) → x < ports → (load (input x) ports matrix ≤ slots) × (load (output x) ports matrix ≤ slots)
