@@ -7,4 +7,6 @@ pub mod Partners
 pub mod Walks
 pub mod Settled
 pub mod Groups
+pub mod Splits
+pub mod Halves
 pub mod Bench

@@ -1,0 +1,142 @@
+-- Loads of halves: for each pair, input and output they sum to the whole and differ by at most 1, and what fits twice the
+-- slots splits into what fits them.
+use Prim.Native.Nat.{ℕ, suc, zero, _+_, _*_, _/_, _%_, _≤_, _<_}
+use mathlib.Core.Path.{_≡_, refl, sym, ap, _∙_, subst}
+use mathlib.Core.Logic.{_≢_}
+use mathlib.Core.List.{List, [], _∷_}
+use mathlib.Core.Bool.{Bool, true, false, not}
+use native.Mathlib.Omega.{arith}
+use native.Mathlib.Nat.{mul-le-mul-right}
+use lib.Arith.{digits-div, digits-mod}
+use lib.Dec.{eqb}
+use lib.ListN.{length, getD}
+use borrow.Author.Tests.{eqb-true, eq-eqb, ne-eqb, eqb-false}
+use Rattle.model.specs.Words.{if, both, Near, upFrom, keep, sumTo, Every}
+use Rattle.model.specs.Loads.{Class, pair, input, output, Of, countOf, load, Fits}
+use Rattle.model.specs.Rules.{Side, inputs, outputs, portOf, odd, oddsAt, Partners, these, later, favoursFirst, Split}
+use Rattle.model.proofs.Cases.{byBool, byEq}
+use Rattle.model.proofs.Sums.{sum-ext, sum-add, sum-zero, sum-one, sum-rows, sum-more}
+use Rattle.model.proofs.Partners.{every-map, AtPort, odds-every}
+use Rattle.model.proofs.Splits.{more, less, alike}
+
+-- ---- the load of a port as a sum over the positions of a side
+abbrev pub kind : Side → ℕ → Class
+kind inputs x = input x
+kind outputs x = output x
+
+-- the sum over the positions below n that pass a test
+abbrev pub sumIf : ℕ → (ℕ → Bool) → (ℕ → ℕ) → ℕ
+sumIf n t f = sumTo n (λ p. if (t p) (f p) 0)
+
+pub load-side : (s : Side) (ports x : ℕ) (m : List ℕ) → x < ports → load (kind s x) ports m ≡ sumIf (ports * ports) (λ p. eqb (portOf ports s p) x) (λ p. getD m p 0)
+unfolding load
+load-side inputs ports x m h =
+    sym (sum-rows ports ports _
+    ∙ sum-one ports x _ h (λ i hi n. sum-zero ports _ (λ o ho. rw (ne-eqb ((i * ports + o) / ports) x (λ e. n (sym (digits-div i ho) ∙ e)))))
+    ∙ sum-ext ports _ _ (λ o ho. rw (eq-eqb ((x * ports + o) / ports) x (digits-div x ho))))
+load-side outputs ports x m h =
+    sym (sum-rows ports ports _
+    ∙ sum-ext ports _ _ (λ i hi.
+    sum-one ports x _ h (λ o ho n. rw (ne-eqb ((i * ports + o) % ports) x (λ e. n (sym (digits-mod i ho) ∙ e))))
+    ∙ rw (eq-eqb ((i * ports + x) % ports) x (digits-mod i h))))
+
+-- ---- a sum over what is kept
+abbrev pub sumOver : (ℕ → ℕ) → List ℕ → ℕ
+sumOver f [] = 0
+sumOver f (p ∷ l) = f p + sumOver f l
+
+sum-shift : (n : ℕ) (f : ℕ → ℕ) → sumTo (suc n) f ≡ f 0 + sumTo n (λ p. f (suc p))
+unfolding sumTo
+sum-shift zero f = omega arith
+sum-shift (suc n) f = let r = sum-shift n f in omega arith
+
+keep-sum : (t : ℕ → Bool) (f : ℕ → ℕ) (a n : ℕ) → sumOver f (keep t (upFrom a n)) ≡ sumTo n (λ p. if (t (a + p)) (f (a + p)) 0)
+keep-sum t f a zero = sym (sum-zero 0 (λ p. if (t (a + p)) (f (a + p)) 0) (λ p h. absurd (omega arith)))
+keep-sum t f a (suc n) =
+    let r = keep-sum t f (suc a) n in
+    let z : a + 0 ≡ a = omega arith in
+    let rest : sumTo n (λ p. if (t (suc a + p)) (f (suc a + p)) 0) ≡ sumTo n (λ p. if (t (a + suc p)) (f (a + suc p)) 0) =
+    sum-ext n _ _ (λ p h. let e : suc a + p ≡ a + suc p = omega arith in ap (λ (q : ℕ). if (t q) (f q) 0) e) in
+    byBool (t a)
+    (λ e. rw e (omega (arith, sum-shift n (λ p. if (t (a + p)) (f (a + p)) 0), first e)))
+    (λ e. rw e (omega (arith, sum-shift n (λ p. if (t (a + p)) (f (a + p)) 0), first′ e)))
+  where
+    first : t a ≡ true → if (t (a + 0)) (f (a + 0)) 0 ≡ f a
+    first e = let z : a + 0 ≡ a = omega arith in rw (z, e)
+
+    first′ : t a ≡ false → if (t (a + 0)) (f (a + 0)) 0 ≡ 0
+    first′ e = let z : a + 0 ≡ a = omega arith in rw (z, e)
+
+pub kept-sum : (t : ℕ → Bool) (f : ℕ → ℕ) (n : ℕ) → sumOver f (keep t (upFrom 0 n)) ≡ sumIf n t f
+kept-sum t f n = keep-sum t f 0 n ∙ sum-ext n _ _ (λ p h. let e : 0 + p ≡ p = omega arith in rw e)
+
+-- ---- over the odd counts of a port, partner by partner
+module _ (port : Side → ℕ → ℕ) (m a b : List ℕ) (sp : Split port m a b) where
+  two : (p q : ℕ) → odd m p ≡ true → odd m q ≡ true → favoursFirst a b p ≡ not (favoursFirst a b q) → getD a p 0 + getD a q 0 ≡ getD b p 0 + getD b q 0
+  two p q e f o =
+      byBool (favoursFirst a b q)
+      (λ k. let x = more port m a b sp q f k in let y = less port m a b sp p e (o ∙ ap not k) in omega arith)
+      (λ k. let x = less port m a b sp q f k in let y = more port m a b sp p e (o ∙ ap not k) in omega arith)
+
+  pairwise : (l : List ℕ) → Every (λ p. odd m p ≡ true) l → ((p q : ℕ) → Partners l p q → favoursFirst a b p ≡ not (favoursFirst a b q))
+      → Near 1 (sumOver (λ p. getD a p 0) l) (sumOver (λ p. getD b p 0) l)
+  pairwise [] od op = omega arith
+  pairwise (p ∷ []) od op = let h = sp .evenly p in omega arith
+  pairwise (p ∷ q ∷ l) od op =
+      let r = pairwise l (od .1 .1) (λ x y w. op x y (later w)) in
+      let h = two p q (od .0) (od .1 .0) (op p q these) in
+      omega arith
+
+  -- over all counts of a port: the even ones give both halves the same
+  pub port-near : (s : Side) (x : ℕ) → Near 1 (sumIf (length m) (λ p. eqb (port s p) x) (λ p. getD a p 0)) (sumIf (length m) (λ p. eqb (port s p) x) (λ p. getD b p 0))
+  port-near s x = let h = odds in omega (arith, apart a, apart b, evens)
+    where
+      at-x : ℕ → Bool
+      at-x p = eqb (port s p) x
+
+      apart : (c : List ℕ) → sumIf (length m) at-x (λ p. getD c p 0) ≡ sumOver (λ p. getD c p 0) (oddsAt (port s) m x) + sumIf (length m) (λ p. both (not (odd m p)) (at-x p)) (λ p. getD c p 0)
+      apart c =
+          sum-ext (length m) _ _ (λ p h. by-parity p)
+          ∙ sum-add (length m) (λ p. if (both (odd m p) (at-x p)) (getD c p 0) 0) (λ p. if (both (not (odd m p)) (at-x p)) (getD c p 0) 0)
+          ∙ ap (λ z. z + sumIf (length m) (λ p. both (not (odd m p)) (at-x p)) (λ p. getD c p 0)) (sym (kept-sum (λ p. both (odd m p) (at-x p)) (λ p. getD c p 0) (length m)))
+        where
+          by-parity : (p : ℕ) → if (at-x p) (getD c p 0) 0 ≡ if (both (odd m p) (at-x p)) (getD c p 0) 0 + if (both (not (odd m p)) (at-x p)) (getD c p 0) 0
+          by-parity p = byBool (odd m p) (λ e. rw e (omega arith)) (λ e. rw e (omega arith))
+
+      evens : sumIf (length m) (λ p. both (not (odd m p)) (at-x p)) (λ p. getD a p 0) ≡ sumIf (length m) (λ p. both (not (odd m p)) (at-x p)) (λ p. getD b p 0)
+      evens =
+          sum-ext (length m) _ _ (λ p h. byBool (odd m p) (λ e. rw e) (λ e. let k = alike port m a b sp p e in rw (k .0, k .1)))
+
+      odds : Near 1 (sumOver (λ p. getD a p 0) (oddsAt (port s) m x)) (sumOver (λ p. getD b p 0) (oddsAt (port s) m x))
+      odds =
+          pairwise (oddsAt (port s) m x)
+          (every-map (AtPort (port s) m x) (λ p. odd m p ≡ true) (λ p h. h .0) (oddsAt (port s) m x) (odds-every (port s) m x)) (sp .opposite s x)
+
+-- ---- over the class
+pub load-add : (c : Class) (ports : ℕ) (m a b : List ℕ) → ((p : ℕ) → getD a p 0 + getD b p 0 ≡ getD m p 0) → load c ports a + load c ports b ≡ load c ports m
+unfolding load
+load-add (pair i o) ports m a b h = h (i * ports + o)
+load-add (input i) ports m a b h =
+    sym (sum-add ports (λ o. countOf ports a i o) (λ o. countOf ports b i o)) ∙ sum-ext ports _ _ (λ o k. h (i * ports + o))
+load-add (output o) ports m a b h =
+    sym (sum-add ports (λ i. countOf ports a i o) (λ i. countOf ports b i o)) ∙ sum-ext ports _ _ (λ i k. h (i * ports + o))
+
+module _ (ports : ℕ) (m a b : List ℕ) (size : length m ≡ ports * ports) (sp : Split (portOf ports) m a b) where
+  pub halves-sum : (c : Class) → load c ports a + load c ports b ≡ load c ports m
+  halves-sum c = load-add c ports m a b (sp .shared)
+
+  side-near : (s : Side) (x : ℕ) → x < ports → Near 1 (load (kind s x) ports a) (load (kind s x) ports b)
+  side-near s x h =
+      rw (load-side s ports x a h, load-side s ports x b h, sym size) (port-near (portOf ports) m a b sp s x)
+
+  pub halves-near : (c : Class) → Of ports c → Near 1 (load c ports a) (load c ports b)
+  unfolding load
+  halves-near (pair i o) of = sp .evenly (i * ports + o)
+  halves-near (input i) of = side-near inputs i of
+  halves-near (output o) of = side-near outputs o of
+
+  pub halves-fit : (n : ℕ) → Fits ports (2 * n) m → (Fits ports n a) × (Fits ports n b)
+  halves-fit n fits = ((λ x h. (fit (input x) h (fits x h .0) .0, fit (output x) h (fits x h .1) .0)), λ x h. (fit (input x) h (fits x h .0) .1, fit (output x) h (fits x h .1) .1))
+    where
+      fit : (c : Class) → Of ports c → load c ports m ≤ 2 * n → (load c ports a ≤ n) × (load c ports b ≤ n)
+      fit c of h = let s = halves-sum c in let d = halves-near c of in omega arith
