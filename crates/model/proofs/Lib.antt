@@ -9,4 +9,6 @@ pub mod Settled
 pub mod Groups
 pub mod Splits
 pub mod Halves
+pub mod Cells
+pub mod Slots
 pub mod Bench

@@ -1,0 +1,66 @@
+-- Cells: those of whole slots end to end add up, and runs of what is put end to end are runs of its parts.
+use Prim.Native.Nat.{ℕ, suc, zero, _+_, _*_, _%_, _≤_, _<_}
+use mathlib.Core.Path.{_≡_, refl, sym, ap, _∙_}
+use mathlib.Core.List.{List, [], _∷_, _++_}
+use native.Mathlib.Omega.{arith}
+use native.Mathlib.Nat.{mul-le-mul-right, mul-add-mod-self-right}
+use lib.ListN.{length, getD, take, drop, length-append, length-take, length-drop, List·getD-append}
+use lib.Seq.{getD-append-add, take-add, drop-drop, take-all, take-append-le, drop-append-le, drop-append-add, take-length}
+use Rattle.model.specs.Words.{bit, sumTo}
+use Rattle.model.specs.Loads.{Class}
+use Rattle.model.specs.Frames.{counts, cells, runOf}
+use Rattle.model.proofs.Sums.{sum-ext, sum-append}
+
+module _ (ports : ℕ) where
+  pub cells-append : (c : Class) (n : ℕ) (v w : List ℕ) → length v ≡ n * ports → cells c ports (v ++ w) ≡ cells c ports v + cells c ports w
+  unfolding cells
+  cells-append c n v w e =
+      let f : ℕ → ℕ = λ q. bit (counts c (q % ports) (getD (v ++ w) q 0)) in
+      ap (λ z. sumTo z f) (length-append v w)
+      ∙ sum-append (length v) (length w) f
+      ∙ ap (λ z. z + sumTo (length w) (λ t. f (length v + t))) (sum-ext (length v) f _ (λ q h. ap (λ b. bit (counts c (q % ports) b)) (List·getD-append v w 0 q h)))
+      ∙ ap (λ z. cells c ports v + z) (sum-ext (length w) (λ t. f (length v + t)) _ (λ q h.
+      let k : (length v + q) % ports ≡ q % ports = ap (λ z. (z + q) % ports) e ∙ mul-add-mod-self-right n ports q in
+      ap (λ z. bit (counts c z (getD (v ++ w) (length v + q) 0))) k ∙ ap (λ b. bit (counts c (q % ports) b)) (getD-append-add v w q 0)))
+
+  pub cells-none : (c : Class) → cells c ports [] ≡ 0
+  unfolding cells sumTo
+  cells-none c = refl
+
+  pub run-append : (start a b : ℕ) (bytes : List ℕ) → runOf ports start (a + b) bytes ≡ runOf ports start a bytes ++ runOf ports (start + a) b bytes
+  unfolding runOf
+  run-append start a b bytes =
+      let e : (a + b) * ports ≡ a * ports + b * ports = omega arith in
+      let f : (start + a) * ports ≡ start * ports + a * ports = omega arith in
+      rw (e, f, take-add (a * ports) (b * ports) (drop (start * ports) bytes), drop-drop (a * ports) (start * ports) bytes)
+
+  pub run-none : (start : ℕ) (bytes : List ℕ) → runOf ports start 0 bytes ≡ []
+  unfolding runOf
+  run-none start bytes = let e : 0 * ports ≡ 0 = omega arith in rw e
+
+  pub run-length : (start len : ℕ) (bytes : List ℕ) → (start + len) * ports ≤ length bytes → length (runOf ports start len bytes) ≡ len * ports
+  unfolding runOf
+  run-length start len bytes h = simp (length-take, length-drop) (omega arith)
+
+  pub run-all : (n : ℕ) (bytes : List ℕ) → length bytes ≡ n * ports → runOf ports 0 n bytes ≡ bytes
+  unfolding runOf
+  run-all n bytes e = let z : 0 * ports ≡ 0 = omega arith in rw z (take-all (n * ports) bytes (omega arith))
+
+  pub run-first : (n start len : ℕ) (v w : List ℕ) → length v ≡ n * ports → start + len ≤ n → runOf ports start len (v ++ w) ≡ runOf ports start len v
+  unfolding runOf
+  run-first n start len v w e h =
+      let k = mul-le-mul-right ports h in
+      rw (drop-append-le (start * ports) v w (omega arith)) (take-append-le (len * ports) (drop (start * ports) v) w (simp length-drop (omega arith)))
+
+  pub run-second : (n start len : ℕ) (v w : List ℕ) → length v ≡ n * ports → runOf ports (n + start) len (v ++ w) ≡ runOf ports start len w
+  unfolding runOf
+  run-second n start len v w e =
+      let f : (n + start) * ports ≡ length v + start * ports = omega arith in
+      rw (f, drop-append-add v w (start * ports))
+
+  -- the cells of a run that is two runs end to end
+  pub cells-run : (c : Class) (start a b : ℕ) (bytes : List ℕ) → (start + a) * ports ≤ length bytes
+      → cells c ports (runOf ports start (a + b) bytes) ≡ cells c ports (runOf ports start a bytes) + cells c ports (runOf ports (start + a) b bytes)
+  cells-run c start a b bytes h =
+      ap (cells c ports) (run-append start a b bytes)
+      ∙ cells-append c a (runOf ports start a bytes) (runOf ports (start + a) b bytes) (run-length start a bytes h)
