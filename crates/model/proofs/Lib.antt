@@ -11,4 +11,6 @@ pub mod Splits
 pub mod Halves
 pub mod Cells
 pub mod Slots
+pub mod Blocks
+pub mod Legal
 pub mod Bench

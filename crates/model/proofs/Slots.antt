@@ -118,6 +118,13 @@ module _ (ports : ℕ) (m : List ℕ) (fits : Fits ports 1 m) where
           let c = count-one i o hi ho in
           omega arith)
 
+-- a byte up to n is not 0 exactly where it is one of 1 to n
+pub busy : (v n : ℕ) → v ≤ n → sumTo n (λ o. bit (eqb v (suc o))) ≡ bit (not (eqb v 0))
+busy zero n h = sum-zero n _ (λ o k. is-no 0 (suc o) (omega arith))
+busy (suc v) n h =
+    sum-one n v _ (omega arith) (λ o k d. is-no (suc v) (suc o) (omega arith)) ∙ is-yes (suc v) (suc v) refl
+    ∙ sym (ap (λ b. bit (not b)) (ne-eqb (suc v) 0 (omega arith)))
+
 -- ---- whatever meets the rule
 module _ (ports : ℕ) (m bytes : List ℕ) (sl : Slot ports m bytes) where
   one-of : (i o : ℕ) → i < ports → o < ports → odd m (i * ports + o) ≡ true → getD bytes i 0 ≡ suc o
@@ -152,12 +159,6 @@ module _ (ports : ℕ) (m bytes : List ℕ) (sl : Slot ports m bytes) where
 
   at-own : (i : ℕ) (t : Bool) → bit (both (eqb i i) t) ≡ bit t
   at-own i t = rw (eq-eqb i i refl)
-
-  busy : (v n : ℕ) → v ≤ n → sumTo n (λ o. bit (eqb v (suc o))) ≡ bit (not (eqb v 0))
-  busy zero n h = sum-zero n _ (λ o k. is-no 0 (suc o) (omega arith))
-  busy (suc v) n h =
-      sum-one n v _ (omega arith) (λ o k d. is-no (suc v) (suc o) (omega arith)) ∙ is-yes (suc v) (suc v) refl
-      ∙ sym (ap (λ b. bit (not b)) (ne-eqb (suc v) 0 (omega arith)))
 
   pub slot-exact : (c : Class) → Of ports c → cells c ports bytes ≡ load c ports m
   unfolding load

@@ -1,0 +1,45 @@
+-- Legal frames: what is exact for each pair is exact for each input and output.
+use Prim.Native.Nat.{ℕ, suc, zero, _+_, _*_, _%_, _≤_, _<_}
+use mathlib.Core.Path.{_≡_, refl, sym, ap, _∙_}
+use mathlib.Core.Logic.{_≢_}
+use mathlib.Core.List.{List}
+use mathlib.Core.Bool.{Bool, true, false, not}
+use native.Mathlib.Omega.{arith}
+use native.Mathlib.Nat.{mod-lt}
+use lib.Dec.{eqb}
+use lib.ListN.{length, getD}
+use borrow.Author.Tests.{eq-eqb, ne-eqb}
+use Rattle.model.specs.Words.{both, bit, sumTo}
+use Rattle.model.specs.Loads.{Class, pair, input, output, Of, countOf, load}
+use Rattle.model.specs.Frames.{cells, Legal}
+use Rattle.model.proofs.Cases.{byBool}
+use Rattle.model.proofs.Sums.{sum-ext, sum-zero, sum-one, sum-swap}
+use Rattle.model.proofs.Splits.{is-yes, is-no}
+use Rattle.model.proofs.Slots.{busy}
+
+module _ {ports slots : ℕ} {matrix bytes : List ℕ} (legal : Legal ports slots matrix bytes) where
+  -- the bytes of input i that are not 0, output by output
+  by-output : (i q : ℕ) → q < length bytes
+      → bit (both (eqb (q % ports) i) (not (eqb (getD bytes q 0) 0))) ≡ sumTo ports (λ o. bit (both (eqb (q % ports) i) (eqb (getD bytes q 0) (suc o))))
+  by-output i q h =
+      byBool (eqb (q % ports) i)
+      (λ e. rw e (sym (busy (getD bytes q 0) ports (legal .most q h))))
+      (λ e. rw e (sym (sum-zero ports _ (λ o k. refl))))
+
+  -- a byte that is output o, input by input
+  by-input : (o q : ℕ) → 0 < ports → bit (eqb (getD bytes q 0) (suc o)) ≡ sumTo ports (λ i. bit (both (eqb (q % ports) i) (eqb (getD bytes q 0) (suc o))))
+  by-input o q h =
+      sym (sum-one ports (q % ports) _ (mod-lt q {m = ports} h) (λ i k n. rw (ne-eqb (q % ports) i (λ e. n (sym e))))
+      ∙ rw (eq-eqb (q % ports) (q % ports) refl))
+
+  pub legal-exact : (c : Class) → Of ports c → cells c ports bytes ≡ load c ports matrix
+  unfolding cells load
+  legal-exact (pair i o) of = legal .exact i o (of .0) (of .1)
+  legal-exact (input i) of =
+      sum-ext (length bytes) _ _ (λ q h. by-output i q h)
+      ∙ sum-swap (length bytes) ports (λ q o. bit (both (eqb (q % ports) i) (eqb (getD bytes q 0) (suc o))))
+      ∙ sum-ext ports _ _ (λ o k. legal .exact i o of k)
+  legal-exact (output o) of =
+      sum-ext (length bytes) _ _ (λ q h. by-input o q (omega arith))
+      ∙ sum-swap (length bytes) ports (λ q i. bit (both (eqb (q % ports) i) (eqb (getD bytes q 0) (suc o))))
+      ∙ sum-ext ports _ _ (λ i k. legal .exact i o k of)
