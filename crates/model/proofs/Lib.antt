@@ -13,4 +13,5 @@ pub mod Cells
 pub mod Slots
 pub mod Blocks
 pub mod Legal
+pub mod OneFrame
 pub mod Bench
