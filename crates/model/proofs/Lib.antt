@@ -14,4 +14,5 @@ pub mod Slots
 pub mod Blocks
 pub mod Legal
 pub mod OneFrame
+pub mod Demand2
 pub mod Bench
