@@ -22,9 +22,6 @@ use Rattle.model.proofs.OneFrame.{OneFrame, one-frame}
 
 -- ---- the lowest port above slots
 module _ (kind : ℕ → Class) (ports slots : ℕ) (m : List ℕ) where
-  above : ℕ → Bool
-  above x = ltb slots (load (kind x) ports m)
-
   pub over-none : ((x : ℕ) → x < ports → load (kind x) ports m ≤ slots) → overloaded kind ports slots m ≡ ports
   over-none fits =
       first-none (λ x. ltb slots (load (kind x) ports m)) ports 0 (λ x _ h. le-ltb slots (load (kind x) ports m) (fits x (omega arith))) ∙ omega arith
@@ -60,7 +57,7 @@ pub record Answers (ports slots : ℕ) (m given : List ℕ) : Type 0 where
       → (x : ℕ) → x < ports → slots < load (output x) ports m → ((y : ℕ) → y < x → load (output y) ports m ≤ slots)
       → given ≡ 6 ∷ suc x ∷ load (output x) ports m ∷ []
 
-pub overloads : ℕ → ℕ → List ℕ → List Check
+abbrev pub overloads : ℕ → ℕ → List ℕ → List Check
 overloads ports slots m = overload 5 input ports slots m ∷ overload 6 output ports slots m ∷ []
 
 module _ (ports slots : ℕ) (m : List ℕ) where
@@ -74,18 +71,15 @@ module _ (ports slots : ℕ) (m : List ℕ) where
   all-below kind e x h = over-before kind ports slots m x (let l = ltb-false (overloaded kind ports slots m) ports e in omega arith)
 
   pub clear-fits : clear (overloads ports slots m) ≡ true → Fits ports slots m
-  unfolding overloads
   clear-fits e x h =
       let i = both-true (not (ltb (overloaded input ports slots m) ports)) (both (not (ltb (overloaded output ports slots m) ports)) true) e in
       let o = both-true (not (ltb (overloaded output ports slots m) ports)) true (i .1) in
       (all-below input (not-true _ (i .0)) x h, all-below output (not-true _ (o .0)) x h)
 
   pub fits-clear : Fits ports slots m → clear (overloads ports slots m) ≡ true
-  unfolding overloads
   fits-clear fits = rw (no-over input (λ x h. fits x h .0), no-over output (λ x h. fits x h .1))
 
   overload-answers : Answers ports slots m (report (overloads ports slots m) accepted)
-  unfolding overloads
   overload-answers =
       record {
         accepts = λ fits. rw (no-over input (λ x h. fits x h .0), no-over output (λ x h. fits x h .1));
@@ -107,10 +101,60 @@ module _ (ports slots : ℕ) (m : List ℕ) where
     unfolding admitted
     admit-answers =
         rw (within-yes 1 16 ports (w .low) (w .high), ne-eqb (levels slots) 11 (w .power), eq-eqb (length m) (ports * ports) (w .square))
-        (unfold overloads in overload-answers)
+        overload-answers
 
     pub build-answers : (buffer : List ℕ) → length buffer ≡ slots * ports → Answers ports slots m (built ports slots m buffer)
     unfolding buildChecks
     build-answers buffer e =
         rw (within-yes 1 16 ports (w .low) (w .high), ne-eqb (levels slots) 11 (w .power), eq-eqb (length m) (ports * ports) (w .square), eq-eqb (length buffer) (slots * ports) e)
-        (unfold overloads in overload-answers)
+        overload-answers
+
+-- ---- Build
+pub record Accepts (ports slots : ℕ) (m buffer : List ℕ) : Type 0 where
+  pub well : WellFormed ports slots m
+  pub size : length buffer ≡ slots * ports
+  pub fits : Fits ports slots m
+
+pub accepts-is : (ports slots : ℕ) (m buffer : List ℕ) → buildAccepts ports slots m buffer ≡ true → Accepts ports slots m buffer
+unfolding buildChecks
+accepts-is ports slots m buffer e =
+    let a = both-true (not (not (within 1 16 ports))) _ e in
+    let b = both-true (not (eqb (levels slots) 11)) _ (a .1) in
+    let c = both-true (not (not (eqb (length m) (ports * ports)))) _ (b .1) in
+    let d = both-true (not (not (eqb (length buffer) (slots * ports)))) _ (c .1) in
+    let r = within-true 1 16 ports (not-false _ (not-true _ (a .0))) in
+    record {
+      well = record {
+        low = r .0;
+        high = r .1;
+        power = eqb-false (levels slots) 11 (not-true _ (b .0));
+        square = eqb-true (length m) (ports * ports) (not-false _ (not-true _ (c .0)));
+      };
+      size = eqb-true (length buffer) (slots * ports) (not-false _ (not-true _ (d .0)));
+      fits = clear-fits ports slots m (d .1);
+    }
+
+pub accepts-yes : (ports slots : ℕ) (m buffer : List ℕ) → Accepts ports slots m buffer → buildAccepts ports slots m buffer ≡ true
+unfolding buildChecks
+accepts-yes ports slots m buffer a =
+    let w = a .well in
+    rw (within-yes 1 16 ports (w .low) (w .high), ne-eqb (levels slots) 11 (w .power), eq-eqb (length m) (ports * ports) (w .square), eq-eqb (length buffer) (slots * ports) (a .size))
+    (fits-clear ports slots m (a .fits))
+
+-- an accepted Build leaves the rules' only frame, and a refused one the bytes that it was lent
+pub build-frame : (ports slots : ℕ) (m buffer : List ℕ) → buildAccepts ports slots m buffer ≡ true
+    → OneFrame ports (levels slots) m (left ports slots m buffer) × (slots ≡ 2 ^ levels slots)
+build-frame ports slots m buffer e =
+    let a = accepts-is ports slots m buffer e in
+    let p = levels-power slots (a .well .power) in
+    (rw e (one-frame ports (levels slots) m (a .well .square) (subst (λ (n : ℕ). Fits ports n m) p (a .fits))), p)
+
+pub build-sound : (ports slots : ℕ) (m buffer : List ℕ) → buildAccepts ports slots m buffer ≡ true
+    → Legal ports slots m (left ports slots m buffer) × Balanced ports slots (left ports slots m buffer)
+build-sound ports slots m buffer e =
+    let b = build-frame ports slots m buffer e in
+    let bytes = left ports slots m buffer in
+    subst (λ (n : ℕ). Legal ports n m bytes × Balanced ports n bytes) (sym (b .1)) (b .0 .legal, b .0 .balanced)
+
+pub build-keeps : (ports slots : ℕ) (m buffer : List ℕ) → buildAccepts ports slots m buffer ≡ false → left ports slots m buffer ≡ buffer
+build-keeps ports slots m buffer e = rw e

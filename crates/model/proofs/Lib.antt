@@ -15,4 +15,7 @@ pub mod Blocks
 pub mod Legal
 pub mod OneFrame
 pub mod Demand2
+pub mod Accuracy
+pub mod Demand3
+pub mod Tight
 pub mod Bench

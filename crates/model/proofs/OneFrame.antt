@@ -144,16 +144,15 @@ rules-sound ports (suc k) m bytes size fits s =
     (rules-sound ports k (s .first) (s .front) (sp .first-size ∙ size) (half .0) (s .first-half))
     (rules-sound ports k (s .second) (s .back) (sp .second-size ∙ size) (half .1) (s .second-half)))
 
--- Demand 2, for a load that fits: the rules' frame, and what it is.
-pub record OneFrame (ports k : ℕ) (m : List ℕ) : Type 0 where
-  pub bytes : List ℕ
+-- Demand 2, for a load that fits: the bytes meet the rules, nothing else does, and they are legal and balanced.
+pub record OneFrame (ports k : ℕ) (m bytes : List ℕ) : Type 0 where
   pub meets : Scheduled ports k m bytes
   pub only : (other : List ℕ) → Scheduled ports k m other → other ≡ bytes
   pub legal : Legal ports (2 ^ k) m bytes
   pub balanced : Balanced ports (2 ^ k) bytes
 
-pub one-frame : (ports k : ℕ) (m : List ℕ) → length m ≡ ports * ports → Fits ports (2 ^ k) m → OneFrame ports k m
+pub one-frame : (ports k : ℕ) (m : List ℕ) → length m ≡ ports * ports → Fits ports (2 ^ k) m → OneFrame ports k m (frameOf ports k m)
 one-frame ports k m size fits =
     let s = frame-is ports k m size fits in
     let v = rules-sound ports k m (frameOf ports k m) size fits s in
-    record { bytes = frameOf ports k m; meets = s; only = only-frame ports k m; legal = v .0; balanced = v .1 }
+    record { meets = s; only = only-frame ports k m; legal = v .0; balanced = v .1 }

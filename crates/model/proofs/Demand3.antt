@@ -1,0 +1,157 @@
+-- Demand 3: every list of Build calls is accurate on the wire.
+use Prim.Native.Nat.{ℕ, suc, zero, _+_, _*_, _-_, _^_, _≤_, _<_, min, max}
+use mathlib.Core.Path.{_≡_, refl, ap, subst, sym, _∙_}
+use mathlib.Core.List.{List, [], _∷_, _++_}
+use mathlib.Core.Bool.{Bool, true, false}
+use native.Mathlib.Nat.{mul-le-mul-right, zero-add}
+use native.Mathlib.Omega.{arith}
+use native.Mathlib.Decide.{decLe}
+use lib.ListN.{length, length-append, replicate}
+use Rattle.model.specs.Words.{Near, Every}
+use Rattle.model.specs.Loads.{Class, Of, load}
+use Rattle.model.specs.Frames.{cells, runOf, Legal, Balanced}
+use Rattle.model.specs.Build.{buildAccepts, left}
+use Rattle.model.specs.Wire.{Call, Carried, Last, none, last, carry, next, chain, wire, inside, share, Shape, Accurate, Demand3}
+use Rattle.model.proofs.Cells.{cells-none, cells-run, run-none, run-first, run-second, run-all}
+use Rattle.model.proofs.Legal.{legal-exact}
+use Rattle.model.proofs.Accuracy.{prefix-accurate}
+use Rattle.model.proofs.Demand2.{build-sound, build-keeps}
+
+-- a carried frame is legal for its load, and balanced
+abbrev pub Sound : Carried → Type 0
+Sound f = Legal (f .call .ports) (f .call .slots) (f .call .matrix) (f .bytes) × Balanced (f .call .ports) (f .call .slots) (f .bytes)
+
+-- ---- shares of runs end to end add up
+module _ (c : Class) where
+  share-none : (fs : List Carried) (lo start len : ℕ) → start + len ≤ lo → share c lo fs start len ≡ 0
+  unfolding share
+  share-none [] lo start len h = refl
+  share-none (f ∷ fs) lo start len h =
+      let hi = lo + f .call .slots in
+      let e : inside lo hi start len ≡ 0 = omega arith in
+      omega (arith, ap (λ z. load c (f .call .ports) (f .call .matrix) * z) e, share-none fs hi start len (omega arith))
+
+  inside-first : (lo hi x : ℕ) → inside lo hi 0 x ≡ min hi x - lo
+  inside-first lo hi x = omega arith
+
+  inside-split : (lo hi start len : ℕ) → lo ≤ hi → inside lo hi 0 (start + len) ≡ inside lo hi 0 start + inside lo hi start len
+  inside-split lo hi start len h =
+      let split : min hi (start + len) - lo ≡ (min hi start - lo) + inside lo hi start len = omega arith in
+      cc (inside-first lo hi (start + len), inside-first lo hi start)
+
+  share-split : (fs : List Carried) (lo start len : ℕ) → share c lo fs 0 (start + len) ≡ share c lo fs 0 start + share c lo fs start len
+  unfolding share
+  share-split [] lo start len = refl
+  share-split (f ∷ fs) lo start len =
+      let hi = lo + f .call .slots in
+      omega (arith, ap (λ z. load c (f .call .ports) (f .call .matrix) * z) (inside-split lo hi start len (omega arith)), share-split fs hi start len)
+
+-- ---- a chain of sound frames of one shape
+pub record Good (ports slots : ℕ) (f : Carried) : Type 0 where
+  pub shape : Shape ports slots f
+  pub legal : Legal ports slots (f .call .matrix) (f .bytes)
+  pub balanced : Balanced ports slots (f .bytes)
+
+pub good-of : (ports slots : ℕ) (fs : List Carried) → Every Sound fs → Every (Shape ports slots) fs → Every (Good ports slots) fs
+good-of ports slots [] sound shape = tt
+good-of ports slots (f ∷ fs) sound shape =
+    let s : Legal ports slots (f .call .matrix) (f .bytes) × Balanced ports slots (f .bytes) = rw (shape .0 .ports-are, shape .0 .slots-are) at (sound .0) in
+    (record { shape = shape .0; legal = s .0; balanced = s .1 }, good-of ports slots fs (sound .1) (shape .1))
+
+pub wire-length : (fs : List Carried) (ports slots : ℕ) → Every (Good ports slots) fs → length (wire fs) ≡ length fs * slots * ports
+unfolding wire
+wire-length [] ports slots good = omega arith
+wire-length (f ∷ fs) ports slots good =
+    omega (arith, length-append (f .bytes) (wire fs), good .0 .legal .size, wire-length fs ports slots (good .1))
+
+module _ (c : Class) (ports k : ℕ) (of : Of ports c) where
+  -- the cells of the first t slots of a chain, and the share of as many slots that end where they end
+  prefix-chain : (fs : List Carried) → Every (Good ports (2 ^ k)) fs → (lo start len t : ℕ) → start ≤ lo → start + len ≡ lo + t → t ≤ length fs * 2 ^ k
+      → Near ((2 * k + 1) * 2 ^ k) (6 * (2 ^ k * cells c ports (runOf ports 0 t (wire fs)))) (6 * share c lo fs start len)
+  unfolding share wire
+  prefix-chain [] good lo start len t a b fits =
+      let e : t ≡ 0 = omega arith in
+      let z : cells c ports (runOf ports 0 t []) ≡ 0 = rw e (ap (cells c ports) (run-none ports 0 []) ∙ cells-none ports c) in
+      omega (arith, ap (λ x. 2 ^ k * x) z)
+  prefix-chain (f ∷ fs) good lo start len t a b fits =
+      let n = 2 ^ k in
+      let m = load c ports (f .call .matrix) in
+      let w = f .bytes ++ wire fs in
+      let size = good .0 .legal .size in
+      let hi = lo + f .call .slots in
+      let same : load c (f .call .ports) (f .call .matrix) ≡ m = ap (λ p. load c p (f .call .matrix)) (good .0 .shape .ports-are) in
+      let top : f .call .slots ≡ n = good .0 .shape .slots-are in
+      rw same (elim (decLe t n) as (λ _. Near ((2 * k + 1) * n) (6 * (n * cells c ports (runOf ports 0 t w))) (6 * (m * inside lo hi start len + share c hi fs start len))) [
+        | yes h ↦ (
+            let first : cells c ports (runOf ports 0 t w) ≡ cells c ports (runOf ports 0 t (f .bytes)) = ap (cells c ports) (run-first ports n 0 t (f .bytes) (wire fs) size (omega arith)) in
+            let e : inside lo hi start len ≡ t = omega arith in
+            let none = share-none c fs hi start len (omega arith) in
+            let law = prefix-accurate (good .0 .legal) (good .0 .balanced) c of k refl t h in
+            omega (arith, ap (λ x. n * x) first, ap (λ x. m * x) e))
+        | no h ↦ (
+            let later = t - n in
+            let e : inside lo hi start len ≡ n = omega arith in
+            let at : t ≡ n + later = omega arith in
+            let sum : cells c ports (runOf ports 0 (n + later) w) ≡ cells c ports (runOf ports 0 n w) + cells c ports (runOf ports n later w)
+            = rw zero-add at (cells-run ports c 0 n later w (omega (arith, length-append (f .bytes) (wire fs)))) in
+            let first : cells c ports (runOf ports 0 n w) ≡ m
+            = ap (cells c ports) (run-first ports n 0 n (f .bytes) (wire fs) size (omega arith) ∙ run-all ports n (f .bytes) size) ∙ legal-exact (good .0 .legal) c of in
+            let shift : n + 0 ≡ n = omega arith in
+            let second : cells c ports (runOf ports n later w) ≡ cells c ports (runOf ports 0 later (wire fs))
+            = ap (cells c ports) (rw shift at (run-second ports n 0 later (f .bytes) (wire fs) size)) in
+            let law = prefix-chain fs (good .1) hi start len later (omega arith) (omega arith) (omega arith) in
+            let whole : cells c ports (runOf ports 0 t w) ≡ m + cells c ports (runOf ports 0 later (wire fs))
+            = ap (λ x. cells c ports (runOf ports 0 x w)) at ∙ omega arith in
+            omega (arith, ap (λ x. n * x) whole, ap (λ x. m * x) e, law .0, law .1))
+      ])
+
+  -- a run is what is left of one prefix after another
+  pub run-accurate : (fs : List Carried) → Every (Good ports (2 ^ k)) fs → (start len : ℕ) → start + len ≤ length fs * 2 ^ k
+      → Near ((2 * k + 1) * 2 ^ k) (3 * 2 ^ k * cells c ports (runOf ports start len (wire fs))) (3 * share c 0 fs start len)
+  run-accurate fs good start len fits =
+      let one = prefix-chain fs good 0 0 start start (omega arith) refl (omega arith) in
+      let two = prefix-chain fs good 0 0 (start + len) (start + len) (omega arith) refl fits in
+      let long : start * ports ≤ length fs * 2 ^ k * ports = mul-le-mul-right ports (omega arith) in
+      let sum : cells c ports (runOf ports 0 (start + len) (wire fs)) ≡ cells c ports (runOf ports 0 start (wire fs)) + cells c ports (runOf ports start len (wire fs))
+      = rw zero-add at (cells-run ports c 0 start len (wire fs) (omega (arith, wire-length fs ports (2 ^ k) good))) in
+      omega (arith, ap (λ x. 2 ^ k * x) sum, share-split c fs 0 start len)
+
+-- Frames that are legal and balanced, whoever made them, are accurate end to end.
+pub sound-accurate : (ports k : ℕ) (fs : List Carried) → Every Sound fs → Every (Shape ports (2 ^ k)) fs → Accurate ports k fs
+sound-accurate ports k fs sound shape start len fits c of = let law = run-accurate c ports k of fs (good-of ports (2 ^ k) fs sound shape) start len fits in omega (arith, law)
+
+-- ---- every frame that a list of Build calls carries is sound
+abbrev Known : Last → List ℕ → Type 0
+Known none buffer = Unit {0}
+Known (last call) buffer = Sound (record { call = call; bytes = buffer })
+
+every-append : {A : Type 0} (P : A → Type 0) (xs ys : List A) → Every P xs → Every P ys → Every P (xs ++ ys)
+every-append P [] ys p q = q
+every-append P (x ∷ xs) ys p q = (p .0, every-append P xs ys (p .1) q)
+
+every-replicate : {A : Type 0} (P : A → Type 0) (n : ℕ) (x : A) → P x → Every P (replicate n x)
+every-replicate P zero x p = tt
+every-replicate P (suc n) x p = (p, every-replicate P n x p)
+
+carry-sound : (l : Last) (buffer : List ℕ) (times : ℕ) → Known l buffer → Every Sound (carry l buffer times)
+carry-sound none buffer times p = tt
+carry-sound (last call) buffer times p = every-replicate Sound times _ p
+
+known : (c : Call) (l : Last) (buffer : List ℕ) (a : Bool) → buildAccepts (c .ports) (c .slots) (c .matrix) buffer ≡ a → Known l buffer
+    → Known (next a c l) (left (c .ports) (c .slots) (c .matrix) buffer)
+known c l buffer true e p = build-sound (c .ports) (c .slots) (c .matrix) buffer e
+known c l buffer false e p = subst (Known l) (sym (build-keeps (c .ports) (c .slots) (c .matrix) buffer e)) p
+
+pub chain-sound : (l : Last) (buffer : List ℕ) (calls : List Call) → Known l buffer → Every Sound (chain l buffer calls)
+unfolding chain
+chain-sound l buffer [] p = tt
+chain-sound l buffer (c ∷ calls) p =
+    let ok = buildAccepts (c .ports) (c .slots) (c .matrix) buffer in
+    let after = left (c .ports) (c .slots) (c .matrix) buffer in
+    let q : Known (next ok c l) after = known c l buffer ok refl p in
+    every-append Sound (carry (next ok c l) after (c .times)) (chain (next ok c l) after calls)
+    (carry-sound (next ok c l) after (c .times) q) (chain-sound (next ok c l) after calls q)
+
+-- Demand 3.
+pub accurate : Demand3
+accurate buffer calls ports k shape = sound-accurate ports k (chain none buffer calls) (chain-sound none buffer calls tt) shape

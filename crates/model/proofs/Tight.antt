@@ -1,0 +1,28 @@
+-- The bound of demand 3 is reached: document 01's seam load, k = 1, two ports. A frame of pair (1, 2) alone with 1 cell, then
+-- a frame of (1, 1) and (1, 2) with 1 each: the last slot of the first and the first slot of the second have no cell of (1, 2).
+use Prim.Native.Nat.{ℕ, _+_, _*_, _^_}
+use mathlib.Core.Path.{_≡_, refl}
+use mathlib.Core.List.{List, [], _∷_}
+use Rattle.model.specs.Words.{sumTo}
+use Rattle.model.specs.Loads.{pair, load}
+use Rattle.model.specs.Frames.{cells, runOf}
+use Rattle.model.specs.Schedule.{walk, settleAt, favours, slotOf, frameOf}
+use Rattle.model.specs.Build.{buildChecks}
+use Rattle.model.specs.Wire.{Call, Carried, none, chain, wire, share}
+
+-- a call of two ports and two slots, carried once, and one that is refused, carried once more
+once : List ℕ → Call
+once matrix = record { ports = 2; slots = 2; matrix = matrix; times = 1 }
+
+abbrev seam : List Carried
+seam = chain none (7 ∷ 7 ∷ 7 ∷ 7 ∷ []) (once (3 ∷ 0 ∷ 0 ∷ 0 ∷ []) ∷ once (0 ∷ 1 ∷ 0 ∷ 0 ∷ []) ∷ once (1 ∷ 1 ∷ 0 ∷ 0 ∷ []) ∷ once (0 ∷ 9 ∷ 0 ∷ 0 ∷ []) ∷ [])
+
+-- the wire: the first call is refused and nothing is carried; the last one is, and the frame before it is carried again
+pub seam-wire : wire seam ≡ 2 ∷ 0 ∷ 0 ∷ 0 ∷ 1 ∷ 0 ∷ 2 ∷ 0 ∷ 1 ∷ 0 ∷ 2 ∷ 0 ∷ []
+unfolding once chain wire buildChecks sumTo load walk settleAt favours slotOf frameOf
+seam-wire = refl
+
+-- three times the share, over 2 ^ k, is exactly (2 k + 1) × 2 ^ k above 3 × 2 ^ k × cells
+pub tight : 3 * share (pair 0 1) 0 seam 1 2 ≡ 3 * 2 ^ 1 * cells (pair 0 1) 2 (runOf 2 1 2 (wire seam)) + (2 * 1 + 1) * 2 ^ 1
+unfolding once chain wire share cells runOf buildChecks sumTo load walk settleAt favours slotOf frameOf
+tight = refl
