@@ -11,18 +11,18 @@ use Rattle.model.specs.Build.{buildChecks}
 use Rattle.model.specs.Wire.{Call, Carried, none, chain, wire, share}
 
 -- a call of two ports and two slots, carried once, and one that is refused, carried once more
-once : List ℕ → Call
+abbrev pub once : List ℕ → Call
 once matrix = record { ports = 2; slots = 2; matrix = matrix; times = 1 }
 
-abbrev seam : List Carried
+abbrev pub seam : List Carried
 seam = chain none (7 ∷ 7 ∷ 7 ∷ 7 ∷ []) (once (3 ∷ 0 ∷ 0 ∷ 0 ∷ []) ∷ once (0 ∷ 1 ∷ 0 ∷ 0 ∷ []) ∷ once (1 ∷ 1 ∷ 0 ∷ 0 ∷ []) ∷ once (0 ∷ 9 ∷ 0 ∷ 0 ∷ []) ∷ [])
 
 -- the wire: the first call is refused and nothing is carried; the last one is, and the frame before it is carried again
 pub seam-wire : wire seam ≡ 2 ∷ 0 ∷ 0 ∷ 0 ∷ 1 ∷ 0 ∷ 2 ∷ 0 ∷ 1 ∷ 0 ∷ 2 ∷ 0 ∷ []
-unfolding once chain wire buildChecks sumTo load walk settleAt favours slotOf frameOf
+unfolding chain wire buildChecks sumTo load walk settleAt favours slotOf frameOf
 seam-wire = refl
 
 -- three times the share, over 2 ^ k, is exactly (2 k + 1) × 2 ^ k above 3 × 2 ^ k × cells
 pub tight : 3 * share (pair 0 1) 0 seam 1 2 ≡ 3 * 2 ^ 1 * cells (pair 0 1) 2 (runOf 2 1 2 (wire seam)) + (2 * 1 + 1) * 2 ^ 1
-unfolding once chain wire share cells runOf buildChecks sumTo load walk settleAt favours slotOf frameOf
+unfolding chain wire share cells runOf buildChecks sumTo load walk settleAt favours slotOf frameOf
 tight = refl
