@@ -18,4 +18,6 @@ pub mod Demand2
 pub mod Accuracy
 pub mod Demand3
 pub mod Tight
+pub mod Overloads
+pub mod Reports
 pub mod Bench

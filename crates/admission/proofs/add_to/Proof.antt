@@ -1,0 +1,19 @@
+use native.Mathlib.Omega.{arith}
+use borrow.Author.Needs.{needs}
+use Rattle.admission.proofs.add_to.Statement.{statement}
+use Rattle.admission.proofs.add_to.Tie as tie
+
+-- the sum fits its width
+add-loads : tie.Need-add-loads
+add-loads c = omega arith
+
+pub add-to-spec : {M : Type 1} → statement M
+add-to-spec =
+    tie.close
+    (tie.spec
+    (λ c. search needs)
+    (λ c. search needs)
+    add-loads
+    (λ c. search needs)
+    (λ c. search needs)
+    (λ c. search needs))

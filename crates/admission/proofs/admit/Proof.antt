@@ -1,0 +1,65 @@
+use mathlib.Core.Path.{sym, _∙_}
+use native.Mathlib.Nat.{le-trans}
+use lib.Dec.{lit≤}
+use borrow.Author.Needs.{needs}
+use borrow.Author.Tests.{not-false, eqb-true}
+use Rattle.model.specs.Refusals.{admitted}
+use Rattle.model.proofs.Reports.{within-known}
+use Rattle.admission.proofs.admit.Statement.{statement}
+use Rattle.admission.proofs.admit.Tie as tie
+
+returns : tie.Need-returns
+unfolding admitted
+returns c = rw (sym (c .before .outside .ensures) ∙ c .if1 .taken)
+
+returns-2 : tie.Need-returns-2
+unfolding admitted
+returns-2 c =
+    rw (sym (c .before .before .before .outside .ensures) ∙ c .before .before .if1 .left, sym (c .before .bad-slots .ensures) ∙ c .if2 .taken)
+
+bad-length-requires : tie.Need-bad-length-requires
+bad-length-requires c κs =
+    let ports = within-known (c .before .before .before .outside .ensures) (c .before .before .if1 .left) in
+    (le-trans (ports .1) (lit≤ tt), ports .1)
+
+returns-3 : tie.Need-returns-3
+unfolding admitted
+returns-3 c =
+    let tested = c .before .before .before .before in
+    rw
+    (sym (tested .before .outside .ensures) ∙ tested .if1 .left,
+     sym (c .before .before .before .bad-slots .ensures) ∙ c .before .before .if2 .left,
+     sym (c .before .bad-length .ensures) ∙ c .if3 .taken)
+
+overload-requires : tie.Need-overload-requires
+overload-requires c κs =
+    let tested = c .before .before .before .before in
+    let ports = within-known (tested .before .outside .ensures) (tested .if1 .left) in
+    record {
+      least = ports .0;
+      most = ports .1;
+      square = eqb-true _ _ (not-false _ (sym (c .before .bad-length .ensures) ∙ c .if3 .left));
+    }
+
+returns-4 : tie.Need-returns-4
+unfolding admitted
+returns-4 c =
+    let tested = c .before .before .before .before .before in
+    rw
+    (sym (tested .before .outside .ensures) ∙ tested .if1 .left,
+     sym (c .before .before .before .before .bad-slots .ensures) ∙ c .before .before .before .if2 .left,
+     sym (c .before .before .bad-length .ensures) ∙ c .before .if3 .left)
+    (c .overload .ensures)
+
+pub admit-spec : {M : Type 1} → statement M
+admit-spec =
+    tie.close
+    (tie.spec
+    (λ c κs. search needs)
+    returns
+    (λ c κs. search needs)
+    returns-2
+    bad-length-requires
+    returns-3
+    overload-requires
+    returns-4)

@@ -1,0 +1,27 @@
+use borrow.Author.Needs.{needs}
+use Rattle.admission.proofs.Searching.{Passing, passing-start, passing-on, passing-found, passing-none}
+use Rattle.admission.proofs.lowest_above.Statement.{statement}
+use Rattle.admission.proofs.lowest_above.Tie as tie
+
+abbrev Inv-loop : tie.InvT-loop
+Inv-loop ports slots loads left₀ left = Passing ports slots loads left
+
+abbrev μ-loop : tie.MeasureT-loop
+μ-loop ports slots loads left₀ left = left
+
+pub lowest-above-spec : {M : Type 1} → statement M
+lowest-above-spec =
+    tie.close
+    (tie.spec
+    Inv-loop
+    μ-loop
+    (λ c. passing-start)
+    (λ c. search needs)
+    (λ c. search needs)
+    (λ c. search needs)
+    (λ c κs. search needs)
+    (λ c. search (needs, passing-found))
+    (λ c. search needs)
+    (λ c. search needs)
+    (λ c. search (needs, passing-on))
+    (λ c. search (needs, passing-none)))

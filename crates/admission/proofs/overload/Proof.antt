@@ -1,0 +1,23 @@
+use borrow.Author.Needs.{needs}
+use Rattle.admission.proofs.Deciding.{input-above, output-above, none-above}
+use Rattle.admission.proofs.overload.Statement.{statement}
+use Rattle.admission.proofs.overload.Tie as tie
+
+pub overload-spec : {M : Type 1} → statement M
+overload-spec =
+    tie.close
+    (tie.spec
+    (λ c κs. search needs)
+    (λ c κs. search needs)
+    (λ c. search needs)
+    (λ c. search needs)
+    (λ c. search needs)
+    (λ c κs. search needs)
+    (λ c. search (needs, input-above))
+    (λ c κs. search needs)
+    (λ c. search needs)
+    (λ c. search needs)
+    (λ c. search needs)
+    (λ c κs. search needs)
+    (λ c. search (needs, output-above))
+    (λ c. search (needs, none-above)))

@@ -1,0 +1,2 @@
+-- What the inner functions of Admit promise.
+pub mod Overloads
