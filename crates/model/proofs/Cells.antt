@@ -3,7 +3,7 @@ use Prim.Native.Nat.{ℕ, suc, zero, _+_, _*_, _%_, _≤_, _<_}
 use mathlib.Core.Path.{_≡_, refl, sym, ap, _∙_}
 use mathlib.Core.List.{List, [], _∷_, _++_}
 use native.Mathlib.Omega.{arith}
-use native.Mathlib.Nat.{mul-le-mul-right, mul-add-mod-self-right}
+use native.Mathlib.Nat.{mul-le-mul-right, mul-add-mod-self-right, mod-eq-of-lt}
 use lib.ListN.{length, getD, take, drop, length-append, length-take, length-drop, List·getD-append}
 use lib.Seq.{getD-append-add, take-add, drop-drop, take-all, take-append-le, drop-append-le, drop-append-add, take-length}
 use Rattle.model.specs.Words.{bit, sumTo}
@@ -26,6 +26,13 @@ module _ (ports : ℕ) where
   pub cells-none : (c : Class) → cells c ports [] ≡ 0
   unfolding cells sumTo
   cells-none c = refl
+
+  -- the bytes of one slot are those of its inputs in turn
+  pub cells-slot : (c : Class) (slot : List ℕ) → length slot ≡ ports → cells c ports slot ≡ sumTo ports (λ i. bit (counts c i (getD slot i 0)))
+  unfolding cells
+  cells-slot c slot e =
+      ap (λ n. sumTo n (λ q. bit (counts c (q % ports) (getD slot q 0)))) e
+      ∙ sum-ext ports _ _ (λ q h. ap (λ x. bit (counts c x (getD slot q 0))) (mod-eq-of-lt h))
 
   pub run-append : (start a b : ℕ) (bytes : List ℕ) → runOf ports start (a + b) bytes ≡ runOf ports start a bytes ++ runOf ports (start + a) b bytes
   unfolding runOf

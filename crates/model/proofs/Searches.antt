@@ -46,3 +46,25 @@ module _ (t : ℕ → Bool) where
   pub first-snoc : (n a : ℕ) → first t a n ≡ a + n → t (a + n) ≡ false → first t a (suc n) ≡ a + suc n
   first-snoc n a e f =
       first-none (suc n) a (λ y l h. byEq y (a + n) (λ d. rw d f) (λ d. first-before n a y l (omega arith)))
+
+-- ---- a search on its way: of the n numbers from a on, those before q fail
+pub record Passed (t : ℕ → Bool) (a n q : ℕ) : Type 0 where
+  pub low : a ≤ q
+  pub high : q ≤ a + n
+  pub none : (y : ℕ) → a ≤ y → y < q → t y ≡ false
+
+pub passed-start : (t : ℕ → Bool) (a n : ℕ) → Passed t a n a
+passed-start t a n = record { low = omega arith; high = omega arith; none = λ y l h. absurd (omega arith) }
+
+pub passed-on : {t : ℕ → Bool} {a n q : ℕ} → Passed t a n q → q < a + n → t q ≡ false → Passed t a n (q + 1)
+passed-on {t} {a} {n} {q} p h e =
+    record { low = (let l = p .low in omega arith); high = omega arith; none = λ y l k. byEq y q (λ d. rw d e) (λ d. p .none y l (omega arith)) }
+
+pub passed-found : {t : ℕ → Bool} {a n q : ℕ} → Passed t a n q → q < a + n → t q ≡ true → q ≡ first t a n
+passed-found {t} {a} {n} {q} p h e = sym (first-is t n a q (p .low) h e (p .none))
+
+pub passed-end : {t : ℕ → Bool} {a n q : ℕ} → Passed t a n q → a + n ≤ q → q ≡ first t a n
+passed-end {t} {a} {n} {q} p h =
+    let k = p .high in
+    let e : q ≡ a + n = omega arith in
+    e ∙ sym (first-none t n a (λ y l g. p .none y l (omega arith)))

@@ -5,7 +5,7 @@ use mathlib.Core.Logic.{_≢_}
 use mathlib.Core.List.{List, [], _∷_}
 use mathlib.Core.Bool.{Bool, true, false, not}
 use native.Mathlib.Omega.{arith}
-use native.Mathlib.Nat.{mul-le-mul-right, div-add-mod', mod-lt, mod-eq-of-lt}
+use native.Mathlib.Nat.{mul-le-mul-right, div-add-mod', mod-lt}
 use lib.Arith.{digits-div, digits-mod}
 use lib.Dec.{eqb}
 use lib.ListN.{length, getD, set, replicate, length-set, length-replicate}
@@ -18,6 +18,7 @@ use Rattle.model.specs.Rules.{odd, Slot}
 use Rattle.model.specs.Schedule.{put, slotOf}
 use Rattle.model.proofs.Cases.{byBool, byEq, byLt}
 use Rattle.model.proofs.Sums.{sum-ext, sum-zero, sum-one, sum-has, sum-has-two}
+use Rattle.model.proofs.Cells.{cells-slot}
 use Rattle.model.proofs.Partners.{odd-lt}
 use Rattle.model.proofs.Settled.{zero-at}
 use Rattle.model.proofs.Splits.{is-yes, is-no}
@@ -148,10 +149,7 @@ module _ (ports : ℕ) (m bytes : List ℕ) (sl : Slot ports m bytes) where
 
   -- ---- its cells are its counts
   slot-sum : (c : Class) → cells c ports bytes ≡ sumTo ports (λ i. bit (counts c i (getD bytes i 0)))
-  unfolding cells
-  slot-sum c =
-      ap (λ n. sumTo n (λ q. bit (counts c (q % ports) (getD bytes q 0)))) (sl .size)
-      ∙ sum-ext ports _ _ (λ q h. ap (λ x. bit (counts c x (getD bytes q 0))) (mod-eq-of-lt h))
+  slot-sum c = cells-slot ports c bytes (sl .size)
 
   -- a term of another input is 0, one of its own is what the byte says
   at-other : (i j : ℕ) (t : Bool) → j ≢ i → bit (both (eqb j i) t) ≡ 0

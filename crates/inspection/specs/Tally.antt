@@ -1,0 +1,67 @@
+-- What the code counts: a tally has a number for each pair, input and output, at a place of its own.
+use Prim.Native.Nat.{ℕ, suc, zero, _+_, _*_, _≤_, _<_}
+use mathlib.Core.Path.{_≡_}
+use mathlib.Core.List.{List, [], _∷_}
+use mathlib.Core.Bool.{Bool, not}
+use lib.Dec.{ltb}
+use lib.ListN.{length, getD, replicate}
+use Rattle.model.specs.Words.{bit, near, first, sumTo}
+use Rattle.model.specs.Loads.{Class, pair, input, output, Of}
+use Rattle.model.specs.Frames.{counts, cells}
+use Rattle.model.specs.Refusals.{levels, report}
+use Rattle.model.specs.Inspect.{byteTooLarge, outputTwice, pairCount, unbalancedBlock}
+
+-- The pairs stand in matrix order, then the sixteen inputs, then the sixteen outputs.
+abbrev pub place : ℕ → Class → ℕ
+place ports (pair i o) = i * ports + o
+place ports (input i) = 256 + i
+place ports (output o) = 272 + o
+
+-- The switch is of a size that a tally has places for.
+pub record Switch (ports : ℕ) : Type 0 where
+  pub low : 1 ≤ ports
+  pub high : ports ≤ 16
+
+-- The frame has its size, and no byte is above ports.
+pub record Readable (ports slots : ℕ) (bytes : List ℕ) : Type 0 where
+  pub switch : Switch ports
+  pub slots-most : slots ≤ 1024
+  pub size : length bytes ≡ slots * ports
+  pub most : (q : ℕ) → q < length bytes → getD bytes q 0 ≤ ports
+
+-- `new` is the tally `old` with `more` counted: a number for each class, and none more than `most` higher.
+pub record Adds (ports most : ℕ) (more : Class → ℕ) (old new : List ℕ) : Type 0 where
+  pub size : length new ≡ 288
+  pub each : (c : Class) → Of ports c → getD new (place ports c) 0 ≡ getD old (place ports c) 0 + more c
+  pub bound : (x : ℕ) → getD new x 0 ≤ getD old x 0 + most
+
+-- The cells of the first n inputs of a slot.
+abbrev pub partly : List ℕ → ℕ → Class → ℕ
+partly slot n c = sumTo n (λ i. bit (counts c i (getD slot i 0)))
+
+-- The tally of some slots.
+pub record Tally (ports : ℕ) (bytes tally : List ℕ) : Type 0 where
+  pub size : length tally ≡ 288
+  pub each : (c : Class) → Of ports c → getD tally (place ports c) 0 ≡ cells c ports bytes
+
+-- At place x two tallies differ by more than 1.
+abbrev pub far : List ℕ → List ℕ → ℕ → Bool
+far a b x = not (near 1 (getD a x 0) (getD b x 0))
+
+-- What Inspect was given has its sizes: none of the refusals holds.
+pub record Lent (ports slots : ℕ) (matrix bytes : List ℕ) : Type 0 where
+  pub switch : Switch ports
+  pub power : levels slots < 11
+  pub square : length matrix ≡ ports * ports
+  pub size : length bytes ≡ slots * ports
+
+-- The faults of Inspect, in their order.
+abbrev pub faults : ℕ → ℕ → List ℕ → List ℕ → List ℕ
+faults ports slots matrix bytes =
+    report (
+      byteTooLarge ports slots bytes
+      ∷ outputTwice ports slots bytes
+      ∷ pairCount ports matrix bytes
+      ∷ unbalancedBlock ports slots bytes
+      ∷ []
+    ) (0 ∷ [])
