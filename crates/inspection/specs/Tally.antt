@@ -29,23 +29,35 @@ pub record Readable (ports slots : ℕ) (bytes : List ℕ) : Type 0 where
   pub size : length bytes ≡ slots * ports
   pub most : (q : ℕ) → q < length bytes → getD bytes q 0 ≤ ports
 
+-- A tally has its places, and no number above a limit.
+pub record Room (limit : ℕ) (tally : List ℕ) : Type 0 where
+  pub size : length tally ≡ 288
+  pub each : (x : ℕ) → getD tally x 0 ≤ limit
+
 -- `new` is the tally `old` with `more` counted: a number for each class, and none more than `most` higher.
 pub record Adds (ports most : ℕ) (more : Class → ℕ) (old new : List ℕ) : Type 0 where
   pub size : length new ≡ 288
   pub each : (c : Class) → Of ports c → getD new (place ports c) 0 ≡ getD old (place ports c) 0 + more c
   pub bound : (x : ℕ) → getD new x 0 ≤ getD old x 0 + most
 
--- The cells of the first n inputs of a slot.
-abbrev pub partly : List ℕ → ℕ → Class → ℕ
-partly slot n c = sumTo n (λ i. bit (counts c i (getD slot i 0)))
+-- What a byte of an input, the first n bytes of a slot, and a slot count for each class.
+unfoldable pub ofByte : ℕ → ℕ → Class → ℕ
+ofByte i byte c = bit (counts c i byte)
+
+unfoldable pub partly : List ℕ → ℕ → Class → ℕ
+partly slot n c = sumTo n (λ i. ofByte i (getD slot i 0) c)
+
+unfoldable pub ofSlot : ℕ → List ℕ → Class → ℕ
+ofSlot ports slot c = cells c ports slot
 
 -- The tally of some slots.
 pub record Tally (ports : ℕ) (bytes tally : List ℕ) : Type 0 where
   pub size : length tally ≡ 288
   pub each : (c : Class) → Of ports c → getD tally (place ports c) 0 ≡ cells c ports bytes
+  pub bound : (x : ℕ) → getD tally x 0 ≤ length bytes
 
 -- At place x two tallies differ by more than 1.
-abbrev pub far : List ℕ → List ℕ → ℕ → Bool
+unfoldable pub far : List ℕ → List ℕ → ℕ → Bool
 far a b x = not (near 1 (getD a x 0) (getD b x 0))
 
 -- What Inspect was given has its sizes: none of the refusals holds.

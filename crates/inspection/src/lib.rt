@@ -9,8 +9,8 @@ ghost use Rattle.model.specs.Loads.{output};
 ghost use Rattle.model.specs.Frames.{counts, cells, runOf};
 ghost use Rattle.model.specs.Refusals.{levels, report};
 ghost use mathlib.Core.List.{[], _∷_};
-ghost use Rattle.model.specs.Inspect.{finding, usedTwice, wrongCount, unbalanced, unbalancedBlock, inspected};
-ghost use Rattle.inspection.specs.Tally.{Switch, Readable, Lent, Adds, Tally, far, faults};
+ghost use Rattle.model.specs.Inspect.{finding, tooLarge, twiceIn, usedTwice, wrongCount, unbalanced, unbalancedNumber, unbalancedBlock, inspected};
+ghost use Rattle.inspection.specs.Tally.{Switch, Readable, Room, Lent, Adds, ofByte, ofSlot, Tally, far, faults};
 
 use model::Inspection;
 use model::Refusal;
@@ -31,7 +31,7 @@ fn cells_of(tally: u16) -> usize
 
 // The place of the first byte above ports; the frame's length where there is none.
 fn first_too_large(ports: usize, frame: &[u8]) -> usize
-    ensures { λ r. ⌜ r ≡ first (λ q. ltb ports (getD (now (frame .entry)) q 0)) 0 (length (now (frame .entry))) ⌝ }
+    ensures { λ r. ⌜ r ≡ first (tooLarge ports (now (frame .entry))) 0 (length (now (frame .entry))) ⌝ }
 {
     let mut q: usize = 0;
     while q < frame.len() {
@@ -45,7 +45,7 @@ fn first_too_large(ports: usize, frame: &[u8]) -> usize
 
 // Counts one more at a place of a tally.
 fn add_one(tally: &mut [u16; 288], x: usize)
-    requires { ⌜ (x < 288) × (length (now tally) ≡ 288) × (getD (now tally) x 0 < 65535) ⌝ }
+    requires { ⌜ (x < 288) × Room 65534 (now tally) ⌝ }
     ensures { λ _. ⌜ now (tally .exit) ≡ set (now (tally .entry)) x (getD (now (tally .entry)) x 0 + 1) ⌝ }
 {
     tally[x] = tally[x] + 1;
@@ -53,9 +53,8 @@ fn add_one(tally: &mut [u16; 288], x: usize)
 
 // Counts a byte of an input: for its pair, its input and its output, if it is not 0.
 fn add_byte(ports: usize, input: usize, byte: usize, tally: &mut [u16; 288])
-    requires { ⌜ Switch ports × (input < ports) × (byte ≤ ports) × (length (now tally) ≡ 288) ⌝ }
-    requires { ⌜ ((x : ℕ) → getD (now tally) x 0 < 65535) ⌝ }
-    ensures { λ _. ⌜ Adds ports 1 (λ c. bit (counts c input byte)) (now (tally .entry)) (now (tally .exit)) ⌝ }
+    requires { ⌜ Switch ports × (input < ports) × (byte ≤ ports) × Room 65532 (now tally) ⌝ }
+    ensures { λ _. ⌜ Adds ports 1 (ofByte input byte) (now (tally .entry)) (now (tally .exit)) ⌝ }
 {
     if byte == 0 {
         return;
@@ -68,9 +67,8 @@ fn add_byte(ports: usize, input: usize, byte: usize, tally: &mut [u16; 288])
 
 // Counts a slot.
 fn add_slot(ports: usize, slot: &[u8], tally: &mut [u16; 288])
-    requires { ⌜ Readable ports 1 (now slot) × (length (now tally) ≡ 288) ⌝ }
-    requires { ⌜ ((x : ℕ) → getD (now tally) x 0 ≤ 65000) ⌝ }
-    ensures { λ _. ⌜ Adds ports ports (λ c. cells c ports (now (slot .entry))) (now (tally .entry)) (now (tally .exit)) ⌝ }
+    requires { ⌜ Readable ports 1 (now slot) × Room 65000 (now tally) ⌝ }
+    ensures { λ _. ⌜ Adds ports ports (ofSlot ports (now (slot .entry))) (now (tally .entry)) (now (tally .exit)) ⌝ }
 {
     let mut i: usize = 0;
     while i < slot.len() {
@@ -97,7 +95,7 @@ fn tally_run(ports: usize, slots: usize, frame: &[u8], start: usize, len: usize,
 // The lowest output that a slot uses twice; ports where there is none.
 fn lowest_twice(ports: usize, slots: usize, frame: &[u8], slot: usize) -> usize
     requires { ⌜ Readable ports slots (now frame) × (slot < slots) ⌝ }
-    ensures { λ r. ⌜ r ≡ first (λ o. ltb 1 (cells (output o) ports (runOf ports slot 1 (now (frame .entry))))) 0 ports ⌝ }
+    ensures { λ r. ⌜ r ≡ first (twiceIn ports (runOf ports slot 1 (now (frame .entry)))) 0 ports ⌝ }
 {
     let mut tally = [0u16; 288];
     tally_run(ports, slots, frame, slot, 1, &mut tally);
@@ -152,7 +150,10 @@ fn apart(a: usize, b: usize) -> bool
     if b + 1 < a {
         return true;
     }
-    a + 1 < b
+    if a + 1 < b {
+        return true;
+    }
+    false
 }
 
 // The first of some places where two tallies differ by more than 1; the place past them where there is none.
@@ -193,7 +194,7 @@ fn unbalanced_at(ports: usize, slots: usize, frame: &[u8], start: usize, half: u
 // The number of the first unbalanced block among some, end to end, of twice half slots; their count where there is none.
 fn first_unbalanced(ports: usize, slots: usize, frame: &[u8], half: usize, count: usize) -> usize
     requires { ⌜ Readable ports slots (now frame) × (count * (2 * half) ≤ slots) ⌝ }
-    ensures { λ r. ⌜ r ≡ first (λ b. unbalanced ports (now (frame .entry)) (b * (2 * half)) half) 0 count ⌝ }
+    ensures { λ r. ⌜ r ≡ first (unbalancedNumber ports (now (frame .entry)) half) 0 count ⌝ }
 {
     let mut b: usize = 0;
     while b < count {

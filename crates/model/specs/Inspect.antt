@@ -28,24 +28,24 @@ firstPlace number wrong width n =
     (ltb q n, number ∷ suc (q / width) ∷ suc (q % width) ∷ [])
 
 -- A byte above ports: lowest slot, then input.
-abbrev pub tooLarge : ℕ → List ℕ → ℕ → Bool
+unfoldable pub tooLarge : ℕ → List ℕ → ℕ → Bool
 tooLarge ports bytes q = ltb ports (getD bytes q 0)
 
 abbrev pub byteTooLarge : ℕ → ℕ → List ℕ → Check
 byteTooLarge ports slots bytes = firstPlace 101 (tooLarge ports bytes) ports (slots * ports)
 
 -- An output used twice in a slot: lowest slot, then output.
-abbrev pub twiceIn : ℕ → List ℕ → ℕ → Bool
+unfoldable pub twiceIn : ℕ → List ℕ → ℕ → Bool
 twiceIn ports slot o = ltb 1 (cells (output o) ports slot)
 
-abbrev pub usedTwice : ℕ → List ℕ → ℕ → Bool
+unfoldable pub usedTwice : ℕ → List ℕ → ℕ → Bool
 usedTwice ports bytes q = twiceIn ports (runOf ports (q / ports) 1 bytes) (q % ports)
 
 abbrev pub outputTwice : ℕ → ℕ → List ℕ → Check
 outputTwice ports slots bytes = firstPlace 102 (usedTwice ports bytes) ports (slots * ports)
 
 -- A pair in the wrong number of slots: first in matrix order.
-abbrev pub wrongCount : ℕ → List ℕ → List ℕ → ℕ → Bool
+unfoldable pub wrongCount : ℕ → List ℕ → List ℕ → ℕ → Bool
 wrongCount ports matrix bytes p =
     let c = pair (p / ports) (p % ports) in
     not (eqb (cells c ports bytes) (load c ports matrix))
@@ -69,7 +69,7 @@ unbalanced ports bytes start half =
     not (all (λ c. near 1 (cells c ports (runOf ports start half bytes)) (cells c ports (runOf ports (start + half) half bytes))) (classes ports))
 
 -- Block b of those of twice half slots, end to end.
-abbrev pub unbalancedNumber : ℕ → List ℕ → ℕ → ℕ → Bool
+unfoldable pub unbalancedNumber : ℕ → List ℕ → ℕ → ℕ → Bool
 unbalancedNumber ports bytes half b = unbalanced ports bytes (b * (2 * half)) half
 
 -- An unbalanced block: largest size first, then earliest; its first slot and size. At depth t below the whole frame
@@ -77,7 +77,7 @@ unbalancedNumber ports bytes half b = unbalanced ports bytes (b * (2 * half)) ha
 abbrev pub firstAt : ℕ → ℕ → List ℕ → ℕ → ℕ
 firstAt ports slots bytes t = first (unbalancedNumber ports bytes (slots / 2 ^ suc t)) 0 (2 ^ t)
 
-abbrev pub unbalancedAt : ℕ → ℕ → List ℕ → ℕ → Bool
+unfoldable pub unbalancedAt : ℕ → ℕ → List ℕ → ℕ → Bool
 unbalancedAt ports slots bytes t = ltb (firstAt ports slots bytes t) (2 ^ t)
 
 abbrev pub unbalancedBlock : ℕ → ℕ → List ℕ → Check

@@ -1,0 +1,289 @@
+-- Tallies: one byte more, one slot more, a run.
+use Prim.Native.Nat.{ℕ, suc, zero, _+_, _-_, _*_, _/_, _%_, _≤_, _<_}
+use mathlib.Core.Path.{_≡_, refl, sym, ap, _∙_, subst}
+use mathlib.Core.Logic.{_≢_}
+use mathlib.Core.List.{List}
+use mathlib.Core.Bool.{Bool, true, false, not}
+use native.Mathlib.Omega.{arith}
+use native.Mathlib.Nat.{mul-le-mul-right, mul-le-mul}
+use native.Mathlib.Numerals.{add-one}
+use lib.Arith.{digits-div, digits-mod}
+use mir.Syntax.{w16, w64}
+use mir.Val.{Fits}
+use lib.Dec.{eqb}
+use lib.ListN.{length, getD, set, take, drop, replicate, length-set, length-replicate, length-take, length-drop}
+use lib.Seq.{getD-set-same, getD-set-other, getD-take, getD-drop, set-out}
+use borrow.Author.Tests.{eq-eqb, ne-eqb}
+use Rattle.model.specs.Words.{both, bit, sumTo}
+use Rattle.model.specs.Loads.{Class, pair, input, output, Of}
+use Rattle.model.specs.Frames.{counts, cells, runOf}
+use Rattle.model.proofs.Cases.{byEq, byLt}
+use Rattle.model.proofs.Sums.{sum-none, sum-more}
+use Rattle.model.proofs.Splits.{is-yes, is-no}
+use Rattle.model.proofs.Settled.{zero-at}
+use Rattle.model.proofs.Cells.{cells-slot, cells-none, cells-run, run-none, run-length}
+use Rattle.inspection.specs.Tally.{place, Switch, Readable, Room, Adds, ofByte, partly, ofSlot, Tally}
+
+-- ---- places
+pub pair-place : {ports i o : ℕ} → Switch ports → i < ports → o < ports → i * ports + o < 256
+pair-place {ports} {i} {o} s hi ho =
+    let a = mul-le-mul-right ports hi in
+    let b : ports * ports ≤ 16 * 16 = mul-le-mul (s .high) (s .high) in
+    omega arith
+
+-- ---- one more at a place
+abbrev pub raised : List ℕ → ℕ → List ℕ
+raised l x = set l x (getD l x 0 + 1)
+
+raised-at : (l : List ℕ) (x y : ℕ) → x < length l → getD (raised l x) y 0 ≡ getD l y 0 + bit (eqb y x)
+raised-at l x y h =
+    byEq y x
+    (λ e. rw e (getD-set-same l x (getD l x 0 + 1) 0 h ∙ ap (λ z. getD l x 0 + z) (sym (is-yes x x refl))))
+    (λ n. getD-set-other l x y (getD l x 0 + 1) 0 n ∙ (let z = is-no y x n in omega arith))
+
+-- ---- a byte
+idle : (c : Class) (i : ℕ) → counts c i 0 ≡ false
+idle (pair j o) i = byEq i j (λ e. rw (eq-eqb i j e) (ne-eqb 0 (suc o) (omega arith))) (λ n. rw (ne-eqb i j n))
+idle (input j) i = byEq i j (λ e. rw (eq-eqb i j e)) (λ n. rw (ne-eqb i j n))
+idle (output o) i = ne-eqb 0 (suc o) (omega arith)
+
+pub adds-idle : (ports i b : ℕ) (old : List ℕ) → Room 65532 old → b ≡ 0 → Adds ports 1 (ofByte i b) old old
+unfolding ofByte
+adds-idle ports i b old l e =
+    record {
+      size = l .size;
+      each = λ c of. rw e (let z = ap bit (idle c i) in omega arith);
+      bound = λ x. omega arith;
+    }
+
+module _ (ports i o : ℕ) (sw : Switch ports) (hi : i < ports) (ho : o < ports) where
+  -- what a cell of (i, o) adds at the place of a class
+  adds-at : (c : Class) → Of ports c
+      → bit (eqb (place ports c) (i * ports + o)) + bit (eqb (place ports c) (256 + i)) + bit (eqb (place ports c) (272 + o)) ≡ bit (counts c i (suc o))
+  adds-at (pair j u) of =
+      let p = pair-place sw (of .0) (of .1) in
+      let a = is-no (j * ports + u) (256 + i) (omega arith) in
+      let b = is-no (j * ports + u) (272 + o) (omega arith) in
+      byEq i j
+      (λ e. byEq o u
+      (λ d. rw (eq-eqb i j e, eq-eqb (suc o) (suc u) (ap suc d)) (let z = is-yes (j * ports + u) (i * ports + o) (omega (arith, ap (λ x. x * ports) e)) in omega arith))
+      (λ n. rw (eq-eqb i j e, ne-eqb (suc o) (suc u) (λ k. n (omega arith))) (let z = is-no (j * ports + u) (i * ports + o) (λ k. n (omega (arith, ap (λ x. x * ports) e))) in omega arith)))
+      (λ n. rw (ne-eqb i j n)
+      (let z = is-no (j * ports + u) (i * ports + o) (λ k. n (sym (digits-div i ho) ∙ ap (λ x. x / ports) (sym k) ∙ digits-div j (of .1))) in omega arith))
+  adds-at (input j) of =
+      let p = pair-place sw hi ho in
+      let h = sw .high in
+      let a = is-no (256 + j) (i * ports + o) (omega arith) in
+      let b = is-no (256 + j) (272 + o) (omega arith) in
+      byEq i j
+      (λ e. rw (eq-eqb i j e, ne-eqb (suc o) 0 (omega arith)) (let z = is-yes (256 + j) (256 + i) (omega arith) in omega arith))
+      (λ n. rw (ne-eqb i j n) (let z = is-no (256 + j) (256 + i) (λ k. n (omega arith)) in omega arith))
+  adds-at (output u) of =
+      let p = pair-place sw hi ho in
+      let h = sw .high in
+      let a = is-no (272 + u) (i * ports + o) (omega arith) in
+      let b = is-no (272 + u) (256 + i) (omega arith) in
+      byEq o u
+      (λ e. rw (eq-eqb (suc o) (suc u) (ap suc e)) (let z = is-yes (272 + u) (272 + o) (omega arith) in omega arith))
+      (λ n. rw (ne-eqb (suc o) (suc u) (λ k. n (omega arith))) (let z = is-no (272 + u) (272 + o) (λ k. n (omega arith)) in omega arith))
+
+  -- at no place more than 1
+  adds-most : (x : ℕ) → bit (eqb x (i * ports + o)) + bit (eqb x (256 + i)) + bit (eqb x (272 + o)) ≤ 1
+  adds-most x =
+      let p = pair-place sw hi ho in
+      let h = sw .high in
+      byEq x (i * ports + o)
+      (λ e. omega (arith, is-yes x (i * ports + o) e, is-no x (256 + i) (omega arith), is-no x (272 + o) (omega arith)))
+      (λ n. byEq x (256 + i)
+      (λ e. omega (arith, is-no x (i * ports + o) n, is-yes x (256 + i) e, is-no x (272 + o) (omega arith)))
+      (λ m. byEq x (272 + o)
+      (λ e. omega (arith, is-no x (i * ports + o) n, is-no x (256 + i) m, is-yes x (272 + o) e))
+      (λ k. omega (arith, is-no x (i * ports + o) n, is-no x (256 + i) m, is-no x (272 + o) k))))
+
+  module _ (old : List ℕ) (size : length old ≡ 288) where
+    abbrev pub thrice : List ℕ
+    thrice = raised (raised (raised old (i * ports + o)) (256 + i)) (272 + o)
+
+    thrice-at : (x : ℕ) → getD thrice x 0 ≡ getD old x 0 + (bit (eqb x (i * ports + o)) + bit (eqb x (256 + i)) + bit (eqb x (272 + o)))
+    thrice-at x =
+        let p = pair-place sw hi ho in
+        let h = sw .high in
+        let a = raised old (i * ports + o) in
+        let b = raised a (256 + i) in
+        let la = length-set old (i * ports + o) (getD old (i * ports + o) 0 + 1) in
+        let lb = length-set a (256 + i) (getD a (256 + i) 0 + 1) in
+        omega (arith, raised-at old (i * ports + o) x (omega arith), raised-at a (256 + i) x (omega arith), raised-at b (272 + o) x (omega arith))
+
+    thrice-length : length thrice ≡ 288
+    thrice-length = simp length-set size
+
+    pub adds-thrice : Adds ports 1 (ofByte i (suc o)) old thrice
+    unfolding ofByte
+    adds-thrice =
+        record {
+          size = thrice-length;
+          each = λ c of. thrice-at (place ports c) ∙ ap (λ z. getD old (place ports c) 0 + z) (adds-at c of);
+          bound = λ x. omega (arith, thrice-at x, adds-most x);
+        }
+
+pub adds-cell : (ports i b o : ℕ) (old t1 t2 t3 : List ℕ) → Switch ports → i < ports → b ≤ ports → Room 65532 old → (b ≡ 0 → ⊥) → o ≡ b - 1
+    → t1 ≡ set old (i * ports + o) (getD old (i * ports + o) 0 + 1)
+    → t2 ≡ set t1 (256 + i) (getD t1 (256 + i) 0 + 1)
+    → t3 ≡ set t2 (272 + o) (getD t2 (272 + o) 0 + 1)
+    → Adds ports 1 (ofByte i b) old t3
+adds-cell ports i b o old t1 t2 t3 sw hi hb room n e e1 e2 e3 =
+    let ho : o < ports = omega arith in
+    let k : b ≡ suc o = omega arith in
+    rw (e3, e2, e1, k) (adds-thrice ports i o sw hi ho old (room .size))
+
+-- ---- the room that the code asks for
+pub row-fits : {ports i : ℕ} → Switch ports → i < ports → Fits w64 (i * ports)
+row-fits {ports} {i} sw hi = record { fits = (let p = pair-place {o = 0} sw hi (omega (arith, sw .low)) in omega arith) }
+
+pub pair-low : {ports i b : ℕ} → Switch ports → i < ports → b ≤ ports → (b ≡ 0 → ⊥) → i * ports + (b - 1) < 288
+pair-low {ports} {i} {b} sw hi hb n = let p = pair-place {o = b - 1} sw hi (omega arith) in omega arith
+
+pub pair-fits : {ports i b : ℕ} → Switch ports → i < ports → b ≤ ports → (b ≡ 0 → ⊥) → Fits w64 (i * ports + (b - 1))
+pair-fits {ports} {i} {b} sw hi hb n = record { fits = (let p = pair-low sw hi hb n in omega arith) }
+
+pub input-low : {ports i : ℕ} → Switch ports → i < ports → 256 + i < 288
+input-low {ports} {i} sw hi = omega (arith, sw .high)
+
+pub output-low : {ports b : ℕ} → Switch ports → b ≤ ports → (b ≡ 0 → ⊥) → 272 + (b - 1) < 288
+output-low {ports} {b} sw h n = omega (arith, sw .high)
+
+pub room-less : {l : List ℕ} → Room 65532 l → Room 65534 l
+room-less {l} r = record { size = r .size; each = λ x. omega (arith, r .each x) }
+
+room-raised : (n x : ℕ) (l l′ : List ℕ) → l′ ≡ set l x (getD l x 0 + 1) → Room n l → Room (suc n) l′
+room-raised n x l l′ e r =
+    rw e (record {
+      size = length-set l x (getD l x 0 + 1) ∙ r .size;
+      each = λ y. byLt x (length l)
+          (λ h. byEq y x
+          (λ d. rw d (rw (getD-set-same l x (getD l x 0 + 1) 0 h) (omega (arith, r .each x))))
+          (λ d. rw (getD-set-other l x y (getD l x 0 + 1) 0 d) (omega (arith, r .each y))))
+          (λ h. rw (set-out l x (getD l x 0 + 1) h) (omega (arith, r .each y)));
+    })
+
+pub room-one : (x : ℕ) (l l′ : List ℕ) → l′ ≡ set l x (getD l x 0 + 1) → Room 65532 l → Room 65534 l′
+room-one x l l′ e r = let s = room-raised 65532 x l l′ e r in record { size = s .size; each = λ y. omega (arith, s .each y) }
+
+pub room-two : (x y : ℕ) (l l′ l″ : List ℕ) → l″ ≡ set l′ y (getD l′ y 0 + 1) → l′ ≡ set l x (getD l x 0 + 1) → Room 65532 l → Room 65534 l″
+room-two x y l l′ l″ f e r = room-raised 65533 y l′ l″ f (room-raised 65532 x l l′ e r)
+
+-- ---- a slot
+pub slot-start : (ports : ℕ) (slot old : List ℕ) → Room 65000 old → Adds ports 0 (partly slot 0) old old
+unfolding partly
+slot-start ports slot old r =
+    record { size = r .size; each = λ c of. omega (arith, sum-none (λ i. ofByte i (getD slot i 0) c)); bound = λ x. omega arith }
+
+pub slot-on : (ports i b : ℕ) (slot old mid new : List ℕ) → Adds ports i (partly slot i) old mid → b ≡ getD slot i 0 → Adds ports 1 (ofByte i b) mid new
+    → Adds ports (i + 1) (partly slot (i + 1)) old new
+unfolding partly
+slot-on ports i b slot old mid new a e n =
+    record {
+      size = n .size;
+      each = λ c of.
+          let f : ℕ → ℕ = λ i. ofByte i (getD slot i 0) c in
+          omega (arith, a .each c of, n .each c of, ap (λ z. ofByte i z c) e, sum-more i f, ap (λ z. sumTo z f) (add-one i));
+      bound = λ x. omega (arith, a .bound x, n .bound x);
+    }
+
+pub slot-end : (ports i : ℕ) (slot old new : List ℕ) → Adds ports i (partly slot i) old new → Readable ports 1 slot → i ≤ length slot → length slot ≤ i → Adds ports ports (ofSlot ports slot) old new
+unfolding partly ofByte ofSlot
+slot-end ports i slot old new a r l g =
+    let s = r .size in
+    let e : i ≡ ports = omega arith in
+    record {
+      size = a .size;
+      each = λ c of. omega (arith, a .each c of, ap (λ z. partly slot z c) e, cells-slot ports c slot (s ∙ omega arith));
+      bound = λ x. omega (arith, a .bound x);
+    }
+
+-- the room for one byte more
+pub slot-room : (ports i : ℕ) (slot old mid : List ℕ) → Adds ports i (partly slot i) old mid → Room 65000 old → Readable ports 1 slot → i < length slot → Room 65532 mid
+slot-room ports i slot old mid a r d h =
+    let s = d .size in
+    let w = d .switch .high in
+    record { size = a .size; each = λ x. omega (arith, a .bound x, r .each x) }
+
+pub byte-most : {ports i b : ℕ} {slot : List ℕ} → Readable ports 1 slot → i < length slot → b ≡ getD slot i 0 → b ≤ ports
+byte-most {ports} {i} {b} {slot} d h e = omega (arith, d .most i h)
+
+pub input-most : {ports i : ℕ} {slot : List ℕ} → Readable ports 1 slot → i < length slot → i < ports
+input-most {ports} {i} {slot} d h = let s = d .size in omega arith
+
+pub one-fits : (x : ℕ) (tally : List ℕ) → Room 65534 tally → Fits w16 (getD tally x 0 + 1)
+one-fits x tally r = record { fits = omega (arith, r .each x) }
+
+-- ---- a run
+pub tally-start : (ports start : ℕ) (frame tally : List ℕ) → tally ≡ replicate 288 0 → Tally ports (runOf ports start 0 frame) tally
+tally-start ports start frame tally e =
+    rw (e, run-none ports start frame)
+    (record {
+      size = length-replicate {A = ℕ} 288 0;
+      each = λ c of. zero-at 288 (place ports c) ∙ sym (cells-none ports c);
+      bound = λ x. omega (arith, zero-at 288 x);
+    })
+
+module _ (ports slots start len t : ℕ) (frame : List ℕ) (r : Readable ports slots frame) (h : start + len ≤ slots) (l : t < len) where
+  pub part-ends : (start + t) * ports + ports ≤ length frame
+  part-ends = let k = mul-le-mul-right {m = start + t + 1} {n = slots} ports (omega arith) in omega (arith, r .size)
+
+  pub frame-most : length frame ≤ 16384
+  frame-most = let k : slots * ports ≤ 1024 * 16 = mul-le-mul (r .slots-most) (r .switch .high) in omega (arith, r .size)
+
+  pub from-fits : Fits w64 ((start + t) * ports)
+  from-fits = record { fits = (let a = part-ends in let b = frame-most in omega arith) }
+
+  pub end-fits : Fits w64 ((start + t) * ports + ports)
+  end-fits = record { fits = (let a = part-ends in let b = frame-most in omega arith) }
+
+  -- the part of the frame that the code lends
+  abbrev pub part : List ℕ
+  part = take ((start + t) * ports + ports - (start + t) * ports) (drop ((start + t) * ports) frame)
+
+  part-is : part ≡ runOf ports (start + t) 1 frame
+  unfolding runOf
+  part-is = let e : (start + t) * ports + ports - (start + t) * ports ≡ 1 * ports = omega arith in rw e
+
+  part-length : length part ≡ ports
+  part-length = let a = part-ends in simp (length-take, length-drop) (omega arith)
+
+  pub part-readable : Readable ports 1 part
+  part-readable =
+      record {
+        switch = r .switch;
+        slots-most = omega arith;
+        size = part-length ∙ omega arith;
+        most = λ q k.
+            let lp = part-length in
+            let a = part-ends in
+            rw (getD-take ((start + t) * ports + ports - (start + t) * ports) (drop ((start + t) * ports) frame) q 0 (omega arith), getD-drop ((start + t) * ports) frame q 0)
+            (r .most ((start + t) * ports + q) (omega arith));
+      }
+
+  run-size : length (runOf ports start t frame) ≡ t * ports
+  run-size = run-length ports start t frame (let k = mul-le-mul-right {m = start + t} {n = slots} ports (omega arith) in omega (arith, r .size))
+
+  pub tally-room : (mid : List ℕ) → Tally ports (runOf ports start t frame) mid → Room 65000 mid
+  tally-room mid y =
+      let k = mul-le-mul-right {m = start + t} {n = slots} ports (omega arith) in
+      record { size = y .size; each = λ x. omega (arith, y .bound x, run-size, frame-most, r .size) }
+
+  pub tally-on : (mid new : List ℕ) → Tally ports (runOf ports start t frame) mid → Adds ports ports (ofSlot ports part) mid new → Tally ports (runOf ports start (t + 1) frame) new
+  unfolding ofSlot
+  tally-on mid new y a =
+      let k = mul-le-mul-right {m = start + t} {n = slots} ports (omega arith) in
+      let more : length (runOf ports start (t + 1) frame) ≡ (t + 1) * ports
+      = run-length ports start (t + 1) frame (let g = mul-le-mul-right {m = start + (t + 1)} {n = slots} ports (omega arith) in omega (arith, r .size)) in
+      record {
+        size = a .size;
+        each = λ c of.
+            a .each c of ∙ omega (arith, y .each c of, ap (cells c ports) part-is, cells-run ports c start t 1 frame (omega (arith, r .size)));
+        bound = λ x. omega (arith, a .bound x, y .bound x, run-size);
+      }
+
+pub tally-end : (ports start len t : ℕ) (frame tally : List ℕ) → Tally ports (runOf ports start t frame) tally → t ≤ len → len ≤ t → Tally ports (runOf ports start len frame) tally
+tally-end ports start len t frame tally y a b = let e : len ≡ t = omega arith in rw e y

@@ -1,0 +1,15 @@
+use Rattle.inspection.proofs.Tallies.{one-fits}
+use native.Mathlib.Omega.{arith}
+use borrow.Author.Needs.{needs}
+use Rattle.inspection.proofs.add_one.Statement.{statement}
+use Rattle.inspection.proofs.add_one.Tie as tie
+
+pub add-one-spec : {M : Type 1} → statement M
+add-one-spec =
+    tie.close (tie.spec
+    (λ c. search needs)
+    (λ c. search needs)
+    (λ c. search (needs, one-fits))
+    (λ c. search needs)
+    (λ c. search needs)
+    (λ c. search needs))
