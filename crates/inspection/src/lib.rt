@@ -188,7 +188,10 @@ fn unbalanced_at(ports: usize, slots: usize, frame: &[u8], start: usize, half: u
     if first_far(&front, &back, 256, ports) < 256 + ports {
         return true;
     }
-    first_far(&front, &back, 272, ports) < 272 + ports
+    if first_far(&front, &back, 272, ports) < 272 + ports {
+        return true;
+    }
+    false
 }
 
 // The number of the first unbalanced block among some, end to end, of twice half slots; their count where there is none.

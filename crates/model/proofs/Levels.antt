@@ -1,12 +1,12 @@
 -- Levels: the k of slots that are 2 ^ k.
-use Prim.Native.Nat.{ℕ, suc, zero, _+_, _*_, _^_, _≤_, _<_}
+use Prim.Native.Nat.{ℕ, suc, zero, _+_, _-_, _*_, _/_, _^_, _≤_, _<_}
 use mathlib.Core.Path.{_≡_, refl, sym, ap, _∙_}
 use mathlib.Core.Logic.{_≢_}
 use mathlib.Core.Bool.{Bool, true, false}
 use native.Mathlib.Omega.{arith}
 use native.Mathlib.Nat.{pow-le-pow-right, two-pow-succ}
 use lib.Dec.{eqb}
-use lib.Pow.{pow-pos}
+use lib.Pow.{pow-pos, pow-add, shl-shr}
 use borrow.Author.Tests.{eqb-true, eq-eqb, ne-eqb}
 use Rattle.model.specs.Words.{first}
 use Rattle.model.specs.Refusals.{levels}
@@ -34,3 +34,22 @@ pub levels-of : (k : ℕ) → k ≤ 10 → levels (2 ^ k) ≡ k
 levels-of k h =
     first-is (λ j. eqb (2 ^ k) (2 ^ j)) 11 0 k (omega arith) (omega arith) (eq-eqb (2 ^ k) (2 ^ k) refl)
     (λ j _ l. ne-eqb (2 ^ k) (2 ^ j) (λ e. let p = pow-less j k l in omega arith))
+
+-- ---- blocks of 2 ^ k slots at depth t: 2 ^ t of 2 ^ (k - t) slots
+pub depth-size : (k t : ℕ) → t ≤ k → 2 ^ k / 2 ^ t ≡ 2 ^ (k - t)
+depth-size k t h =
+    let e : k ≡ (k - t) + t = omega arith in
+    ap (λ z. 2 ^ z / 2 ^ t) e ∙ ap (λ z. z / 2 ^ t) (pow-add 2 (k - t) t) ∙ shl-shr (2 ^ (k - t)) t
+
+-- twice the half of a block is the block
+pub depth-half : (k t : ℕ) → t < k → 2 * (2 ^ k / 2 ^ suc t) ≡ 2 ^ k / 2 ^ t
+depth-half k t h =
+    let e : k - t ≡ suc (k - suc t) = omega arith in
+    let d = two-pow-succ (k - suc t) in
+    omega (arith, depth-size k (suc t) h, depth-size k t (omega arith), ap (λ z. 2 ^ z) e)
+
+-- the blocks of a depth fill the frame
+pub depth-fill : (k t : ℕ) → t ≤ k → 2 ^ t * (2 ^ k / 2 ^ t) ≡ 2 ^ k
+depth-fill k t h =
+    let e : k ≡ t + (k - t) = omega arith in
+    ap (λ z. 2 ^ t * z) (depth-size k t h) ∙ sym (ap (λ z. 2 ^ z) e ∙ pow-add 2 t (k - t))

@@ -20,4 +20,5 @@ pub mod Demand3
 pub mod Tight
 pub mod Overloads
 pub mod Reports
+pub mod Inspected
 pub mod Bench

@@ -68,3 +68,6 @@ passed-end {t} {a} {n} {q} p h =
     let k = p .high in
     let e : q ≡ a + n = omega arith in
     e ∙ sym (first-none t n a (λ y l g. p .none y l (omega arith)))
+
+pub passed-done : {t : ℕ → Bool} {n q : ℕ} → Passed t 0 n q → n ≤ q → q ≡ first t 0 n
+passed-done p h = passed-end p (omega arith)

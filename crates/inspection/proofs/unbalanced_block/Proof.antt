@@ -1,0 +1,30 @@
+use Prim.Native.Nat.{_-_}
+use Rattle.inspection.proofs.Found.{Depths, depths-start, depths-on, depths-found, depths-none, blocks-room, size-fits, count-fits, start-fits, number-fits}
+use borrow.Author.Needs.{needs}
+use native.Mathlib.Omega.{arith}
+use Rattle.inspection.proofs.unbalanced_block.Statement.{statement}
+use Rattle.inspection.proofs.unbalanced_block.Tie as tie
+
+abbrev Inv-loop : tie.InvT-loop
+Inv-loop ports slots depths frame depth₀ count₀ half₀ depth count half = Depths ports slots depths frame depth count half
+
+abbrev μ-loop : tie.MeasureT-loop
+μ-loop ports slots depths frame depth₀ count₀ half₀ depth count half = depths - depth
+
+pub unbalanced-block-spec : {M : Type 1} → statement M
+unbalanced-block-spec =
+    tie.close
+    (tie.spec
+    Inv-loop
+    μ-loop
+    (λ c. depths-start _ _ _ _)
+    (λ c κs. (search needs, search (needs, blocks-room)))
+    (λ c. search (needs, size-fits))
+    (λ c. search (needs, start-fits))
+    (λ c. search (needs, number-fits))
+    (λ c. search (needs, depths-found))
+    (λ c. search needs)
+    (λ c. search (needs, count-fits))
+    (λ c. search needs)
+    (λ c. search (needs, depths-on))
+    (λ c. search (needs, depths-none)))
