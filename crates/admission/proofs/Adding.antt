@@ -28,7 +28,7 @@ adding-start {side} {ports} {matrix} {sums} e =
 
 -- what one position more asks, and what it gives
 module _ (side : Side) {ports n count : ℕ} {matrix sums : List ℕ} (size : Size ports matrix)
-  (a : Adding side ports matrix n sums) (here : n < length matrix) (small : count ≤ 65535) where
+    (a : Adding side ports matrix n sums) (here : n < length matrix) (small : count ≤ 65535) where
   port-below : portOf ports side n < 16
   port-below =
       let m = size .most in
@@ -53,11 +53,11 @@ module _ (side : Side) {ports n count : ℕ} {matrix sums : List ℕ} (size : Si
       record {
         len = ap length e ∙ length-set sums x sum ∙ a .len;
         each = λ y k. byEq y x
-        (λ d. rw d (omega (arith, own, a .each x port-below, added-own port matrix n x (λ i. x))))
-        (λ d. omega (arith, other y d, a .each y k, added-other port matrix n y (λ s. d (sym s))));
+            (λ d. rw d (omega (arith, own, a .each x port-below, added-own port matrix n x (λ i. x))))
+            (λ d. omega (arith, other y d, a .each y k, added-other port matrix n y (λ s. d (sym s))));
         most = λ y k. byEq y x
-        (λ d. rw d (omega (arith, own, a .most x port-below)))
-        (λ d. omega (arith, other y d, a .most y k));
+            (λ d. rw d (omega (arith, own, a .most x port-below)))
+            (λ d. omega (arith, other y d, a .most y k));
       }
 
 pub adding-end : (side : Side) {ports n : ℕ} {matrix sums : List ℕ} → Size ports matrix → Adding side ports matrix n sums → n ≤ length matrix → length matrix ≤ n
@@ -68,6 +68,6 @@ adding-end side {ports} {n} {matrix} {sums} size a h g =
     record {
       len = a .len;
       each = λ x l. a .each x (omega arith)
-      ∙ ap (λ z. addedTo (portOf ports side) matrix z x) (e ∙ size .square)
-      ∙ added-load side ports matrix x l;
+          ∙ ap (λ z. addedTo (portOf ports side) matrix z x) (e ∙ size .square)
+          ∙ added-load side ports matrix x l;
     }

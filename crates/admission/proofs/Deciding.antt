@@ -13,7 +13,7 @@ use Rattle.model.proofs.Reports.{report-found, report-on}
 use Rattle.admission.specs.Overloads.{LoadsOf, Lowest, overloads}
 
 module _ (number : ℕ) {kind : ℕ → Class} {ports slots x : ℕ} {matrix sums : List ℕ} (l : LoadsOf kind ports matrix sums)
-  (low : Lowest ports slots sums x) where
+    (low : Lowest ports slots sums x) where
   lowest : x ≡ overloaded kind ports slots matrix
   lowest =
       low .is
@@ -37,7 +37,7 @@ abbrev sixth : ℕ → ℕ → List ℕ → Check
 sixth ports slots matrix = overload 6 output ports slots matrix
 
 module _ {ports slots x : ℕ} {matrix ins outs : List ℕ} (l : LoadsOf input ports matrix ins) (r : LoadsOf output ports matrix outs)
-  (low : Lowest ports slots ins x) where
+    (low : Lowest ports slots ins x) where
   pub input-above : {cells : ℕ} → x < ports → cells ≡ getD ins x 0 → 5 ∷ (x + 1) ∷ cells ∷ [] ≡ overloads ports slots matrix
   input-above h e =
       sym (report-found (fifth ports slots matrix) (sixth ports slots matrix ∷ []) accepted (above-found 5 l low h e))

@@ -8,7 +8,6 @@ ghost use Rattle.model.specs.Words.{within};
 ghost use Rattle.model.specs.Loads.{input, output};
 ghost use Rattle.model.specs.Refusals.{levels, answered, admitted};
 ghost use Rattle.admission.specs.Overloads.{Size, LoadsOf, Lowest, overloads};
-
 use model::Answer;
 use model::Refusal;
 

@@ -71,9 +71,9 @@ pub record Lent (ports slots : ℕ) (matrix bytes : List ℕ) : Type 0 where
 abbrev pub faults : ℕ → ℕ → List ℕ → List ℕ → List ℕ
 faults ports slots matrix bytes =
     report (
-      byteTooLarge ports slots bytes
-      ∷ outputTwice ports slots bytes
-      ∷ pairCount ports matrix bytes
-      ∷ unbalancedBlock ports slots bytes
-      ∷ []
+    byteTooLarge ports slots bytes
+    ∷ outputTwice ports slots bytes
+    ∷ pairCount ports matrix bytes
+    ∷ unbalancedBlock ports slots bytes
+    ∷ []
     ) (0 ∷ [])

@@ -11,7 +11,6 @@ ghost use Rattle.model.specs.Refusals.{levels, report};
 ghost use mathlib.Core.List.{[], _∷_};
 ghost use Rattle.model.specs.Inspect.{finding, tooLarge, twiceIn, usedTwice, wrongCount, unbalanced, unbalancedNumber, unbalancedBlock, inspected};
 ghost use Rattle.inspection.specs.Tally.{Switch, Readable, Room, Lent, Adds, ofByte, ofSlot, Tally, far, faults};
-
 use model::Inspection;
 use model::Refusal;
 
@@ -79,7 +78,14 @@ fn add_slot(ports: usize, slot: &[u8], tally: &mut [u16; 288])
 }
 
 // Counts a run of slots inside the frame, from an empty tally.
-fn tally_run(ports: usize, slots: usize, frame: &[u8], start: usize, len: usize, tally: &mut [u16; 288])
+fn tally_run(
+    ports: usize,
+    slots: usize,
+    frame: &[u8],
+    start: usize,
+    len: usize,
+    tally: &mut [u16; 288],
+)
     requires { ⌜ Readable ports slots (now frame) × (start + len ≤ slots) × (now tally ≡ replicate 288 0) ⌝ }
     ensures { λ _. ⌜ Tally ports (runOf ports start len (now (frame .entry))) (now (tally .exit)) ⌝ }
 {

@@ -53,10 +53,12 @@ module _ (ports : ℕ) (t : Class → Bool) where
 
   pub all-classes : ((c : Class) → Of ports c → t c ≡ true) → all t (classes ports) ≡ true
   all-classes h =
-      rw (all-append t (map (λ p. pair (p / ports) (p % ports)) (upFrom 0 (ports * ports))) (map input (upFrom 0 ports) ++ map output (upFrom 0 ports)),
-      all-append t (map input (upFrom 0 ports)) (map output (upFrom 0 ports)),
-      all-yes t (λ p. pair (p / ports) (p % ports)) 0 (ports * ports) (λ p _ k. h (pair (p / ports) (p % ports)) (position-of p (omega arith))),
-      all-yes t input 0 ports (λ i _ k. h (input i) (omega arith))) (all-yes t output 0 ports (λ o _ k. h (output o) (omega arith)))
+      rw (
+        all-append t (map (λ p. pair (p / ports) (p % ports)) (upFrom 0 (ports * ports))) (map input (upFrom 0 ports) ++ map output (upFrom 0 ports)),
+        all-append t (map input (upFrom 0 ports)) (map output (upFrom 0 ports)),
+        all-yes t (λ p. pair (p / ports) (p % ports)) 0 (ports * ports) (λ p _ k. h (pair (p / ports) (p % ports)) (position-of p (omega arith))),
+        all-yes t input 0 ports (λ i _ k. h (input i) (omega arith)),
+      ) (all-yes t output 0 ports (λ o _ k. h (output o) (omega arith)))
 
   both-no : (a b : Bool) → b ≡ false → both a b ≡ false
   both-no true b e = e
@@ -64,8 +66,10 @@ module _ (ports : ℕ) (t : Class → Bool) where
 
   pub some-class : (c : Class) → Of ports c → t c ≡ false → all t (classes ports) ≡ false
   some-class c of e =
-      rw (all-append t (map (λ p. pair (p / ports) (p % ports)) (upFrom 0 (ports * ports))) (map input (upFrom 0 ports) ++ map output (upFrom 0 ports)),
-      all-append t (map input (upFrom 0 ports)) (map output (upFrom 0 ports))) (by c of e)
+      rw (
+        all-append t (map (λ p. pair (p / ports) (p % ports)) (upFrom 0 (ports * ports))) (map input (upFrom 0 ports) ++ map output (upFrom 0 ports)),
+        all-append t (map input (upFrom 0 ports)) (map output (upFrom 0 ports)),
+      ) (by c of e)
     where
       ps : Bool
       ps = all t (map (λ p. pair (p / ports) (p % ports)) (upFrom 0 (ports * ports)))

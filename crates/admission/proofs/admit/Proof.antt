@@ -26,10 +26,11 @@ returns-3 : tie.Need-returns-3
 unfolding admitted
 returns-3 c =
     let tested = c .before .before .before .before in
-    rw
-    (sym (tested .before .outside .ensures) ∙ tested .if1 .left,
-     sym (c .before .before .before .bad-slots .ensures) ∙ c .before .before .if2 .left,
-     sym (c .before .bad-length .ensures) ∙ c .if3 .taken)
+    rw (
+      sym (tested .before .outside .ensures) ∙ tested .if1 .left,
+      sym (c .before .before .before .bad-slots .ensures) ∙ c .before .before .if2 .left,
+      sym (c .before .bad-length .ensures) ∙ c .if3 .taken,
+    )
 
 overload-requires : tie.Need-overload-requires
 overload-requires c κs =
@@ -45,10 +46,11 @@ returns-4 : tie.Need-returns-4
 unfolding admitted
 returns-4 c =
     let tested = c .before .before .before .before .before in
-    rw
-    (sym (tested .before .outside .ensures) ∙ tested .if1 .left,
-     sym (c .before .before .before .before .bad-slots .ensures) ∙ c .before .before .before .if2 .left,
-     sym (c .before .before .bad-length .ensures) ∙ c .before .if3 .left)
+    rw (
+      sym (tested .before .outside .ensures) ∙ tested .if1 .left,
+      sym (c .before .before .before .before .bad-slots .ensures) ∙ c .before .before .before .if2 .left,
+      sym (c .before .before .bad-length .ensures) ∙ c .before .if3 .left,
+    )
     (c .overload .ensures)
 
 pub admit-spec : {M : Type 1} → statement M

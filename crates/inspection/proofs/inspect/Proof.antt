@@ -1,65 +1,77 @@
-use native.Mathlib.Omega.{arith}
+use mathlib.Core.Path.{sym, _∙_}
+use borrow.Author.Tests.{not-false, eqb-true, eqb-false}
+use Rattle.model.specs.Inspect.{inspected}
+use Rattle.model.proofs.Reports.{within-known, slots-known}
+use Rattle.inspection.proofs.Faults.{lent}
 use borrow.Author.Needs.{needs}
+use native.Mathlib.Omega.{arith}
 use Rattle.inspection.proofs.inspect.Statement.{statement}
 use Rattle.inspection.proofs.inspect.Tie as tie
-use Rattle.inspection.proofs.inspect.Reads as reads
-use Rattle.inspection.proofs.inspect.Lts as lts
-use Rattle.admission.proofs.bad_length.Reads as bad-length-reads
-use Rattle.admission.proofs.bad_slots.Reads as bad-slots-reads
-use Rattle.admission.proofs.outside.Reads as outside-reads
-use Rattle.inspection.proofs.first_fault.Reads as first-fault-reads
 
--- src/lib.rt:269:8
-outside-requires : tie.Need-outside-requires
-outside-requires c κs = search needs
-
--- src/lib.rt:270:9
 returns : tie.Need-returns
-returns c = search needs
+unfolding inspected
+returns c = rw (sym (c .before .outside .ensures) ∙ c .if1 .taken)
 
--- src/lib.rt:272:8
-bad-slots-requires : tie.Need-bad-slots-requires
-bad-slots-requires c κs = search needs
-
--- src/lib.rt:273:9
 returns-2 : tie.Need-returns-2
-returns-2 c = search needs
+unfolding inspected
+returns-2 c =
+    rw (sym (c .before .before .before .outside .ensures) ∙ c .before .before .if1 .left, sym (c .before .bad-slots .ensures) ∙ c .if2 .taken)
 
--- src/lib.rt:275:8
-bad-length-requires : tie.Need-bad-length-requires
-bad-length-requires c κs = search needs
-
--- src/lib.rt:276:9
 returns-3 : tie.Need-returns-3
-returns-3 c = search needs
+unfolding inspected
+returns-3 c =
+    let tested = c .before .before .before .before in
+    rw (
+      sym (tested .before .outside .ensures) ∙ tested .if1 .left,
+      sym (c .before .before .before .bad-slots .ensures) ∙ c .before .before .if2 .left,
+      sym (c .before .bad-length .ensures) ∙ c .if3 .taken,
+    )
 
--- src/lib.rt:278:8
-bad-length-requires-2 : tie.Need-bad-length-requires-2
-bad-length-requires-2 c κs = search needs
-
--- src/lib.rt:279:9
 returns-4 : tie.Need-returns-4
-returns-4 c = search needs
+unfolding inspected
+returns-4 c =
+    let first = c .before .before .before .before .before .before in
+    let second = c .before .before .before .before in
+    rw (
+      sym (first .before .outside .ensures) ∙ first .if1 .left,
+      sym (second .before .bad-slots .ensures) ∙ second .if2 .left,
+      sym (c .before .before .before .bad-length .ensures) ∙ c .before .before .if3 .left,
+      sym (c .before .bad-length2 .ensures) ∙ c .if4 .taken,
+    )
 
--- src/lib.rt:281:5
-first-fault-requires : tie.Need-first-fault-requires
-first-fault-requires c κs = search needs
-
--- src/lib.rt:266:1
 returns-5 : tie.Need-returns-5
-returns-5 c = search needs
+unfolding inspected
+returns-5 c =
+    let first = c .before .before .before .before .before .before .before in
+    let second = c .before .before .before .before .before in
+    let third = c .before .before .before in
+    rw (
+      sym (first .before .outside .ensures) ∙ first .if1 .left,
+      sym (second .before .bad-slots .ensures) ∙ second .if2 .left,
+      sym (third .before .bad-length .ensures) ∙ third .if3 .left,
+      sym (c .before .before .bad-length2 .ensures) ∙ c .before .if4 .left,
+    )
+    (c .first-fault .ensures)
 
 pub inspect-spec : {M : Type 1} → statement M
 inspect-spec =
     tie.close
     (tie.spec
-    outside-requires
+    (λ c κs. search needs)
     returns
-    bad-slots-requires
+    (λ c κs. search needs)
     returns-2
-    bad-length-requires
+    (λ c κs. let ports = within-known (c .before .before .before .outside .ensures) (c .before .before .if1 .left) in (omega arith, ports .1))
     returns-3
-    bad-length-requires-2
+    (λ c κs.
+    let first = c .before .before .before .before in
+    let ports = within-known (first .before .outside .ensures) (first .if1 .left) in
+    let slots = slots-known (c .before .before .before .bad-slots .ensures) (c .before .before .if2 .left) in
+    (slots .1, ports .1))
     returns-4
-    first-fault-requires
+    (λ c κs.
+    let first = c .before .before .before .before .before .before in
+    let second = c .before .before .before .before in
+    lent _ _ _ _ _ _ _ _ (first .before .outside .ensures) (first .if1 .left) (second .before .bad-slots .ensures) (second .if2 .left)
+    (c .before .before .before .bad-length .ensures) (c .before .before .if3 .left) (c .before .bad-length2 .ensures) (c .if4 .left))
     returns-5)
