@@ -21,4 +21,5 @@ pub mod Tight
 pub mod Overloads
 pub mod Reports
 pub mod Inspected
+pub mod Clean
 pub mod Bench
