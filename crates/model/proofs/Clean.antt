@@ -177,8 +177,12 @@ module _ (ports slots : ℕ) (m bytes : List ℕ) (w : WellFormed ports slots m)
   sound-clean l b =
       let n = no-fault-of l in
       inspected-is
-      ∙ rw (none-yes (tooLarge ports bytes) (slots * ports) (n .0), none-yes (usedTwice ports bytes) (slots * ports) (n .1), none-yes (wrongCount ports m bytes) (ports * ports) (n .2),
-      none-yes (unbalancedAt ports slots bytes) k (no-unbalanced b))
+      ∙ rw (
+        none-yes (tooLarge ports bytes) (slots * ports) (n .0),
+        none-yes (usedTwice ports bytes) (slots * ports) (n .1),
+        none-yes (wrongCount ports m bytes) (ports * ports) (n .2),
+        none-yes (unbalancedAt ports slots bytes) k (no-unbalanced b),
+      )
 
   -- ---- faults
   -- An unbalanced block, by its first slot and its size: its halves differ by more than 1 for some class, every larger
