@@ -1,0 +1,35 @@
+//! Random loads, frames and sheets, the same for the same seed.
+
+#![forbid(unsafe_code)]
+
+/// An enum of kinds, each with the name it goes by in reports.
+#[macro_export]
+macro_rules! kinds {
+    ($(#[$note:meta])* $name:ident { $($case:ident = $text:literal,)* }) => {
+        $(#[$note])*
+        #[derive(Clone, Copy, Debug, PartialEq, Eq)]
+        pub enum $name {
+            $($case,)*
+        }
+
+        impl $name {
+            pub const ALL: &'static [$name] = &[$($name::$case,)*];
+
+            pub fn name(self) -> &'static str {
+                match self {
+                    $($name::$case => $text,)*
+                }
+            }
+        }
+    };
+}
+
+mod damage;
+mod load;
+mod random;
+mod sheet;
+
+pub use damage::{damage, Damage};
+pub use load::{full_load, junk_number, load, load_of_shape, random_shape, Call, LoadKind, Shape};
+pub use random::Random;
+pub use sheet::{sheet, SheetKind};

@@ -1,0 +1,374 @@
+//! Loads of every kind a switch may be handed.
+
+use crate::random::Random;
+
+/// What a Build call is given, besides the bytes in its buffer.
+#[derive(Clone, Debug, PartialEq, Eq)]
+pub struct Call {
+    pub ports: u64,
+    pub slots: u64,
+    pub matrix: Vec<u16>,
+    pub frame_length: usize,
+}
+
+/// Ports and slots within the switch's limits.
+#[derive(Clone, Copy, Debug, PartialEq, Eq)]
+pub struct Shape {
+    pub ports: usize,
+    pub slots: usize,
+}
+
+impl Shape {
+    pub fn frame_length(self) -> usize {
+        self.ports * self.slots
+    }
+}
+
+kinds! {
+    /// How the counts of a load are laid out.
+    LoadKind {
+        Zero = "zero",
+        Full = "full",
+        Sparse = "sparse",
+        Scattered = "scattered",
+        SinglePair = "single-pair",
+        OwnNumber = "own-number",
+        Permutation = "permutation",
+        Staircase = "staircase",
+        CyclicBand = "cyclic-band",
+        AllOdd = "all-odd",
+        InputOverByOne = "input-over-by-one",
+        OutputOverByOne = "output-over-by-one",
+        InputOverByMuch = "input-over-by-much",
+        OutputOverByMuch = "output-over-by-much",
+        SixteenBitWrap = "sixteen-bit-wrap",
+        Junk = "junk",
+    }
+}
+
+impl LoadKind {
+    /// Kinds that are never refused.
+    pub const FITTING: [LoadKind; 10] = [
+        LoadKind::Zero,
+        LoadKind::Full,
+        LoadKind::Sparse,
+        LoadKind::Scattered,
+        LoadKind::SinglePair,
+        LoadKind::OwnNumber,
+        LoadKind::Permutation,
+        LoadKind::Staircase,
+        LoadKind::CyclicBand,
+        LoadKind::AllOdd,
+    ];
+
+    /// Fitting kinds with long chains of partners.
+    pub const CHAINED: [LoadKind; 3] =
+        [LoadKind::Staircase, LoadKind::CyclicBand, LoadKind::AllOdd];
+
+    /// Kinds that ask a port for more cells than there are slots.
+    pub const OVERLOADED: [LoadKind; 5] = [
+        LoadKind::InputOverByOne,
+        LoadKind::OutputOverByOne,
+        LoadKind::InputOverByMuch,
+        LoadKind::OutputOverByMuch,
+        LoadKind::SixteenBitWrap,
+    ];
+}
+
+/// A shape with every number of ports and every power of two alike.
+pub fn random_shape(random: &mut Random) -> Shape {
+    Shape {
+        ports: random.between(1, 16) as usize,
+        slots: 1 << random.between(0, 10),
+    }
+}
+
+/// A load of the kind, in a random shape on which the kind exists.
+pub fn load(kind: LoadKind, random: &mut Random) -> Call {
+    let mut shape = random_shape(random);
+    match kind {
+        LoadKind::OutputOverByOne | LoadKind::OutputOverByMuch | LoadKind::SixteenBitWrap => {
+            shape.ports = shape.ports.max(2);
+        }
+        LoadKind::Staircase | LoadKind::CyclicBand => shape.slots = shape.slots.max(2),
+        LoadKind::AllOdd => shape.slots = shape.slots.max(shape.ports.next_power_of_two()),
+        _ => {}
+    }
+    load_of_shape(kind, shape, random)
+}
+
+/// A load of the kind in this shape, or the nearest to it that the shape allows.
+pub fn load_of_shape(kind: LoadKind, shape: Shape, random: &mut Random) -> Call {
+    let mut grid = Grid::new(shape);
+    match kind {
+        LoadKind::Zero => {}
+        LoadKind::Full => grid.add_permutations(shape.slots, random),
+        LoadKind::Sparse => grid.scatter(shape.ports, random),
+        LoadKind::Scattered => grid.scatter(shape.ports * shape.ports, random),
+        LoadKind::SinglePair => grid.scatter(1, random),
+        LoadKind::OwnNumber => grid.add_band(0, 1),
+        LoadKind::Permutation => {
+            let count = random.between(1, shape.slots as u64) as u16;
+            grid.add_band(0, count);
+            grid.reorder(random);
+        }
+        LoadKind::Staircase => grid.add_staircase(random),
+        LoadKind::CyclicBand => grid.add_odd_bands(random),
+        LoadKind::AllOdd => grid.add_all_odd(random),
+        LoadKind::InputOverByOne => grid.overload_input_by_one(random),
+        LoadKind::OutputOverByOne => grid.overload_output_by_one(random),
+        LoadKind::InputOverByMuch => grid.overload_inputs(random),
+        LoadKind::OutputOverByMuch => grid.overload_output(random),
+        LoadKind::SixteenBitWrap => grid.wrap_sixteen_bits(random),
+        LoadKind::Junk => return junk(shape, random),
+    }
+    grid.into_call()
+}
+
+/// A load that gives every port exactly so many cells.
+pub fn full_load(shape: Shape, cells: usize, random: &mut Random) -> Call {
+    let mut grid = Grid::new(shape);
+    grid.add_permutations_of_weight(cells, 1, random);
+    grid.into_call()
+}
+
+/// A matrix under construction, ports counted from 0.
+struct Grid {
+    shape: Shape,
+    counts: Vec<u16>,
+}
+
+impl Grid {
+    fn new(shape: Shape) -> Grid {
+        Grid {
+            shape,
+            counts: vec![0; shape.ports * shape.ports],
+        }
+    }
+
+    fn into_call(self) -> Call {
+        Call {
+            ports: self.shape.ports as u64,
+            slots: self.shape.slots as u64,
+            matrix: self.counts,
+            frame_length: self.shape.frame_length(),
+        }
+    }
+
+    fn at(&mut self, input: usize, output: usize) -> &mut u16 {
+        &mut self.counts[input * self.shape.ports + output]
+    }
+
+    /// Adds so many cells to every port, in permutations of small, middling or great weight.
+    fn add_permutations(&mut self, cells: usize, random: &mut Random) {
+        let heaviest = random.pick(&[1, 5, cells.max(1)]);
+        self.add_permutations_of_weight(cells, heaviest, random);
+    }
+
+    fn add_permutations_of_weight(&mut self, cells: usize, heaviest: usize, random: &mut Random) {
+        let mut left = cells;
+        while left > 0 {
+            let weight = random.between(1, heaviest.min(left) as u64) as usize;
+            for (input, output) in random.permutation(self.shape.ports).into_iter().enumerate() {
+                *self.at(input, output) += weight as u16;
+            }
+            left -= weight;
+        }
+    }
+
+    /// Gives random pairs a random part of the room their two ports have left.
+    fn scatter(&mut self, pairs: usize, random: &mut Random) {
+        let ports = self.shape.ports;
+        let mut input_room = vec![self.shape.slots; ports];
+        let mut output_room = input_room.clone();
+        for place in random.permutation(ports * ports).into_iter().take(pairs) {
+            let (input, output) = (place / ports, place % ports);
+            let room = input_room[input].min(output_room[output]);
+            let count = random.between(0, room as u64) as usize;
+            self.counts[place] = count as u16;
+            input_room[input] -= count;
+            output_room[output] -= count;
+        }
+    }
+
+    /// Gives every input so many cells to the output this far along from its own number.
+    fn add_band(&mut self, offset: usize, count: u16) {
+        for input in 0..self.shape.ports {
+            *self.at(input, (input + offset) % self.shape.ports) += count;
+        }
+    }
+
+    /// Two odd counts at each port, in one chain through all of them.
+    fn add_staircase(&mut self, random: &mut Random) {
+        let most = (self.shape.slots as u64 / 2).max(1);
+        let last = self.shape.ports - 1;
+        for input in 0..self.shape.ports {
+            *self.at(input, input) = random_odd(most, random);
+            if input < last && self.shape.slots > 1 {
+                *self.at(input, input + 1) = random_odd(most, random);
+            }
+        }
+        if random.one_in(2) {
+            self.reorder(random);
+        }
+    }
+
+    /// Bands of odd counts around the matrix, each port in all of them.
+    fn add_odd_bands(&mut self, random: &mut Random) {
+        let most = self.shape.ports.min(self.shape.slots) as u64;
+        let width = random.between(most.min(2), most) as usize;
+        let mut room = self.shape.slots - width;
+        for offset in 0..width {
+            let extra = random.between(0, room as u64 / 2) as usize;
+            self.add_band(offset, (1 + 2 * extra) as u16);
+            room -= 2 * extra;
+        }
+        if random.one_in(2) {
+            self.reorder(random);
+        }
+    }
+
+    /// Every count odd, where the frame has a slot for each.
+    fn add_all_odd(&mut self, random: &mut Random) {
+        let Some(room) = self.shape.slots.checked_sub(self.shape.ports) else {
+            return self.add_odd_bands(random);
+        };
+        let couples = random.between(0, room as u64 / 2) as usize;
+        self.add_permutations(couples, random);
+        for count in &mut self.counts {
+            *count = 2 * *count + 1;
+        }
+    }
+
+    /// Puts inputs and outputs in random order, so that chains begin anywhere.
+    fn reorder(&mut self, random: &mut Random) {
+        let ports = self.shape.ports;
+        let (inputs, outputs) = (random.permutation(ports), random.permutation(ports));
+        let before = self.counts.clone();
+        for input in 0..ports {
+            for output in 0..ports {
+                *self.at(inputs[input], outputs[output]) = before[input * ports + output];
+            }
+        }
+    }
+
+    /// A full load with a cell moved along its column to another input.
+    fn overload_input_by_one(&mut self, random: &mut Random) {
+        self.add_permutations(self.shape.slots, random);
+        let (from, to) = self.move_one_cell(random);
+        let ports = self.shape.ports;
+        self.counts[from] -= u16::from(ports > 1);
+        *self.at(to / ports, from % ports) += 1;
+    }
+
+    /// A full load with a cell moved along its row to another output.
+    fn overload_output_by_one(&mut self, random: &mut Random) {
+        self.add_permutations(self.shape.slots, random);
+        let (from, to) = self.move_one_cell(random);
+        let ports = self.shape.ports;
+        self.counts[from] -= u16::from(ports > 1);
+        *self.at(from / ports, to % ports) += 1;
+    }
+
+    /// A place with a cell to give, and one in another row and another column.
+    fn move_one_cell(&self, random: &mut Random) -> (usize, usize) {
+        let ports = self.shape.ports;
+        let holding = random.permutation(ports * ports);
+        let from = holding.into_iter().find(|&place| self.counts[place] > 0);
+        let from = from.unwrap_or(0);
+        let further = |port: usize, random: &mut Random| {
+            (port + random.between(1, (ports as u64 - 1).max(1)) as usize) % ports
+        };
+        let input = further(from / ports, random);
+        (from, input * ports + further(from % ports, random))
+    }
+
+    /// Some inputs with counts of any size up to the largest there is.
+    fn overload_inputs(&mut self, random: &mut Random) {
+        let most = random.pick(&[65_535, 2_000, self.shape.slots as u64 + 1]);
+        for _ in 0..random.between(1, 3) {
+            let input = random.place(self.shape.ports);
+            for output in 0..self.shape.ports {
+                *self.at(input, output) = random.between(0, most) as u16;
+            }
+        }
+    }
+
+    /// One output with counts that each fit the frame but not together.
+    fn overload_output(&mut self, random: &mut Random) {
+        let output = random.place(self.shape.ports);
+        let slots = self.shape.slots as u64;
+        for input in 0..self.shape.ports {
+            *self.at(input, output) = random.between(slots.div_ceil(2), slots) as u16;
+        }
+    }
+
+    /// Four counts whose rows and columns come to 65,536 and a little.
+    fn wrap_sixteen_bits(&mut self, random: &mut Random) {
+        let ports = self.shape.ports as u64;
+        if ports < 2 {
+            return self.overload_inputs(random);
+        }
+        let input = random.between(0, ports - 2) as usize;
+        let output = random.between(0, ports - 2) as usize;
+        let little = random.between(0, self.shape.slots as u64 / 2);
+        let large = random.between(little + 1, 65_535);
+        let rest = 65_536 + little - large;
+        for (down, along) in [(0, 0), (0, 1), (1, 0), (1, 1)] {
+            let count = if down == along { large } else { rest };
+            *self.at(input + down, output + along) = count as u16;
+        }
+    }
+}
+
+/// An odd number not above the most given.
+fn random_odd(most: u64, random: &mut Random) -> u16 {
+    (1 + 2 * random.below(most.div_ceil(2))) as u16
+}
+
+/// A number that is often just past a limit or loses its high bits when cut short.
+pub fn junk_number(good: u64, random: &mut Random) -> u64 {
+    let power = 1 << random.pick(&[8, 16, 32, 63]);
+    match random.below(6) {
+        0 => random.pick(&[0, 3, 17, 2_048, 1 << 16, 1 << 32, u64::MAX]),
+        1 => power,
+        2 => good.wrapping_add(power),
+        3 => good.wrapping_add(1),
+        4 => random.draw() >> random.below(64),
+        _ => random.between(0, 32),
+    }
+}
+
+/// A call whose ports, slots, lengths and counts may each be wrong.
+fn junk(shape: Shape, random: &mut Random) -> Call {
+    let kind = random.pick(&[
+        LoadKind::Scattered,
+        LoadKind::InputOverByMuch,
+        LoadKind::Full,
+    ]);
+    let mut call = load_of_shape(kind, shape, random);
+    if random.one_in(4) {
+        call.ports = junk_number(call.ports, random);
+    }
+    if random.one_in(4) {
+        call.slots = junk_number(call.slots, random);
+    }
+    if random.one_in(4) {
+        let length = junk_length(call.matrix.len(), 257, random);
+        call.matrix.resize_with(length, || random.draw() as u16);
+    }
+    if random.one_in(3) {
+        call.frame_length = junk_length(call.frame_length, 16_385, random);
+    }
+    call
+}
+
+/// A length near the good one, nothing, or any up to the most given.
+fn junk_length(good: usize, most: u64, random: &mut Random) -> usize {
+    match random.below(4) {
+        0 => good + 1,
+        1 => good.saturating_sub(1),
+        2 => 0,
+        _ => random.between(0, most) as usize,
+    }
+}

@@ -1,0 +1,20 @@
+//! The plain builder and the reference build the same frames.
+
+use loads::{load, LoadKind, Random};
+
+#[test]
+fn same_frames_on_random_loads() {
+    let mut random = Random::new(7);
+    for &kind in LoadKind::ALL {
+        for _ in 0..60 {
+            let call = load(kind, &mut random);
+            let mut right = random.bytes(call.frame_length);
+            let mut frame = right.clone();
+            let answer = reference::build(call.ports, call.slots, &call.matrix, &mut right);
+            let (ports, slots) = (call.ports as usize, call.slots as usize);
+            let built = plain::build(ports, slots, &call.matrix, &mut frame);
+            assert_eq!(built, answer.is_ok(), "{kind:?} {ports} {slots}");
+            assert_eq!(frame, right, "{kind:?} {ports} {slots}");
+        }
+    }
+}

@@ -1,0 +1,18 @@
+//! A second frame builder, written from the rules alone, to test others against.
+
+#![forbid(unsafe_code)]
+
+mod admission;
+mod build;
+mod inspect;
+mod query;
+mod refusal;
+mod sheet;
+pub mod wire;
+
+pub use admission::admit;
+pub use build::build;
+pub use inspect::{inspect, Inspection};
+pub use query::{service_count, slot_view, Class, LONGEST_RUN};
+pub use refusal::Refusal;
+pub use sheet::{respond, LONGEST_SHEET};

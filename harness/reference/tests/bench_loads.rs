@@ -1,0 +1,183 @@
+//! The bench loads of the paper, worked by hand.
+
+use reference::wire::{self, Frame, Run};
+use reference::{
+    admit, build, inspect, respond, service_count, slot_view, Class, Inspection, Refusal,
+};
+
+const TABLE_7: [u16; 16] = [2, 2, 0, 0, 0, 0, 0, 0, 0, 0, 0, 0, 1, 1, 0, 2];
+
+const TABLE_7_FRAME: [u8; 16] = [1, 0, 0, 4, 2, 0, 0, 1, 1, 0, 0, 2, 2, 0, 0, 4];
+
+const TABLE_7_SHEET: &str = "(ports 4)
+(slots 4)
+(pair (in 1) (out 1) (cells 2))
+(pair (in 1) (out 2) (cells 2))
+(pair (in 4) (out 1) (cells 1))
+(pair (in 4) (out 2) (cells 1))
+(pair (in 4) (out 4) (cells 2))
+";
+
+const TABLE_7_PRINTED: &str = "(frame (ports 4) (slots 4))
+(slot 1 (1 1) (4 4))
+(slot 2 (1 2) (4 1))
+(slot 3 (1 1) (4 2))
+(slot 4 (1 2) (4 4))
+";
+
+/// Builds into a buffer of other bytes and has the frame inspected.
+fn built(ports: u64, slots: u64, matrix: &[u16]) -> Result<Vec<u8>, Refusal> {
+    let mut frame = vec![0xa5; (ports * slots) as usize];
+    let answer = build(ports, slots, matrix, &mut frame);
+    assert_eq!(answer, admit(ports, slots, matrix));
+    if answer.is_err() {
+        assert!(frame.iter().all(|&byte| byte == 0xa5));
+    } else {
+        assert_eq!(inspect(ports, slots, matrix, &frame), Inspection::Clean);
+    }
+    answer.map(|()| frame)
+}
+
+#[test]
+fn one_port_one_slot() {
+    assert_eq!(built(1, 1, &[1]), Ok(vec![1]));
+}
+
+#[test]
+fn three_cells_in_four_slots() {
+    assert_eq!(built(1, 4, &[3]), Ok(vec![1, 1, 1, 0]));
+}
+
+#[test]
+fn two_ports_all_ones() {
+    assert_eq!(built(2, 2, &[1, 1, 1, 1]), Ok(vec![1, 2, 2, 1]));
+}
+
+#[test]
+fn own_numbers_all_in_slot_1() {
+    let matrix = [1, 0, 0, 0, 0, 1, 0, 0, 0, 0, 1, 0, 0, 0, 0, 1];
+    let mut frame = vec![0; 16];
+    frame[..4].copy_from_slice(&[1, 2, 3, 4]);
+    assert_eq!(built(4, 4, &matrix), Ok(frame));
+}
+
+#[test]
+fn table_7() {
+    assert_eq!(built(4, 4, &TABLE_7), Ok(TABLE_7_FRAME.to_vec()));
+    assert_eq!(
+        respond(TABLE_7_SHEET.as_bytes()),
+        TABLE_7_PRINTED.as_bytes()
+    );
+}
+
+#[test]
+fn overloaded_input() {
+    let refusal = Refusal::InputLoad { port: 1, cells: 5 };
+    assert_eq!(built(2, 4, &[3, 2, 0, 0]), Err(refusal));
+    assert_eq!(refusal.numbers(), [5, 1, 5]);
+    assert_eq!(built(2, 4, &[2, 2, 0, 0]), Ok(vec![1, 0, 2, 0, 1, 0, 2, 0]));
+}
+
+#[test]
+fn overloaded_output() {
+    let refusal = Refusal::OutputLoad { port: 1, cells: 5 };
+    assert_eq!(built(2, 4, &[3, 0, 2, 0]), Err(refusal));
+    assert_eq!(refusal.numbers(), [6, 1, 5]);
+}
+
+#[test]
+fn overloaded_pair_is_refused_for_its_input() {
+    let refusal = Refusal::InputLoad { port: 1, cells: 5 };
+    assert_eq!(built(2, 4, &[5, 0, 0, 0]), Err(refusal));
+}
+
+#[test]
+fn count_across_the_end_of_the_frame() {
+    let class = Class::Pair {
+        input: 4,
+        output: 4,
+    };
+    assert_eq!(service_count(4, 4, &TABLE_7_FRAME, class, 4, 2), Ok(2));
+
+    let frame = Frame {
+        ports: 4,
+        slots: 4,
+        matrix: TABLE_7.to_vec(),
+        bytes: TABLE_7_FRAME.to_vec(),
+    };
+    let chain = [frame.clone(), frame];
+    let run = Run {
+        start: 3,
+        length: 2,
+    };
+    assert_eq!(wire::cells(&chain, class, run), 2);
+    assert_eq!(wire::share_sum(&chain, class, run), 4);
+    assert_eq!(wire::bound(4), 5 * 4);
+    assert_eq!(wire::difference(&chain, class, run), 3 * 4);
+    assert!(wire::has_its_share(&chain, class, run));
+}
+
+#[test]
+fn idle_loads_and_empty_runs() {
+    for ports in 1..=16 {
+        for k in 0..=10 {
+            let matrix = vec![0; (ports * ports) as usize];
+            let frame = built(ports, 1 << k, &matrix).unwrap();
+            assert!(frame.iter().all(|&byte| byte == 0));
+        }
+    }
+    for class in [Class::Input { port: 1 }, Class::Output { port: 4 }] {
+        assert_eq!(service_count(4, 4, &TABLE_7_FRAME, class, 3, 0), Ok(0));
+    }
+}
+
+#[test]
+fn limits_of_slots_and_ports() {
+    assert_eq!(built(1, 3, &[0]), Err(Refusal::Slots));
+    assert!(built(1, 1_024, &[1_024]).is_ok());
+    assert_eq!(built(1, 2_048, &[0]), Err(Refusal::Slots));
+    assert!(built(16, 1, &[0; 256]).is_ok());
+    assert_eq!(built(17, 1, &[0; 289]), Err(Refusal::Ports));
+    assert_eq!(built(0, 1, &[]), Err(Refusal::Ports));
+}
+
+#[test]
+fn seam_reaches_the_bound_exactly() {
+    let loads = [vec![0, 1, 0, 0], vec![1, 1, 0, 0]];
+    let chain = loads.map(|matrix| Frame {
+        ports: 2,
+        slots: 2,
+        bytes: built(2, 2, &matrix).unwrap(),
+        matrix,
+    });
+    let class = Class::Pair {
+        input: 1,
+        output: 2,
+    };
+    let run = Run {
+        start: 1,
+        length: 2,
+    };
+    assert!(wire::is_chain(&chain));
+    assert_eq!(wire::cells(&chain, class, run), 0);
+    assert_eq!(wire::share_sum(&chain, class, run), 2);
+    assert_eq!(wire::difference(&chain, class, run), -6);
+    assert_eq!(wire::bound(2), 6);
+    assert!(wire::has_its_share(&chain, class, run));
+    assert_eq!(wire::furthest_run(&chain, class), run);
+    // Each frame's share, a half, rounded down would hide the whole difference.
+    let rounded: u128 = chain
+        .iter()
+        .map(|frame| u128::from(frame.matrix[1]) / 2)
+        .sum();
+    assert_eq!(rounded, wire::cells(&chain, class, run));
+}
+
+#[test]
+fn each_slot_of_the_sheet_frame() {
+    for slot in 1..=4 {
+        let range = slot_view(4, 4, &TABLE_7_FRAME, slot).unwrap();
+        assert_eq!(range.end as u64, 4 * slot);
+        assert_eq!(range.len(), 4);
+    }
+}

@@ -1,0 +1,28 @@
+//! A chain longer than any run Service count takes.
+
+use reference::wire::{self, Frame, Run};
+use reference::{build, Class, LONGEST_RUN};
+
+#[test]
+fn demand_3_over_more_than_a_million_slots() {
+    let (ports, slots) = (2, 1_024);
+    let matrix = vec![341, 682, 683, 341];
+    let mut bytes = vec![0; (ports * slots) as usize];
+    build(ports, slots, &matrix, &mut bytes).unwrap();
+    let frame = Frame {
+        ports,
+        slots,
+        matrix,
+        bytes,
+    };
+    let chain = vec![frame; 1_000];
+    let run = Run {
+        start: 700,
+        length: LONGEST_RUN as usize + 11,
+    };
+    for port in 1..=ports {
+        for class in [Class::Input { port }, Class::Output { port }] {
+            assert!(wire::has_its_share(&chain, class, run));
+        }
+    }
+}

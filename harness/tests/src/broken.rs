@@ -1,0 +1,386 @@
+//! Builders that must be sent back, each the reference with one call replaced.
+
+use frame_builder::{Answer, Calls, Class, Inspection, Reference, Refusal, Service, SheetProgram};
+
+type AdmitCall = fn(u64, u64, &[u16]) -> Answer;
+type BuildCall = fn(u64, u64, &[u16], &mut [u8]) -> Answer;
+type InspectCall = fn(u64, u64, &[u16], &[u8]) -> Inspection;
+type ViewCall = for<'f> fn(u64, u64, &'f [u8], u64, &mut u64) -> &'f [u8];
+type CountCall = fn(u64, u64, &[u8], Class, u64, u64) -> Service;
+
+/// A builder made up of calls from different hands.
+pub struct Broken {
+    pub admit: AdmitCall,
+    pub build: BuildCall,
+    pub inspect: InspectCall,
+    pub slot_view: ViewCall,
+    pub service_count: CountCall,
+    pub respond: fn(&[u8]) -> Vec<u8>,
+}
+
+impl Default for Broken {
+    /// The reference's own calls, to replace some of.
+    fn default() -> Broken {
+        Broken {
+            admit: reference::admit,
+            build: reference::build,
+            inspect: reference::inspect,
+            slot_view: right_view,
+            service_count: reference::service_count,
+            respond: reference::respond,
+        }
+    }
+}
+
+impl Calls for Broken {
+    fn admit(&self, ports: u64, slots: u64, matrix: &[u16]) -> Answer {
+        (self.admit)(ports, slots, matrix)
+    }
+
+    fn build(&self, ports: u64, slots: u64, matrix: &[u16], frame: &mut [u8]) -> Answer {
+        (self.build)(ports, slots, matrix, frame)
+    }
+
+    fn inspect(&self, ports: u64, slots: u64, matrix: &[u16], frame: &[u8]) -> Inspection {
+        (self.inspect)(ports, slots, matrix, frame)
+    }
+
+    fn slot_view<'f>(
+        &self,
+        ports: u64,
+        slots: u64,
+        frame: &'f [u8],
+        slot: u64,
+        number: &mut u64,
+    ) -> &'f [u8] {
+        (self.slot_view)(ports, slots, frame, slot, number)
+    }
+
+    fn service_count(
+        &self,
+        ports: u64,
+        slots: u64,
+        frame: &[u8],
+        class: Class,
+        start: u64,
+        length: u64,
+    ) -> Service {
+        (self.service_count)(ports, slots, frame, class, start, length)
+    }
+}
+
+impl SheetProgram for Broken {
+    fn respond(&self, sheet: &[u8]) -> Vec<u8> {
+        (self.respond)(sheet)
+    }
+}
+
+/// Shares a block's matrix between its first and its second half.
+type Splitter = fn(usize, &[u16]) -> [Vec<u16>; 2];
+
+/// Refuses as the reference does, else splits in a way of its own.
+fn build_by(split: Splitter, ports: u64, slots: u64, matrix: &[u16], frame: &mut [u8]) -> Answer {
+    reference::build(ports, slots, matrix, frame)?;
+    fill_block(split, ports as usize, matrix, frame);
+    Ok(())
+}
+
+/// Writes what fits of a block: where two cells claim an input, the later one stays.
+fn fill_block(split: Splitter, ports: usize, matrix: &[u16], block: &mut [u8]) {
+    if block.len() > ports {
+        let [first, second] = split(ports, matrix);
+        let (front, back) = block.split_at_mut(block.len() / 2);
+        fill_block(split, ports, &first, front);
+        fill_block(split, ports, &second, back);
+        return;
+    }
+    for (byte, row) in block.iter_mut().zip(matrix.chunks(ports)) {
+        let sent = row.iter().rposition(|&count| count > 0);
+        *byte = sent.map_or(0, |place| place as u8 + 1);
+    }
+}
+
+/// Halves every count, the extra cell of an odd one going where it is told.
+fn halve(matrix: &[u16], extra_first: impl Fn(usize) -> bool) -> [Vec<u16>; 2] {
+    let half = |first: bool| {
+        let counts = matrix.iter().enumerate();
+        let share = counts.map(|(place, &count)| {
+            let extra = count % 2 == 1 && extra_first(place) == first;
+            count / 2 + u16::from(extra)
+        });
+        share.collect()
+    };
+    [half(true), half(false)]
+}
+
+/// Extra cells all to the first half, pair by pair.
+pub fn extra_to_first_half(ports: u64, slots: u64, matrix: &[u16], frame: &mut [u8]) -> Answer {
+    let split: Splitter = |_, matrix| halve(matrix, |_| true);
+    build_by(split, ports, slots, matrix, frame)
+}
+
+/// Partners at inputs only.
+pub fn partners_at_inputs_only(ports: u64, slots: u64, matrix: &[u16], frame: &mut [u8]) -> Answer {
+    let split: Splitter = |ports, matrix| {
+        let odd_before = |place: usize| {
+            let row = place / ports * ports;
+            matrix[row..place]
+                .iter()
+                .filter(|&count| count % 2 == 1)
+                .count()
+        };
+        halve(matrix, |place| odd_before(place) % 2 == 0)
+    };
+    build_by(split, ports, slots, matrix, frame)
+}
+
+/// A walk along each chain of partners in one direction only.
+pub fn walk_one_way(ports: u64, slots: u64, matrix: &[u16], frame: &mut [u8]) -> Answer {
+    let split: Splitter = |ports, matrix| {
+        let favoured = walk_groups(ports, matrix);
+        halve(matrix, |place| favoured[place] == Some(true))
+    };
+    build_by(split, ports, slots, matrix, frame)
+}
+
+/// Whether each odd count favours the first half, the far side of a chain begun anew.
+fn walk_groups(ports: usize, matrix: &[u16]) -> Vec<Option<bool>> {
+    let mut favoured = vec![None; matrix.len()];
+    for start in (0..matrix.len()).filter(|&place| matrix[place] % 2 == 1) {
+        let mut next = Some(start);
+        let mut steps = 0;
+        while let Some(place) = next.filter(|&place| favoured[place].is_none()) {
+            favoured[place] = Some(steps % 2 == 0);
+            next = partner(ports, matrix, place, steps % 2 == 0);
+            steps += 1;
+        }
+    }
+    favoured
+}
+
+/// A count's partner at its input or at its output.
+fn partner(ports: usize, matrix: &[u16], place: usize, at_input: bool) -> Option<usize> {
+    let shares_port = |other: &usize| match at_input {
+        true => other / ports == place / ports,
+        false => other % ports == place % ports,
+    };
+    let odd: Vec<usize> = (0..matrix.len())
+        .filter(|other| shares_port(other) && matrix[*other] % 2 == 1)
+        .collect();
+    let order = odd.iter().position(|&other| other == place)?;
+    odd.get(order ^ 1).copied()
+}
+
+/// Every group settled the other way round, which gives the right frame read backwards.
+pub fn other_tie(ports: u64, slots: u64, matrix: &[u16], frame: &mut [u8]) -> Answer {
+    reference::build(ports, slots, matrix, frame)?;
+    let mut reversed: Vec<&[u8]> = frame.chunks(ports as usize).collect();
+    reversed.reverse();
+    let reversed = reversed.concat();
+    frame.copy_from_slice(&reversed);
+    Ok(())
+}
+
+/// An idle frame for every load.
+pub fn idle_frame(ports: u64, slots: u64, matrix: &[u16], frame: &mut [u8]) -> Answer {
+    reference::build(ports, slots, matrix, frame)?;
+    frame.fill(0);
+    Ok(())
+}
+
+/// The same frame for every load.
+pub fn fixed_frame(ports: u64, slots: u64, matrix: &[u16], frame: &mut [u8]) -> Answer {
+    reference::build(ports, slots, matrix, frame)?;
+    for (slot, bytes) in frame.chunks_mut(ports as usize).enumerate() {
+        for (input, byte) in bytes.iter_mut().enumerate() {
+            *byte = ((slot + input) % ports as usize) as u8 + 1;
+        }
+    }
+    Ok(())
+}
+
+/// Accepts and leaves the buffer as found.
+pub fn as_found(ports: u64, slots: u64, matrix: &[u16], frame: &mut [u8]) -> Answer {
+    reference::build(ports, slots, matrix, &mut frame.to_vec())
+}
+
+/// Turns all loads away as overloaded.
+pub fn refuse_all(ports: u64, slots: u64, matrix: &[u16], frame: &mut [u8]) -> Answer {
+    reference::build(ports, slots, matrix, &mut frame.to_vec())?;
+    Err(Refusal::InputLoad {
+        port: 1,
+        cells: slots + 1,
+    })
+}
+
+/// Fills the first half of the slots and copies them on.
+pub fn copied_on(ports: u64, slots: u64, matrix: &[u16], frame: &mut [u8]) -> Answer {
+    reference::build(ports, slots, matrix, frame)?;
+    let (front, back) = frame.split_at_mut(frame.len() / 2);
+    if front.len() == back.len() {
+        back.copy_from_slice(front);
+    }
+    Ok(())
+}
+
+/// A legal frame with its cells bunched.
+pub fn bunched(ports: u64, slots: u64, matrix: &[u16], frame: &mut [u8]) -> Answer {
+    reference::build(ports, slots, matrix, frame)?;
+    let mut sorted: Vec<&[u8]> = frame.chunks(ports as usize).collect();
+    sorted.sort();
+    sorted.reverse();
+    let sorted = sorted.concat();
+    frame.copy_from_slice(&sorted);
+    Ok(())
+}
+
+/// Loads added in 16 bits: an overloaded row looks light.
+pub fn sixteen_bit_loads(ports: u64, slots: u64, matrix: &[u16], frame: &mut [u8]) -> Answer {
+    let answer = reference::build(ports, slots, matrix, frame);
+    if answer.is_ok() || answer == Err(Refusal::FrameLength) {
+        return answer;
+    }
+    sixteen_bit_admit(ports, slots, matrix)?;
+    fill_block(
+        |_, matrix| halve(matrix, |_| true),
+        ports as usize,
+        matrix,
+        frame,
+    );
+    Ok(())
+}
+
+/// Admits what looks light in 16 bits.
+pub fn sixteen_bit_admit(ports: u64, slots: u64, matrix: &[u16]) -> Answer {
+    let answer = reference::admit(ports, slots, matrix);
+    let overloaded = answer.is_err_and(|refusal| matches!(refusal.number(), 5 | 6));
+    if overloaded && looks_light(ports as usize, slots, matrix) {
+        return Ok(());
+    }
+    answer
+}
+
+/// Whether no row or column comes to more than slots in 16 bits.
+fn looks_light(ports: usize, slots: u64, matrix: &[u16]) -> bool {
+    let fits = |first: usize, step: usize| {
+        let counts = matrix.iter().skip(first).step_by(step).take(ports);
+        let load = counts.fold(0_u16, |load, &count| load.wrapping_add(count));
+        u64::from(load) <= slots
+    };
+    (0..ports).all(|port| fits(port * ports, 1) && fits(port, ports))
+}
+
+/// Clears the buffer before it looks at the load.
+pub fn clears_before_refusing(ports: u64, slots: u64, matrix: &[u16], frame: &mut [u8]) -> Answer {
+    frame.fill(0);
+    reference::build(ports, slots, matrix, frame)
+}
+
+/// Says clean without looking.
+pub fn always_clean(ports: u64, slots: u64, matrix: &[u16], frame: &[u8]) -> Inspection {
+    match reference::inspect(ports, slots, matrix, frame) {
+        Inspection::Refused(refusal) => Inspection::Refused(refusal),
+        _ => Inspection::Clean,
+    }
+}
+
+/// Passes any legal frame, balanced or not.
+pub fn legal_is_clean(ports: u64, slots: u64, matrix: &[u16], frame: &[u8]) -> Inspection {
+    match reference::inspect(ports, slots, matrix, frame) {
+        Inspection::UnbalancedBlock { .. } => Inspection::Clean,
+        other => other,
+    }
+}
+
+/// The reference's view as a plain function.
+fn right_view<'f>(
+    ports: u64,
+    slots: u64,
+    frame: &'f [u8],
+    slot: u64,
+    number: &mut u64,
+) -> &'f [u8] {
+    Reference.slot_view(ports, slots, frame, slot, number)
+}
+
+/// Empty for a good slot.
+pub fn empty_view<'f>(
+    ports: u64,
+    slots: u64,
+    frame: &'f [u8],
+    slot: u64,
+    number: &mut u64,
+) -> &'f [u8] {
+    &right_view(ports, slots, frame, slot, number)[..0]
+}
+
+/// Shows the slot after the one asked for.
+pub fn neighbour_view<'f>(
+    ports: u64,
+    slots: u64,
+    frame: &'f [u8],
+    slot: u64,
+    number: &mut u64,
+) -> &'f [u8] {
+    let mut ignored = 0;
+    let own = right_view(ports, slots, frame, slot, number);
+    let next = right_view(ports, slots, frame, slot.wrapping_add(1), &mut ignored);
+    if next.is_empty() {
+        own
+    } else {
+        next
+    }
+}
+
+/// Shows the right bytes in a place of their own.
+pub fn copied_view<'f>(
+    ports: u64,
+    slots: u64,
+    frame: &'f [u8],
+    slot: u64,
+    number: &mut u64,
+) -> &'f [u8] {
+    right_view(ports, slots, frame, slot, number)
+        .to_vec()
+        .leak()
+}
+
+/// Leaves the lent number alone unless it refuses.
+pub fn unnumbered_view<'f>(
+    ports: u64,
+    slots: u64,
+    frame: &'f [u8],
+    slot: u64,
+    number: &mut u64,
+) -> &'f [u8] {
+    let before = *number;
+    let view = right_view(ports, slots, frame, slot, number);
+    if *number == 0 {
+        *number = before;
+    }
+    view
+}
+
+/// Counts a run's share of the frame instead of its bytes.
+pub fn share_for_count(
+    ports: u64,
+    slots: u64,
+    frame: &[u8],
+    class: Class,
+    start: u64,
+    length: u64,
+) -> Service {
+    let right = reference::service_count(ports, slots, frame, class, start, length)?;
+    let whole = reference::service_count(ports, slots, frame, class, 1, slots);
+    Ok(whole.map_or(right, |cells| cells * length / slots))
+}
+
+/// Prints nothing for a refused sheet.
+pub fn silent_refusal(sheet: &[u8]) -> Vec<u8> {
+    let response = reference::respond(sheet);
+    if response.starts_with(b"(refused") {
+        Vec::new()
+    } else {
+        response
+    }
+}

@@ -1,0 +1,115 @@
+//! Cases of demand 3: lists of Build calls on one buffer and the chain the wire carries.
+
+use frame_builder::Calls;
+use loads::{load_of_shape, random_shape, Call, LoadKind, Random, Shape};
+use reference::wire::Frame;
+
+use crate::build_case::{build_and_compare, check_shares, lend_bytes, wire_frame};
+use crate::hits::Hits;
+use crate::verdict::Verdict;
+
+loads::kinds! {
+    /// What a list of calls is like.
+    ChainKind {
+        Mixed = "mixed",
+        ShortFrames = "short-frames",
+        Adversarial = "adversarial",
+    }
+}
+
+/// Makes a list of calls on one buffer, then counts runs of the chain.
+pub fn check_chain<B: Calls>(
+    candidate: &B,
+    kind: ChainKind,
+    random: &mut Random,
+    hits: &mut Hits,
+) -> Verdict {
+    let shape = chain_shape(kind, random);
+    let mut buffer = lend_bytes(&random.bytes(shape.frame_length()), random);
+    let mut chain: Vec<Frame> = Vec::new();
+    let mut accepted: Option<Call> = None;
+    for _ in 0..random.between(1, 12) {
+        let call = next_call(kind, shape, random);
+        let refused = build_and_compare(candidate, &call, &mut buffer, random)?.is_err();
+        hits.add(event_of(refused, accepted.is_some()));
+        if !refused {
+            accepted = Some(call);
+        }
+        let Some(last) = &accepted else { continue };
+        let times = times_carried(last, shape, refused, random, hits);
+        let frame = wire_frame(last, buffer.part());
+        chain.extend(std::iter::repeat_n(frame, times));
+    }
+    check_shares(&chain, 8, random, hits)
+}
+
+/// The one shape of all the frames a chain carries.
+fn chain_shape(kind: ChainKind, random: &mut Random) -> Shape {
+    let mut shape = random_shape(random);
+    if kind == ChainKind::ShortFrames {
+        shape.slots = 1 << random.between(0, 3);
+    }
+    shape
+}
+
+/// A call that fits, is overloaded, is junk, or asks for another shape of the same length.
+fn next_call(kind: ChainKind, shape: Shape, random: &mut Random) -> Call {
+    match random.below(10) {
+        0 | 1 => load_of_shape(random.pick(&LoadKind::OVERLOADED), shape, random),
+        2 => load_of_shape(LoadKind::Junk, shape, random),
+        3 => load_of_shape(LoadKind::Scattered, other_shape(shape), random),
+        _ if kind == ChainKind::Adversarial => {
+            load_of_shape(random.pick(&LoadKind::CHAINED), shape, random)
+        }
+        _ => load_of_shape(random.pick(&LoadKind::FITTING), shape, random),
+    }
+}
+
+/// A shape whose frames are as long but have other slots, or the same one if there is none.
+fn other_shape(shape: Shape) -> Shape {
+    let wider = Shape {
+        ports: shape.ports * 2,
+        slots: shape.slots / 2,
+    };
+    let narrower = Shape {
+        ports: shape.ports / 2,
+        slots: shape.slots * 2,
+    };
+    if wider.ports <= 16 && wider.slots >= 1 {
+        wider
+    } else if shape.ports.is_multiple_of(2) && narrower.slots <= 1_024 {
+        narrower
+    } else {
+        shape
+    }
+}
+
+/// How often the wire carries the buffer after a call; never in a shape that is not the chain's.
+fn times_carried(
+    last: &Call,
+    shape: Shape,
+    refused: bool,
+    random: &mut Random,
+    hits: &mut Hits,
+) -> usize {
+    if (last.ports, last.slots) != (shape.ports as u64, shape.slots as u64) {
+        hits.add("chain other shape accepted and not carried");
+        return 0;
+    }
+    let times = random.pick(&[0, 1, 1, 2, 3]);
+    if times == 0 {
+        hits.add("chain frame carried no time");
+    } else if refused {
+        hits.add("chain frame carried again after a refusal");
+    }
+    times
+}
+
+/// The name a call goes by in the counts of what was hit.
+fn event_of(refused: bool, accepted_before: bool) -> &'static str {
+    match (refused, accepted_before) {
+        (false, _) => "chain call accepted",
+        (true, true) => "chain call refused",
+        (true, false) => "chain call refused before any accepted",
+    }
+}

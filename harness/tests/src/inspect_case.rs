@@ -1,0 +1,55 @@
+//! Cases of Inspect.
+
+use frame_builder::{Calls, Inspection};
+use loads::{damage, load_of_shape, random_shape, Damage, LoadKind, Random};
+
+use crate::build_case::{lend_bytes, lend_matrix};
+use crate::hits::Hits;
+use crate::verdict::{expect_equal, Verdict};
+
+/// Loads that fit and are dense enough for damage to show.
+const DENSE: [LoadKind; 6] = [
+    LoadKind::Full,
+    LoadKind::Scattered,
+    LoadKind::Permutation,
+    LoadKind::Staircase,
+    LoadKind::CyclicBand,
+    LoadKind::AllOdd,
+];
+
+/// Damages a built frame and holds what Inspect finds against what the reference finds.
+pub fn check_inspection<B: Calls>(
+    candidate: &B,
+    kind: Damage,
+    random: &mut Random,
+    hits: &mut Hits,
+) -> Verdict {
+    let shape = random_shape(random);
+    let mut call = load_of_shape(random.pick(&DENSE), shape, random);
+    let mut frame = vec![0; call.frame_length];
+    let built = reference::build(call.ports, call.slots, &call.matrix, &mut frame);
+    expect_equal("load to damage", &built, &Ok(()))?;
+    damage(kind, shape, &mut call, &mut frame, random);
+
+    let matrix = lend_matrix(&call.matrix, random);
+    let bytes = lend_bytes(&frame, random);
+    let (matrix_before, bytes_before) = (matrix.clone(), bytes.clone());
+    let given = candidate.inspect(call.ports, call.slots, matrix.part(), bytes.part());
+    let right = reference::inspect(call.ports, call.slots, &call.matrix, &frame);
+    hits.add(name_of(right));
+    expect_equal("inspect", &given, &right)?;
+    matrix.expect_same("matrix after inspect", &matrix_before)?;
+    bytes.expect_same("frame after inspect", &bytes_before)
+}
+
+/// The name an inspection goes by in the counts of what was hit.
+fn name_of(inspection: Inspection) -> String {
+    match inspection {
+        Inspection::Clean => "inspect clean".into(),
+        Inspection::ByteTooLarge { .. } => "inspect byte too large".into(),
+        Inspection::OutputTwice { .. } => "inspect output twice".into(),
+        Inspection::PairCount { .. } => "inspect pair count".into(),
+        Inspection::UnbalancedBlock { size, .. } => format!("inspect unbalanced block of {size}"),
+        Inspection::Refused(refusal) => format!("inspect refusal {}", refusal.number()),
+    }
+}

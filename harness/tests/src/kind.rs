@@ -1,0 +1,69 @@
+//! The kinds of random case.
+
+use frame_builder::{Calls, SheetProgram};
+use loads::{Damage, LoadKind, Random, SheetKind};
+
+use crate::build_case::{check_admit, check_build};
+use crate::chain_case::{check_chain, ChainKind};
+use crate::hits::Hits;
+use crate::inspect_case::check_inspection;
+use crate::query_case::{check_count, check_view, RunKind, ViewKind};
+use crate::sheet_case::check_sheet;
+use crate::verdict::Verdict;
+
+/// A call and what it is given.
+#[derive(Clone, Copy, Debug, PartialEq, Eq)]
+pub enum Kind {
+    Admit(LoadKind),
+    Build(LoadKind),
+    Inspect(Damage),
+    View(ViewKind),
+    Count(RunKind),
+    Sheet(SheetKind),
+    Chain(ChainKind),
+}
+
+impl Kind {
+    pub fn all() -> Vec<Kind> {
+        let mut kinds = Vec::new();
+        kinds.extend(LoadKind::ALL.iter().copied().map(Kind::Admit));
+        kinds.extend(LoadKind::ALL.iter().copied().map(Kind::Build));
+        kinds.extend(Damage::ALL.iter().copied().map(Kind::Inspect));
+        kinds.extend(ViewKind::ALL.iter().copied().map(Kind::View));
+        kinds.extend(RunKind::ALL.iter().copied().map(Kind::Count));
+        kinds.extend(SheetKind::ALL.iter().copied().map(Kind::Sheet));
+        kinds.extend(ChainKind::ALL.iter().copied().map(Kind::Chain));
+        kinds
+    }
+
+    pub fn name(self) -> String {
+        let (call, given) = match self {
+            Kind::Admit(kind) => ("admit", kind.name()),
+            Kind::Build(kind) => ("build", kind.name()),
+            Kind::Inspect(kind) => ("inspect", kind.name()),
+            Kind::View(kind) => ("view", kind.name()),
+            Kind::Count(kind) => ("count", kind.name()),
+            Kind::Sheet(kind) => ("sheet", kind.name()),
+            Kind::Chain(kind) => ("chain", kind.name()),
+        };
+        format!("{call}/{given}")
+    }
+
+    /// Runs one case of the kind against the candidate.
+    pub fn check<B: Calls + SheetProgram>(
+        self,
+        candidate: &B,
+        random: &mut Random,
+        hits: &mut Hits,
+    ) -> Verdict {
+        match self {
+            Kind::Admit(kind) => check_admit(candidate, kind, random, hits),
+            Kind::Build(kind) => check_build(candidate, kind, random, hits),
+            Kind::Inspect(kind) => check_inspection(candidate, kind, random, hits),
+            Kind::View(kind) => check_view(candidate, kind, random, hits),
+            Kind::Count(kind) => check_count(candidate, kind, random, hits),
+            Kind::Sheet(kind) => check_sheet(candidate, kind, random, hits),
+            Kind::Chain(kind) => check_chain(candidate, kind, random, hits),
+        }
+    }
+}

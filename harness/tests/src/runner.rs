@@ -1,0 +1,132 @@
+//! Runs the cases, shared out over the processor's cores.
+
+use std::collections::BTreeMap;
+use std::panic::{catch_unwind, AssertUnwindSafe};
+use std::thread;
+
+use frame_builder::{Calls, SheetProgram};
+use loads::Random;
+
+use crate::hits::Hits;
+use crate::kind::Kind;
+use crate::verdict::Verdict;
+
+/// Which cases to run.
+#[derive(Clone, Debug)]
+pub struct Settings {
+    pub seed: u64,
+    /// The number of the first case of each kind.
+    pub first: u64,
+    /// The number of cases of each kind.
+    pub count: u64,
+    /// Only kinds whose name begins with this.
+    pub kind: String,
+}
+
+impl Settings {
+    /// A part of the cases cannot be asked to come upon everything.
+    fn is_whole(&self) -> bool {
+        self.kind.is_empty() && self.first == 0
+    }
+}
+
+/// What the cases came to.
+#[derive(Clone, Debug, Default)]
+pub struct Report {
+    pub passed: u64,
+    /// Cases the candidate got wrong, by kind and number, with the options that repeat them.
+    pub failures: BTreeMap<(u64, u64), String>,
+    /// Things a whole run should have come upon and did not.
+    pub never_hit: Vec<String>,
+    pub hits: Hits,
+}
+
+impl Report {
+    pub fn failed(&self) -> u64 {
+        (self.failures.len() + self.never_hit.len()) as u64
+    }
+
+    fn merge(&mut self, other: Report) {
+        self.passed += other.passed;
+        self.failures.extend(other.failures);
+        self.hits.merge(other.hits);
+    }
+
+    /// Each thing required counts as one check of its own.
+    fn check_required(&mut self) {
+        for name in Hits::required() {
+            if self.hits.count(&name) > 0 {
+                self.passed += 1;
+            } else {
+                self.never_hit.push(name);
+            }
+        }
+    }
+}
+
+/// Runs the cases against the candidate.
+pub fn run<B: Calls + SheetProgram + Sync>(candidate: &B, settings: &Settings) -> Report {
+    let workers = thread::available_parallelism().map_or(1, |cores| cores.get() as u64);
+    let parts: Vec<Report> = thread::scope(|scope| {
+        let started: Vec<_> = (0..workers)
+            .map(|worker| scope.spawn(move || run_part(candidate, settings, worker, workers)))
+            .collect();
+        let finished = started.into_iter().map(|thread| thread.join());
+        finished
+            .map(|part| part.expect("every case is guarded"))
+            .collect()
+    });
+    let mut report = Report::default();
+    for part in parts {
+        report.merge(part);
+    }
+    if settings.is_whole() {
+        report.check_required();
+    }
+    report
+}
+
+/// Runs every so-manieth case of each kind.
+fn run_part<B: Calls + SheetProgram>(
+    candidate: &B,
+    settings: &Settings,
+    worker: u64,
+    workers: u64,
+) -> Report {
+    let mut report = Report::default();
+    for (order, kind) in (0..).zip(Kind::all()) {
+        if !kind.name().starts_with(&settings.kind) {
+            continue;
+        }
+        let cases = settings.first..settings.first + settings.count;
+        for case in cases.filter(|case| case % workers == worker) {
+            let mut random = Random::for_case(&[settings.seed, order, case]);
+            report.hits.add(format!("case {}", kind.name()));
+            match check_guarded(kind, candidate, &mut random, &mut report.hits) {
+                Ok(()) => report.passed += 1,
+                Err(complaint) => {
+                    let failure = describe(&complaint, kind, settings.seed, case);
+                    report.failures.insert((order, case), failure);
+                }
+            }
+        }
+    }
+    report
+}
+
+/// A candidate that panics has failed its case, not ended the run.
+fn check_guarded<B: Calls + SheetProgram>(
+    kind: Kind,
+    candidate: &B,
+    random: &mut Random,
+    hits: &mut Hits,
+) -> Verdict {
+    let check = AssertUnwindSafe(|| kind.check(candidate, random, hits));
+    catch_unwind(check).unwrap_or_else(|_| Err("panicked".into()))
+}
+
+/// What went wrong in a case and how to run it again.
+fn describe(complaint: &str, kind: Kind, seed: u64, case: u64) -> String {
+    let name = kind.name();
+    format!("{name}: {complaint}; again with --seed {seed} --kind {name} --first {case} --count 1")
+}

@@ -1,0 +1,46 @@
+//! Cases of the sheet program.
+
+use frame_builder::SheetProgram;
+use loads::{sheet, Random, SheetKind};
+
+use crate::hits::Hits;
+use crate::verdict::{expect, Verdict};
+
+/// Holds all that is printed for a sheet against what the reference prints.
+pub fn check_sheet<B: SheetProgram>(
+    candidate: &B,
+    kind: SheetKind,
+    random: &mut Random,
+    hits: &mut Hits,
+) -> Verdict {
+    let sheet = sheet(kind, random);
+    let given = candidate.respond(&sheet);
+    let right = reference::respond(&sheet);
+    hits.add(name_of(&right));
+    expect(given == right, || {
+        let line = first_difference(&given, &right);
+        format!(
+            "sheet of {} bytes: response differs at line {line}",
+            sheet.len()
+        )
+    })
+}
+
+/// The name a response goes by in the counts of what was hit.
+fn name_of(response: &[u8]) -> String {
+    let text = String::from_utf8_lossy(response);
+    let refused = text.strip_prefix("(refused ");
+    let number = refused.and_then(|rest| rest.split([' ', ')']).next());
+    match number {
+        Some(number) => format!("sheet refusal {number}"),
+        None => "sheet frame".into(),
+    }
+}
+
+/// The number of the first line in which two responses differ.
+fn first_difference(given: &[u8], right: &[u8]) -> usize {
+    let same = given.iter().zip(right).take_while(|(a, b)| a == b);
+    let shared = same.count();
+    let ends = given[..shared].iter().filter(|&&byte| byte == b'\n');
+    ends.count() + 1
+}

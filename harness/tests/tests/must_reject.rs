@@ -1,0 +1,182 @@
+//! Builders that would be sent back are sent back.
+
+use frame_builder::{Calls, Class, Inspection, Reference};
+use reference::wire::{self, Frame};
+use tests::broken::{self, Broken};
+use tests::{run, Settings};
+
+/// The number of cases of the named kinds that a builder fails.
+fn failures(builder: &(impl Calls + frame_builder::SheetProgram + Sync), kind: &str) -> usize {
+    let settings = Settings {
+        seed: 5,
+        first: 0,
+        count: 12,
+        kind: kind.into(),
+    };
+    run(builder, &settings).failures.len()
+}
+
+/// The frame a broken builder hands back for a load it accepts.
+fn frame_of(builder: &Broken, ports: u64, slots: u64, matrix: &[u16]) -> Vec<u8> {
+    let mut frame = vec![0xa5; (ports * slots) as usize];
+    assert_eq!(builder.build(ports, slots, matrix, &mut frame), Ok(()));
+    frame
+}
+
+/// What the inspector finds in a broken builder's frame.
+fn inspected(builder: &Broken, ports: u64, slots: u64, matrix: &[u16]) -> Inspection {
+    let frame = frame_of(builder, ports, slots, matrix);
+    reference::inspect(ports, slots, matrix, &frame)
+}
+
+/// A builder with this one call replaced, once the runner has sent it back.
+macro_rules! sent_back {
+    ($call:ident: $function:ident, $kind:literal) => {{
+        let builder = Broken {
+            $call: broken::$function,
+            ..Broken::default()
+        };
+        assert!(failures(&builder, $kind) > 0);
+        builder
+    }};
+}
+
+#[test]
+fn the_reference_is_not_sent_back() {
+    assert_eq!(failures(&Reference, ""), 0);
+    assert_eq!(failures(&Broken::default(), "build/"), 0);
+}
+
+#[test]
+fn extra_cells_all_to_the_first_half() {
+    let builder = sent_back!(build: extra_to_first_half, "build/");
+    let fault = Inspection::OutputTwice { slot: 1, output: 2 };
+    assert_eq!(inspected(&builder, 2, 2, &[1, 1, 1, 1]), fault);
+}
+
+#[test]
+fn partners_at_inputs_only() {
+    let builder = sent_back!(build: partners_at_inputs_only, "build/");
+    let fault = Inspection::OutputTwice { slot: 1, output: 1 };
+    assert_eq!(inspected(&builder, 2, 2, &[1, 1, 1, 1]), fault);
+}
+
+#[test]
+fn walk_in_one_direction_only() {
+    let builder = sent_back!(build: walk_one_way, "build/");
+    let fault = Inspection::OutputTwice { slot: 1, output: 1 };
+    assert_eq!(inspected(&builder, 2, 2, &[1, 1, 1, 0]), fault);
+}
+
+#[test]
+fn the_other_tie() {
+    let builder = sent_back!(build: other_tie, "build/");
+    assert_eq!(inspected(&builder, 1, 4, &[3]), Inspection::Clean);
+}
+
+#[test]
+fn idle_frame() {
+    let builder = sent_back!(build: idle_frame, "build/");
+    let fault = Inspection::PairCount {
+        input: 1,
+        output: 2,
+    };
+    assert_eq!(inspected(&builder, 2, 4, &[0, 3, 0, 0]), fault);
+}
+
+#[test]
+fn fixed_frame() {
+    let builder = sent_back!(build: fixed_frame, "build/");
+    let fault = Inspection::PairCount {
+        input: 1,
+        output: 1,
+    };
+    assert_eq!(inspected(&builder, 2, 4, &[0, 3, 0, 0]), fault);
+}
+
+#[test]
+fn buffer_left_as_found() {
+    let builder = sent_back!(build: as_found, "build/");
+    let fault = Inspection::ByteTooLarge { slot: 1, input: 1 };
+    assert_eq!(inspected(&builder, 2, 4, &[0, 3, 0, 0]), fault);
+}
+
+#[test]
+fn all_loads_turned_away() {
+    let builder = sent_back!(build: refuse_all, "build/");
+    assert!(builder.build(1, 1, &[1], &mut [0]).is_err());
+}
+
+#[test]
+fn first_slots_copied_on() {
+    let builder = sent_back!(build: copied_on, "build/");
+    let fault = Inspection::PairCount {
+        input: 1,
+        output: 1,
+    };
+    assert_eq!(inspected(&builder, 1, 4, &[3]), fault);
+}
+
+#[test]
+fn legal_but_bunched() {
+    let builder = sent_back!(build: bunched, "build/");
+    let fault = Inspection::UnbalancedBlock { slot: 1, size: 16 };
+    assert_eq!(inspected(&builder, 1, 16, &[8]), fault);
+
+    let chain = [Frame {
+        ports: 1,
+        slots: 16,
+        matrix: vec![8],
+        bytes: frame_of(&builder, 1, 16, &[8]),
+    }];
+    let class = Class::Input { port: 1 };
+    let furthest = wire::furthest_run(&chain, class);
+    assert!(!wire::has_its_share(&chain, class, furthest));
+}
+
+#[test]
+fn loads_added_in_16_bits() {
+    let builder = sent_back!(build: sixteen_bit_loads, "build/");
+    let matrix = [65_535, 1, 1, 65_535];
+    assert_eq!(builder.build(2, 4, &matrix, &mut [0; 8]), Ok(()));
+    assert!(builder.admit(2, 4, &matrix).is_err());
+    let builder = sent_back!(admit: sixteen_bit_admit, "admit/");
+    assert_eq!(builder.admit(2, 4, &matrix), Ok(()));
+}
+
+#[test]
+fn buffer_cleared_before_a_refusal() {
+    sent_back!(build: clears_before_refusing, "build/");
+    sent_back!(build: clears_before_refusing, "chain/");
+}
+
+#[test]
+fn chains_of_broken_frames() {
+    sent_back!(build: idle_frame, "chain/");
+    sent_back!(build: bunched, "chain/");
+    sent_back!(build: as_found, "chain/");
+}
+
+#[test]
+fn inspectors_that_do_not_look() {
+    sent_back!(inspect: always_clean, "inspect/");
+    sent_back!(inspect: legal_is_clean, "inspect/");
+}
+
+#[test]
+fn views_of_something_else() {
+    sent_back!(slot_view: empty_view, "view/");
+    sent_back!(slot_view: neighbour_view, "view/");
+    sent_back!(slot_view: copied_view, "view/");
+    sent_back!(slot_view: unnumbered_view, "view/");
+}
+
+#[test]
+fn counts_out_of_the_air() {
+    sent_back!(service_count: share_for_count, "count/");
+}
+
+#[test]
+fn sheets_without_an_answer() {
+    sent_back!(respond: silent_refusal, "sheet/");
+}
