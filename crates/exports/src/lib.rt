@@ -2,11 +2,15 @@
 ghost use mathlib.Core.Path.{_≡_};
 ghost use lib.ListN.{getD};
 ghost use Rattle.model.specs.Refusals.{refusal, answered, admitted};
+ghost use Rattle.model.specs.Build.{built, left};
 ghost use Rattle.model.specs.Inspect.{finding, inspected};
+ghost use Rattle.model.specs.Service.{viewNumber, viewStart, viewSize, served, service};
 ghost use Rattle.exports.specs.Numbers.{Three};
 use model::Answer;
 use model::Inspection;
 use model::Refusal;
+use model::Service;
+use model::Who;
 
 // An answer's number and its first two values, 0 where it has none.
 pub struct Numbers {
@@ -71,6 +75,16 @@ fn of_inspection(inspection: Inspection) -> Numbers
     }
 }
 
+// What Service count answers, as numbers.
+fn of_service(service: Service) -> Numbers
+    ensures { λ r. ⌜ Three (served service) (r .number) (r .first) (r .second) ⌝ }
+{
+    match service {
+        Service::Counted(count) => three(0, count.cells, 0),
+        Service::Refused(refusal) => of_refusal(refusal),
+    }
+}
+
 // Admit.
 #[no_mangle]
 pub extern "C" fn frame_builder_admit(
@@ -104,4 +118,103 @@ pub extern "C" fn frame_builder_inspect(
     *first = n.first;
     *second = n.second;
     n.number
+}
+
+// Build.
+#[no_mangle]
+pub extern "C" fn frame_builder_build(
+    ports: usize,
+    slots: usize,
+    matrix: &[u16],
+    frame: &mut [u8],
+    first: &mut usize,
+    second: &mut usize,
+) -> usize
+    ensures { λ r. ⌜ Three (built ports slots (now (matrix .entry)) (now (frame .entry))) r (now (first .exit)) (now (second .exit)) ⌝ }
+    ensures { λ _. ⌜ now (frame .exit) ≡ left ports slots (now (matrix .entry)) (now (frame .entry)) ⌝ }
+{
+    let n = of_answer(schedule::build(ports, slots, matrix, frame));
+    *first = n.first;
+    *second = n.second;
+    n.number
+}
+
+// Service count for a pair; the cells are the first value.
+#[no_mangle]
+pub extern "C" fn frame_builder_count_pair(
+    ports: usize,
+    slots: usize,
+    frame: &[u8],
+    input: usize,
+    output: usize,
+    start: usize,
+    len: usize,
+    cells: &mut usize,
+) -> usize
+    ensures { λ r. ⌜ Three (service ports slots (now (frame .entry)) (Who.Pair input output) start len) r (now (cells .exit)) 0 ⌝ }
+{
+    let who = Who::Pair { input, output };
+    let n = of_service(service::service_count(ports, slots, frame, who, start, len));
+    *cells = n.first;
+    n.number
+}
+
+// Service count for an input.
+#[no_mangle]
+pub extern "C" fn frame_builder_count_input(
+    ports: usize,
+    slots: usize,
+    frame: &[u8],
+    input: usize,
+    start: usize,
+    len: usize,
+    cells: &mut usize,
+) -> usize
+    ensures { λ r. ⌜ Three (service ports slots (now (frame .entry)) (Who.Input input) start len) r (now (cells .exit)) 0 ⌝ }
+{
+    let n = of_service(service::service_count(ports, slots, frame, Who::Input(input), start, len));
+    *cells = n.first;
+    n.number
+}
+
+// Service count for an output.
+#[no_mangle]
+pub extern "C" fn frame_builder_count_output(
+    ports: usize,
+    slots: usize,
+    frame: &[u8],
+    output: usize,
+    start: usize,
+    len: usize,
+    cells: &mut usize,
+) -> usize
+    ensures { λ r. ⌜ Three (service ports slots (now (frame .entry)) (Who.Output output) start len) r (now (cells .exit)) 0 ⌝ }
+{
+    let n = of_service(service::service_count(ports, slots, frame, Who::Output(output), start, len));
+    *cells = n.first;
+    n.number
+}
+
+// Slot view: where in the frame the part begins, and how many bytes it has, stand in for the part itself.
+#[no_mangle]
+pub extern "C" fn frame_builder_slot_view(
+    ports: usize,
+    slots: usize,
+    frame: &[u8],
+    slot: usize,
+    start: &mut usize,
+    size: &mut usize,
+) -> usize
+    ensures { λ r. ⌜ r ≡ viewNumber ports slots (now (frame .entry)) slot ⌝ }
+    ensures { λ _. ⌜ now (start .exit) ≡ viewStart ports slots (now (frame .entry)) slot ⌝ }
+    ensures { λ _. ⌜ now (size .exit) ≡ viewSize ports slots (now (frame .entry)) slot ⌝ }
+{
+    let mut number: usize = 0;
+    let part = service::slot_view(ports, slots, frame, slot, &mut number);
+    *start = 0;
+    *size = part.len();
+    if number == 0 {
+        *start = (slot - 1) * ports;
+    }
+    number
 }

@@ -20,6 +20,7 @@ pub mod Demand3
 pub mod Tight
 pub mod Overloads
 pub mod Reports
+pub mod Runs
 pub mod Inspected
 pub mod Clean
 pub mod Bench

@@ -1,6 +1,6 @@
 -- Overloads: loads added up in matrix order, and the lowest port above slots.
-use Prim.Native.Nat.{ℕ, suc, zero, _+_, _*_, _/_, _%_, _≤_, _<_}
-use mathlib.Core.Path.{_≡_, refl, sym, ap, _∙_}
+use Prim.Native.Nat.{ℕ, suc, zero, _+_, _*_, _≤_, _<_}
+use mathlib.Core.Path.{_≡_, refl, sym, _∙_}
 use mathlib.Core.Logic.{_≢_}
 use mathlib.Core.List.{List, [], _∷_}
 use mathlib.Core.Bool.{Bool, true, false}
@@ -8,12 +8,12 @@ use native.Mathlib.Omega.{arith}
 use native.Mathlib.Nat.{mod-lt, div-lt-iff-lt-mul}
 use native.Mathlib.Numerals.{add-one}
 use lib.Arith.{digits-div, digits-mod}
-use lib.Dec.{eqb, ltb}
+use lib.Dec.{eqb}
 use lib.ListN.{getD}
 use borrow.Author.Tests.{eq-eqb, ne-eqb, lt-ltb, le-ltb}
 use Rattle.model.specs.Words.{if, first, sumTo}
 use Rattle.model.specs.Loads.{Class, input, output, load}
-use Rattle.model.specs.Refusals.{Check, overloaded, overload}
+use Rattle.model.specs.Refusals.{overloaded, overload}
 use Rattle.model.specs.Rules.{Side, inputs, outputs, portOf}
 use Rattle.model.proofs.Cases.{byBool}
 use Rattle.model.proofs.Sums.{sum-none, sum-more, sum-ext, sum-one, sum-zero, sum-rows}

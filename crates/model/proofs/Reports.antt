@@ -3,14 +3,14 @@ use Prim.Native.Nat.{ℕ, _^_, _≤_}
 use mathlib.Core.Path.{_≡_, refl, sym, ap, _∙_}
 use mathlib.Core.Logic.{_≢_}
 use mathlib.Core.List.{List, [], _∷_}
-use mathlib.Core.Bool.{Bool, true, false, not}
+use mathlib.Core.Bool.{Bool, true, false, not, true≢false}
 use native.Mathlib.Omega.{arith}
 use native.Mathlib.Nat.{pow-le-pow-right}
 use lib.Dec.{eqb}
 use lib.ListN.{getD}
 use lib.Pow.{pow-pos}
 use borrow.Author.Tests.{eqb-false, not-false}
-use Rattle.model.specs.Words.{if, both, within, Every}
+use Rattle.model.specs.Words.{if, within, Every}
 use Rattle.model.specs.Refusals.{Check, report, clear, accepted, levels}
 use Rattle.model.proofs.Cases.{byBool, within-true}
 use Rattle.model.proofs.Levels.{levels-most, levels-power}
@@ -21,6 +21,18 @@ module _ (c : Check) (cs : List Check) (asked : List ℕ) where
 
   pub report-on : c .0 ≡ false → report (c ∷ cs) asked ≡ report cs asked
   report-on e = rw e
+
+-- where none holds, what is asked for is reported
+pub report-clear : (cs : List Check) (asked : List ℕ) → clear cs ≡ true → report cs asked ≡ asked
+report-clear [] asked = λ e. refl
+report-clear (c ∷ cs) asked =
+    byBool (c .0) (λ b. rw b (λ e. absurd (true≢false (sym e)))) (λ b. rw b (λ e. report-clear cs asked e))
+
+-- where one holds, it does not matter what is asked for
+pub report-refused : (cs : List Check) (asked other : List ℕ) → clear cs ≡ false → report cs asked ≡ report cs other
+report-refused [] asked other = λ e. absurd (true≢false e)
+report-refused (c ∷ cs) asked other =
+    byBool (c .0) (λ b. rw b (λ e. refl)) (λ b. rw b (λ e. report-refused cs asked other e))
 
 -- a check whose answer is a refusal's: its number is not 0
 abbrev pub Refuses : Check → Type 0

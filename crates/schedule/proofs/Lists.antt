@@ -1,0 +1,56 @@
+-- Lists with one more at the end, and the end of a loop.
+use Prim.Native.Nat.{ℕ, suc, zero, _+_, _≤_, _<_}
+use mathlib.Core.Path.{_≡_, refl, sym, ap, _∙_}
+use mathlib.Core.List.{List, [], _∷_, _++_}
+use mathlib.Core.Bool.{Bool, true}
+use native.Mathlib.Omega.{arith}
+use lib.ListN.{length, getD, take}
+use Rattle.model.specs.Words.{if, both, upFrom, keep, Every}
+use Rattle.model.proofs.Cases.{byBool, byEq}
+
+-- what holds after i turns holds after n, where the loop was left at n
+pub at-end : (P : ℕ → Type 0) {i n : ℕ} → P i → i ≤ n → n ≤ i → P n
+at-end P {i} {n} h a b = let e : n ≡ i = omega arith in rw e h
+
+-- ---- one more at the end
+pub up-snoc : (a n : ℕ) → upFrom a (suc n) ≡ upFrom a n ++ ((a + n) ∷ [])
+up-snoc a zero = ap (λ (x : ℕ). x ∷ []) (omega arith)
+up-snoc a (suc n) = ap (λ (l : List ℕ). a ∷ l) (up-snoc (suc a) n ∙ ap (λ (x : ℕ). upFrom (suc a) n ++ (x ∷ [])) (omega arith))
+
+pub keep-snoc : (t : ℕ → Bool) (l : List ℕ) (x : ℕ) → keep t (l ++ (x ∷ [])) ≡ keep t l ++ if (t x) (x ∷ []) []
+keep-snoc t [] x = refl
+keep-snoc t (y ∷ l) x = byBool (t y) (λ e. rw (e, keep-snoc t l x)) (λ e. rw (e, keep-snoc t l x))
+
+pub every-snoc : (P : ℕ → Type 0) (l : List ℕ) (p : ℕ) → Every P l → P p → Every P (l ++ (p ∷ []))
+every-snoc P [] p a h = (h, tt)
+every-snoc P (x ∷ l) p a h = (a .0, every-snoc P l p (a .1) h)
+
+-- ---- what holds of each
+pub every-two : (P Q R : ℕ → Type 0) → ((r : ℕ) → P r → Q r → R r) → (l : List ℕ) → Every P l → Every Q l → Every R l
+every-two P Q R f [] a b = tt
+every-two P Q R f (x ∷ l) a b = (f x (a .0) (b .0), every-two P Q R f l (a .1) (b .1))
+
+pub every-get : (P : ℕ → Type 0) (j k : ℕ) (l : List ℕ) → Every P (take k l) → j < k → j < length l → P (getD l j 0)
+every-get P j zero l a h g = absurd (omega arith)
+every-get P j (suc k) [] a h g = absurd (omega arith)
+every-get P zero (suc k) (x ∷ l) a h g = a .0
+every-get P (suc j) (suc k) (x ∷ l) a h g = every-get P j k l (a .1) (omega arith) (omega arith)
+
+pub every-kept : (P : ℕ → Type 0) (t : ℕ → Bool) (a n : ℕ) → Every P (keep t (upFrom a n)) → (p : ℕ) → a ≤ p → p < a + n → t p ≡ true → P p
+every-kept P t a zero al p h g e = absurd (omega arith)
+every-kept P t a (suc n) al p h g e =
+    byEq a p
+    (λ f. let f⁻ = sym f in let e′ = rw f⁻ at e in rw f⁻ ((rw e′ at al) .0))
+    (λ f. every-kept P t (suc a) n (byBool (t a) (λ d. (rw d at al) .1) (λ d. rw d at al)) p (omega arith) (omega arith) e)
+
+-- ---- what is kept
+pub keep-same : (t u : ℕ → Bool) (a n : ℕ) → ((p : ℕ) → p < a + n → t p ≡ u p) → keep t (upFrom a n) ≡ keep u (upFrom a n)
+keep-same t u a zero f = refl
+keep-same t u a (suc n) f = rw (f a (omega arith), keep-same t u (suc a) n (λ p h. f p (omega arith)))
+
+pub keep-keep : (t u : ℕ → Bool) (l : List ℕ) → keep u (keep t l) ≡ keep (λ p. both (t p) (u p)) l
+keep-keep t u [] = refl
+keep-keep t u (x ∷ l) =
+    byBool (t x)
+    (λ e. byBool (u x) (λ f. rw (e, f, keep-keep t u l)) (λ f. rw (e, f, keep-keep t u l)))
+    (λ e. rw (e, keep-keep t u l))

@@ -1,0 +1,3 @@
+-- What the functions of the crate do, in the words of the model.
+pub mod Steps
+pub mod Fill

@@ -1,0 +1,85 @@
+// Recursively balanced scheduling: a block's matrix is split between its halves, down to single slots.
+mod groups;
+mod halves;
+mod partners;
+mod positions;
+mod slots;
+
+use admission::bad_length;
+use admission::bad_slots;
+use admission::outside;
+use admission::overload;
+use model::Answer;
+use model::Refusal;
+ghost use mathlib.Core.Path.{_≡_};
+ghost use Prim.Native.Nat.{_*_, _<_};
+ghost use lib.ListN.{length, take};
+ghost use Rattle.model.specs.Refusals.{levels, answered};
+ghost use Rattle.model.specs.Build.{built, left};
+ghost use Rattle.model.specs.Schedule.{frameOf};
+ghost use Rattle.schedule.specs.Steps.{Wide, Tables};
+ghost use Rattle.schedule.specs.Fill.{Fillable};
+
+// The length of the block in slots falls by half with each call.
+fn block(
+    counts: &[u16; 256],
+    n: usize,
+    ports: usize,
+    slots: usize,
+    ins: &[u8; 256],
+    outs: &[u8; 256],
+    frame: &mut [u8],
+)
+    requires { ⌜ Tables ports n (now ins) (now outs) × Wide (now counts) × (levels slots < 11) × (length (now frame) ≡ slots * ports) ⌝ }
+    ensures { λ _. ⌜ now (frame .exit) ≡ frameOf ports (levels slots) (take n (now (counts .entry))) ⌝ }
+{
+    if slots == 1 {
+        slots::write(counts, n, ins, outs, frame);
+    } else {
+        let mut first = [0u16; 256];
+        let mut second = [0u16; 256];
+        halves::split(counts, n, ins, outs, &mut first, &mut second);
+        let half = slots / 2;
+        let mid = half * ports;
+        block(&first, n, ports, half, ins, outs, &mut frame[..mid]);
+        block(&second, n, ports, half, ins, outs, &mut frame[mid..]);
+    }
+}
+
+// Loads are not looked at: the rules give bytes for any counts, and Build turns an overload away before.
+pub fn fill(ports: usize, slots: usize, matrix: &[u16], frame: &mut [u8])
+    requires { ⌜ Fillable ports slots (now matrix) (now frame) ⌝ }
+    ensures { λ _. ⌜ now (frame .exit) ≡ frameOf ports (levels slots) (now (matrix .entry)) ⌝ }
+{
+    let n = matrix.len();
+    let mut counts = [0u16; 256];
+    let mut ins = [0u8; 256];
+    let mut outs = [0u8; 256];
+    positions::copy(matrix, &mut counts);
+    positions::tabulate(ports, n, &mut ins, &mut outs);
+    block(&counts, n, ports, slots, &ins, &outs, frame);
+}
+
+// Build: refusals 1 to 6 are tried in their order, and nothing is written until all have passed.
+pub fn build(ports: usize, slots: usize, matrix: &[u16], frame: &mut [u8]) -> Answer
+    ensures { λ r. ⌜ (answered r ≡ built ports slots (now (matrix .entry)) (now (frame .entry)))
+        × (now (frame .exit) ≡ left ports slots (now (matrix .entry)) (now (frame .entry))) ⌝ }
+{
+    if outside(16, ports) {
+        return Answer::Refused(Refusal::Ports);
+    }
+    if bad_slots(slots) {
+        return Answer::Refused(Refusal::Slots);
+    }
+    if bad_length(matrix.len(), ports, ports) {
+        return Answer::Refused(Refusal::MatrixLength);
+    }
+    if bad_length(frame.len(), slots, ports) {
+        return Answer::Refused(Refusal::FrameLength);
+    }
+    if let Answer::Refused(refusal) = overload(ports, slots, matrix) {
+        return Answer::Refused(refusal);
+    }
+    fill(ports, slots, matrix, frame);
+    Answer::Accepted
+}

@@ -1,0 +1,5 @@
+-- What the functions of Slot view and Service count rest on.
+pub mod Checks
+pub mod Whom
+pub mod Counting
+pub mod Turns

@@ -1,0 +1,20 @@
+use borrow.Author.Needs.{needs}
+use Rattle.service.proofs.Whom.{input-outside, output-outside, input-alone, output-alone}
+use Rattle.service.proofs.bad_who.Statement.{statement}
+use Rattle.service.proofs.bad_who.Tie as tie
+
+pub bad-who-spec : {M : Type 1} → statement M
+bad-who-spec =
+    tie.close
+    (tie.spec
+    (λ c. search needs)
+    (λ c κs. search needs)
+    (λ c. search (needs, input-outside))
+    (λ c κs. search needs)
+    (λ c. search needs)
+    (λ c κs. search needs)
+    (λ c. search needs)
+    (λ c κs. search needs)
+    (λ c. search (needs, output-outside))
+    (λ c. search (needs, input-alone))
+    (λ c. search (needs, output-alone)))

@@ -1,0 +1,20 @@
+use borrow.Author.Needs.{needs}
+use Rattle.service.proofs.Whom.{pair-input, input-input, pair-counts, input-counts, output-counts}
+use Rattle.service.proofs.counted.Statement.{statement}
+use Rattle.service.proofs.counted.Tie as tie
+
+pub counted-spec : {M : Type 1} → statement M
+counted-spec =
+    tie.close
+    (tie.spec
+    (λ c. search needs)
+    (λ c. search (needs, pair-input))
+    (λ c κs. search needs)
+    (λ c. search needs)
+    (λ c. search (needs, input-input))
+    (λ c κs. search needs)
+    (λ c. search needs)
+    (λ c κs. search needs)
+    (λ c. search (needs, pair-counts))
+    (λ c. search (needs, input-counts))
+    (λ c. search (needs, output-counts)))

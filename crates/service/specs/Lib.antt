@@ -1,0 +1,2 @@
+-- What the inner functions of Slot view and Service count promise.
+pub mod Asked
