@@ -5,7 +5,7 @@ ghost use Rattle.model.specs.Refusals.{refusal, answered, admitted};
 ghost use Rattle.model.specs.Build.{built, left};
 ghost use Rattle.model.specs.Inspect.{finding, inspected};
 ghost use Rattle.model.specs.Service.{viewNumber, viewStart, viewSize, served, service};
-ghost use Rattle.exports.specs.Numbers.{Three};
+ghost use Rattle.exports.specs.Numbers.{Two, Three};
 use model::Answer;
 use model::Inspection;
 use model::Refusal;
@@ -151,7 +151,7 @@ pub extern "C" fn frame_builder_count_pair(
     len: usize,
     cells: &mut usize,
 ) -> usize
-    ensures { λ r. ⌜ Three (service ports slots (now (frame .entry)) (Who.Pair input output) start len) r (now (cells .exit)) 0 ⌝ }
+    ensures { λ r. ⌜ Two (service ports slots (now (frame .entry)) (Who.Pair input output) start len) r (now (cells .exit)) ⌝ }
 {
     let who = Who::Pair { input, output };
     let n = of_service(service::service_count(ports, slots, frame, who, start, len));
@@ -170,7 +170,7 @@ pub extern "C" fn frame_builder_count_input(
     len: usize,
     cells: &mut usize,
 ) -> usize
-    ensures { λ r. ⌜ Three (service ports slots (now (frame .entry)) (Who.Input input) start len) r (now (cells .exit)) 0 ⌝ }
+    ensures { λ r. ⌜ Two (service ports slots (now (frame .entry)) (Who.Input input) start len) r (now (cells .exit)) ⌝ }
 {
     let n = of_service(service::service_count(ports, slots, frame, Who::Input(input), start, len));
     *cells = n.first;
@@ -188,9 +188,16 @@ pub extern "C" fn frame_builder_count_output(
     len: usize,
     cells: &mut usize,
 ) -> usize
-    ensures { λ r. ⌜ Three (service ports slots (now (frame .entry)) (Who.Output output) start len) r (now (cells .exit)) 0 ⌝ }
+    ensures { λ r. ⌜ Two (service ports slots (now (frame .entry)) (Who.Output output) start len) r (now (cells .exit)) ⌝ }
 {
-    let n = of_service(service::service_count(ports, slots, frame, Who::Output(output), start, len));
+    let n = of_service(service::service_count(
+        ports,
+        slots,
+        frame,
+        Who::Output(output),
+        start,
+        len,
+    ));
     *cells = n.first;
     n.number
 }
@@ -209,12 +216,17 @@ pub extern "C" fn frame_builder_slot_view(
     ensures { λ _. ⌜ now (start .exit) ≡ viewStart ports slots (now (frame .entry)) slot ⌝ }
     ensures { λ _. ⌜ now (size .exit) ≡ viewSize ports slots (now (frame .entry)) slot ⌝ }
 {
-    let mut number: usize = 0;
-    let part = service::slot_view(ports, slots, frame, slot, &mut number);
-    *start = 0;
-    *size = part.len();
-    if number == 0 {
-        *start = (slot - 1) * ports;
+    let answer = service::check_frame(ports, slots, frame, slot);
+    match answer {
+        Answer::Refused(refusal) => {
+            *start = 0;
+            *size = 0;
+            service::number_of(refusal)
+        }
+        Answer::Accepted => {
+            *start = (slot - 1) * ports;
+            *size = ports;
+            0
+        }
     }
-    number
 }

@@ -11,7 +11,7 @@ use lib.ListN.{length, getD, take, drop}
 use borrow.Author.Tests.{not-true, not-false, eqb-true, eqb-false, ltb-false}
 use Rattle.model.specs.Words.{both, within}
 use Rattle.model.specs.Refusals.{report, clear, accepted, answered, refusal, levels}
-use Rattle.model.specs.Service.{viewChecks, viewNumber, viewStart, viewed, classOf, portsWithin, bad-who, bad-length, repeated, service}
+use Rattle.model.specs.Service.{viewChecks, viewNumber, viewStart, viewSize, viewed, classOf, portsWithin, bad-who, bad-length, repeated, service}
 use Rattle.model.specs.Frames.{cells}
 use Rattle.model.specs.declared.Answer.{Answer}
 use Rattle.model.specs.declared.Answer.the-variants.{Accepted, Refused}
@@ -139,6 +139,9 @@ module _ (ports slots : ℕ) (bytes : List ℕ) (slot : ℕ) (o : Open ports slo
   pub view-start : (slot - 1) * ports ≡ viewStart ports slots bytes slot
   view-start = rw (o .none)
 
+  pub view-size : ports ≡ viewSize ports slots bytes slot
+  view-size = rw (o .none)
+
   pub view-accepted : 0 ≡ viewNumber ports slots bytes slot
   view-accepted = ap (λ l. getD l 0 0) (sym (report-clear (viewChecks ports slots bytes slot) accepted (o .none)))
 
@@ -148,6 +151,9 @@ module _ (ports slots : ℕ) (bytes : List ℕ) (slot : ℕ) (r : Refusal) (s : 
 
   pub no-start : 0 ≡ viewStart ports slots bytes slot
   no-start = rw (s .some)
+
+  pub no-size : 0 ≡ viewSize ports slots bytes slot
+  no-size = rw (s .some)
 
   pub view-refused : number r ≡ viewNumber ports slots bytes slot
   unfolding checked

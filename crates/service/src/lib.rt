@@ -30,7 +30,7 @@ fn lesser(a: usize, b: usize) -> usize
 }
 
 // Slot view's checks, 1, 2, 4, 11; Service count begins with the same.
-fn check_frame(ports: usize, slots: usize, frame: &[u8], slot: usize) -> Answer
+pub fn check_frame(ports: usize, slots: usize, frame: &[u8], slot: usize) -> Answer
     ensures { λ r. ⌜ answered r ≡ checked ports slots (now (frame .entry)) slot ⌝ }
 {
     if admission::outside(16, ports) {

@@ -1,0 +1,13 @@
+use Rattle.exports.proofs.Threes.{three-of}
+use native.Mathlib.Omega.{arith}
+use borrow.Author.Needs.{needs}
+use Rattle.exports.proofs.frame_builder_build.Statement.{statement}
+use Rattle.exports.proofs.frame_builder_build.Tie as tie
+
+pub frame-builder-build-spec : {M : Type 1} → statement M
+frame-builder-build-spec =
+    tie.close (tie.spec
+    (λ c κs. search needs)
+    (λ c κs. search needs)
+    (λ c. search needs)
+    (λ c. (search (needs, three-of), search needs)))
