@@ -6,7 +6,10 @@ use std::process::Command;
 fn main() {
     let top = Path::new(env!("CARGO_MANIFEST_DIR")).join("../..");
     println!("cargo:rerun-if-changed={}", top.join("crates").display());
-    println!("cargo:rerun-if-changed={}", top.join("crates.txt").display());
+    println!(
+        "cargo:rerun-if-changed={}",
+        top.join("crates.txt").display()
+    );
     let built = Command::new("rt")
         .args(["staticlib", "exports"])
         .current_dir(&top)

@@ -8,7 +8,8 @@ use lib.ListN.{length, getD, set, replicate, length-set, getD-replicate}
 use lib.Seq.{getD-set-same, getD-set-other}
 use Rattle.model.specs.Rules.{Side, portOf}
 use Rattle.model.proofs.Cases.{byEq}
-use Rattle.model.proofs.Overloads.{addedTo, added-none, added-own, added-other, added-load, port-low, kindOf}
+use Rattle.model.proofs.Overloads.{addedTo, added-none, added-own, added-other, added-load, port-low}
+use Rattle.model.proofs.Halves.{kind}
 use Rattle.admission.specs.Overloads.{Size, LoadsOf}
 
 -- sixteen sums over the first n positions
@@ -61,7 +62,7 @@ module _ (side : Side) {ports n count : ℕ} {matrix sums : List ℕ} (size : Si
       }
 
 pub adding-end : (side : Side) {ports n : ℕ} {matrix sums : List ℕ} → Size ports matrix → Adding side ports matrix n sums → n ≤ length matrix → length matrix ≤ n
-    → LoadsOf (kindOf side) ports matrix sums
+    → LoadsOf (kind side) ports matrix sums
 adding-end side {ports} {n} {matrix} {sums} size a h g =
     let m = size .most in
     let e : n ≡ length matrix = omega arith in

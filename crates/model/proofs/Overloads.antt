@@ -7,23 +7,18 @@ use mathlib.Core.Bool.{Bool, true, false}
 use native.Mathlib.Omega.{arith}
 use native.Mathlib.Nat.{mod-lt, div-lt-iff-lt-mul}
 use native.Mathlib.Numerals.{add-one}
-use lib.Arith.{digits-div, digits-mod}
 use lib.Dec.{eqb}
 use lib.ListN.{getD}
 use borrow.Author.Tests.{eq-eqb, ne-eqb, lt-ltb, le-ltb}
 use Rattle.model.specs.Words.{if, first, sumTo}
-use Rattle.model.specs.Loads.{Class, input, output, load}
+use Rattle.model.specs.Loads.{Class, load}
 use Rattle.model.specs.Refusals.{overloaded, overload}
 use Rattle.model.specs.Rules.{Side, inputs, outputs, portOf}
 use Rattle.model.proofs.Cases.{byBool}
-use Rattle.model.proofs.Sums.{sum-none, sum-more, sum-ext, sum-one, sum-zero, sum-rows}
+use Rattle.model.proofs.Sums.{sum-none, sum-more}
+use Rattle.model.proofs.Halves.{kind, load-side}
 
 -- ---- loads, position by position
--- the ports of a side as what is counted
-abbrev pub kindOf : Side → ℕ → Class
-kindOf inputs = input
-kindOf outputs = output
-
 -- the count at position p where its port is x
 abbrev pub share : (ℕ → ℕ) → List ℕ → ℕ → ℕ → ℕ
 share port matrix x p = if (eqb (port p) x) (getD matrix p 0) 0
@@ -59,26 +54,9 @@ port-low outputs {ports} {p} l h = mod-lt p l
 
 -- over all positions, the counts of a port are its load
 pub added-load : (side : Side) (ports : ℕ) (matrix : List ℕ) (x : ℕ) → x < ports
-    → addedTo (portOf ports side) matrix (ports * ports) x ≡ load (kindOf side x) ports matrix
-unfolding addedTo load
-added-load inputs ports matrix x l =
-    let port : ℕ → ℕ = portOf ports inputs in
-    let row : (s t : ℕ) → t < ports → port (s * ports + t) ≡ s = λ s t k. digits-div s k in
-    sum-rows ports ports (share port matrix x)
-    ∙ sum-one ports x (λ s. sumTo ports (λ t. share port matrix x (s * ports + t))) l
-    (λ s k d. sum-zero ports (λ t. share port matrix x (s * ports + t))
-    (λ t j. share-other port matrix x (s * ports + t) (λ e. d (sym (row s t j) ∙ e))))
-    ∙ sum-ext ports (λ t. share port matrix x (x * ports + t)) (λ t. getD matrix (x * ports + t) 0)
-    (λ t j. share-own port matrix x (x * ports + t) (row x t j))
-added-load outputs ports matrix x l =
-    let port : ℕ → ℕ = portOf ports outputs in
-    let column : (s t : ℕ) → t < ports → port (s * ports + t) ≡ t = λ s t k. digits-mod s k in
-    sum-rows ports ports (share port matrix x)
-    ∙ sum-ext ports (λ s. sumTo ports (λ t. share port matrix x (s * ports + t))) (λ s. getD matrix (s * ports + x) 0)
-    (λ s k.
-    sum-one ports x (λ t. share port matrix x (s * ports + t)) l
-    (λ t j d. share-other port matrix x (s * ports + t) (λ e. d (sym (column s t j) ∙ e)))
-    ∙ share-own port matrix x (s * ports + x) (column s x l))
+    → addedTo (portOf ports side) matrix (ports * ports) x ≡ load (kind side x) ports matrix
+unfolding addedTo
+added-load side ports matrix x l = sym (load-side side ports x matrix l)
 
 -- ---- the lowest port above slots
 pub first-ext : (s t : ℕ → Bool) (n a : ℕ) → ((y : ℕ) → a ≤ y → y < a + n → s y ≡ t y) → first s a n ≡ first t a n

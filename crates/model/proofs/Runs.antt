@@ -12,6 +12,7 @@ use Rattle.model.specs.Loads.{Class}
 use Rattle.model.specs.Frames.{counts, cells, runOf}
 use Rattle.model.specs.Service.{repeated}
 use Rattle.model.proofs.Cases.{byBool}
+use Rattle.model.proofs.Cells.{cells-append, cells-none, cells-run, run-none, run-length, run-all}
 use Rattle.model.proofs.Sums.{sum-none, sum-more, sum-ext, sum-append}
 
 -- ---- sums of what comes round after n
@@ -41,26 +42,7 @@ sum-rounds n f h (suc w) a =
     sum-ext (w * n) (λ t. g (n + t)) (λ t. f (a + n + t)) (λ t l. ap f (omega arith)) in
     omega (arith, ap (λ z. sumTo z g) e, sum-append n (w * n) g, sum-round n f h a, rest, sum-rounds n f h w (a + n))
 
--- ---- whole slots end to end
--- the cells of two lists of whole slots add up
-pub cells-append : (c : Class) (ports n : ℕ) (a b : List ℕ) → length a ≡ n * ports → cells c ports (a ++ b) ≡ cells c ports a + cells c ports b
-unfolding cells
-cells-append c ports n a b e =
-    let f : List ℕ → ℕ → ℕ = λ l q. bit (counts c (q % ports) (getD l q 0)) in
-    ap (λ z. sumTo z (f (a ++ b))) (length-append a b)
-    ∙ sum-append (length a) (length b) (f (a ++ b))
-    ∙ ap₂ _+_
-    (sum-ext (length a) (f (a ++ b)) (f a) (λ q l. ap (λ z. bit (counts c (q % ports) z)) (List·getD-append a b 0 q l)))
-    (sum-ext (length b) (λ q. f (a ++ b) (length a + q)) (f b)
-    (λ q l.
-    let byte : getD (a ++ b) (length a + q) 0 ≡ getD b q 0 = getD-append-add a b q 0 in
-    let at : (length a + q) % ports ≡ q % ports = ap (λ z. (z + q) % ports) e ∙ mul-add-mod-self-right n ports q in
-    rw (byte, at)))
-
-pub cells-none : (c : Class) (ports : ℕ) → cells c ports [] ≡ 0
-unfolding cells
-cells-none c ports = sum-none (λ q. bit (counts c (q % ports) (getD [] q 0)))
-
+-- ---- the cells of bytes
 pub sum-bits : (n : ℕ) (t : ℕ → Bool) → sumTo n (λ q. bit (t q)) ≤ n
 sum-bits zero t = omega (arith, sum-none (λ q. bit (t q)))
 sum-bits (suc n) t =
@@ -78,55 +60,31 @@ run-most c ports start len bytes =
     omega (arith, cells-most c ports (take (len * ports) part), length-take (len * ports) part, length-drop (start * ports) bytes)
 
 module _ (ports slots : ℕ) (bytes : List ℕ) (size : length bytes ≡ slots * ports) where
-  -- a run inside the frame has the bytes of its slots
-  pub run-length : (start len : ℕ) → start + len ≤ slots → length (runOf ports start len bytes) ≡ len * ports
-  unfolding runOf
-  run-length start len h =
-      let m = mul-le-mul-right ports h in
-      length-take-le (len * ports) (drop (start * ports) bytes) (omega (arith, length-drop (start * ports) bytes))
-
-  pub run-append : (start a b : ℕ) → runOf ports start (a + b) bytes ≡ runOf ports start a bytes ++ runOf ports (start + a) b bytes
-  unfolding runOf
-  run-append start a b =
-      let e : (a + b) * ports ≡ a * ports + b * ports = omega arith in
-      let d : start * ports + a * ports ≡ (start + a) * ports = omega arith in
-      ap (λ z. take z (drop (start * ports) bytes)) e
-      ∙ take-add (a * ports) (b * ports) (drop (start * ports) bytes)
-      ∙ ap (λ z. take (a * ports) (drop (start * ports) bytes) ++ take (b * ports) z)
-      (drop-drop (a * ports) (start * ports) bytes ∙ ap (λ z. drop z bytes) d)
-
-  pub run-none : (start : ℕ) → runOf ports start 0 bytes ≡ []
-  unfolding runOf
-  run-none start = let e : 0 * ports ≡ 0 = omega arith in ap (λ z. take z (drop (start * ports) bytes)) e
-
-  pub run-whole : runOf ports 0 slots bytes ≡ bytes
-  unfolding runOf
-  run-whole =
-      let e : 0 * ports ≡ 0 = omega arith in
-      ap (λ z. take (slots * ports) (drop z bytes)) e ∙ take-all (slots * ports) bytes (omega arith)
+  -- a run of so many slots is inside the frame
+  run-ends : (start len : ℕ) → start + len ≤ slots → (start + len) * ports ≤ length bytes
+  run-ends start len h = let m = mul-le-mul-right ports h in omega arith
 
   -- the cells of one slot
   abbrev pub inSlot : Class → ℕ → ℕ
   inSlot c s = cells c ports (runOf ports s 1 bytes)
 
   -- a run inside the frame, slot by slot
-  pub cells-run : (c : Class) (start len : ℕ) → start + len ≤ slots → cells c ports (runOf ports start len bytes) ≡ sumTo len (λ t. inSlot c (start + t))
-  cells-run c start zero h =
-      ap (cells c ports) (run-none start) ∙ cells-none c ports ∙ sym (sum-none (λ t. inSlot c (start + t)))
-  cells-run c start (suc len) h =
+  pub cells-slots : (c : Class) (start len : ℕ) → start + len ≤ slots → cells c ports (runOf ports start len bytes) ≡ sumTo len (λ t. inSlot c (start + t))
+  cells-slots c start zero h =
+      ap (cells c ports) (run-none ports start bytes) ∙ cells-none ports c ∙ sym (sum-none (λ t. inSlot c (start + t)))
+  cells-slots c start (suc len) h =
       let e : len + 1 ≡ suc len = omega arith in
       let l : start + len ≤ slots = omega arith in
       ap (λ z. cells c ports (runOf ports start z bytes)) (sym e)
-      ∙ ap (cells c ports) (run-append start len 1)
-      ∙ cells-append c ports len (runOf ports start len bytes) (runOf ports (start + len) 1 bytes) (run-length start len l)
-      ∙ ap (λ z. z + inSlot c (start + len)) (cells-run c start len l)
+      ∙ cells-run ports c start len 1 bytes (run-ends start len l)
+      ∙ ap (λ z. z + inSlot c (start + len)) (cells-slots c start len l)
       ∙ sym (sum-more len (λ t. inSlot c (start + t)))
 
   -- a run of the frame that repeats for ever, slot by slot
   pub cells-repeated : (c : Class) → 1 ≤ slots → (start len : ℕ)
       → cells c ports (repeated ports slots bytes start len) ≡ sumTo len (λ t. inSlot c ((start + t) % slots))
   unfolding repeated
-  cells-repeated c h start zero = cells-none c ports ∙ sym (sum-none (λ t. inSlot c ((start + t) % slots)))
+  cells-repeated c h start zero = cells-none ports c ∙ sym (sum-none (λ t. inSlot c ((start + t) % slots)))
   cells-repeated c h start (suc len) =
       let f : ℕ → ℕ = λ t. inSlot c ((start + t) % slots) in
       let m : start % slots < slots = mod-lt start h in
@@ -135,7 +93,7 @@ module _ (ports slots : ℕ) (bytes : List ℕ) (size : length bytes ≡ slots *
       let one : sumTo 1 f ≡ inSlot c (start % slots) = sum-single f ∙ ap (λ z. inSlot c (z % slots)) s in
       let rest : sumTo len (λ t. f (1 + t)) ≡ sumTo len (λ t. inSlot c ((suc start + t) % slots)) =
       sum-ext len (λ t. f (1 + t)) (λ t. inSlot c ((suc start + t) % slots)) (λ t l. ap (λ z. inSlot c (z % slots)) (omega arith)) in
-      cells-append c ports 1 (runOf ports (start % slots) 1 bytes) (repeated ports slots bytes (suc start) len) (run-length (start % slots) 1 (omega arith))
+      cells-append ports c 1 (runOf ports (start % slots) 1 bytes) (repeated ports slots bytes (suc start) len) (run-length ports (start % slots) 1 bytes (run-ends (start % slots) 1 (omega arith)))
       ∙ omega (arith, cells-repeated c h (suc start) len, one, rest, sum-append 1 len f, ap (λ z. sumTo z f) e)
 
   -- whole turns, the slots from start to the frame's end, and the rest from the frame's first slot on
@@ -157,15 +115,15 @@ module _ (ports slots : ℕ) (bytes : List ℕ) (size : length bytes ≡ slots *
       let again = sum-ext (head + tail) (λ x. h (start + (turns * slots + x))) (λ x. h (start + x)) (λ x l. on x) in
       let whole : sumTo slots h ≡ cells c ports bytes =
       sum-ext slots h (λ x. g (0 + x)) (λ x l. ap g (mod-eq-of-lt l ∙ omega arith))
-      ∙ sym (cells-run c 0 slots (omega arith))
-      ∙ ap (cells c ports) run-whole in
+      ∙ sym (cells-slots c 0 slots (omega arith))
+      ∙ ap (cells c ports) (run-all ports slots bytes size) in
       let front : sumTo head (λ x. h (start + x)) ≡ cells c ports (runOf ports start head bytes) =
       sum-ext head (λ x. h (start + x)) (λ x. g (start + x)) (λ x l. ap g (mod-eq-of-lt (omega arith)))
-      ∙ sym (cells-run c start head (omega arith)) in
+      ∙ sym (cells-slots c start head (omega arith)) in
       let back : sumTo tail (λ x. h (start + (head + x))) ≡ cells c ports (runOf ports 0 tail bytes) =
       sum-ext tail (λ x. h (start + (head + x))) (λ x. g (0 + x))
       (λ x l. ap g (ap (λ z. z % slots) (omega arith) ∙ add-mod-left slots x ∙ mod-eq-of-lt (omega arith) ∙ omega arith))
-      ∙ sym (cells-run c 0 tail (omega arith)) in
+      ∙ sym (cells-slots c 0 tail (omega arith)) in
       cells-repeated c one start len
       ∙ ap (λ z. sumTo z (λ x. h (start + x))) parts
       ∙ omega (arith, split, split', again, sum-rounds slots h round turns start, ap (λ z. turns * z) whole, front, back)

@@ -23,6 +23,7 @@ fn wide(byte: u8) -> usize
     byte as usize
 }
 
+// The lesser of two numbers.
 fn lesser(a: usize, b: usize) -> usize
     ensures { λ r. ⌜ r ≡ min a b ⌝ }
 {

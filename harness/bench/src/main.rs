@@ -6,7 +6,7 @@ use std::hint::black_box;
 use std::process::ExitCode;
 use std::time::Instant;
 
-use frame_builder::{Calls, Inspection, Reference};
+use frame_builder::{Calls, Inspection, Library};
 use loads::{full_load, Call, Random, Shape};
 
 const USAGE: &str = "benchmark [--repetitions COUNT]";
@@ -172,7 +172,7 @@ fn main() -> ExitCode {
         eprintln!("{USAGE}");
         return ExitCode::from(2);
     };
-    let candidate = Reference;
+    let candidate = Library;
     let builds = SIZES.map(|size| build_row(&candidate, size, repetitions));
     print_table(
         ["name", "candidate median ns", "plain median ns", "ratio"],

@@ -2,6 +2,10 @@
 
 #![deny(unsafe_code)]
 
+#[allow(unsafe_code)]
+mod library;
+
+pub use library::Library;
 pub use reference::{Class, Inspection, Refusal};
 
 /// What Admit and Build answer.
@@ -47,6 +51,11 @@ pub trait Calls {
 pub trait SheetProgram {
     /// Everything printed for the sheet.
     fn respond(&self, sheet: &[u8]) -> Vec<u8>;
+
+    /// Whether there is such a program.
+    fn is_there(&self) -> bool {
+        true
+    }
 }
 
 /// The reference builder behind the same calls.

@@ -1,6 +1,6 @@
 //! The proved calls, through the static library of crate `exports`.
 
-use crate::{Answer, Calls, Class, Inspection, Refusal, Service};
+use crate::{Answer, Calls, Class, Inspection, Refusal, Service, SheetProgram};
 
 /// The C functions, as `crates/exports/src/lib.rt` has them: a slice is a pointer and then a length.
 mod exported {
@@ -252,7 +252,7 @@ impl Calls for Library {
                     length,
                     cells,
                 ),
-                Class::Input(input) => exported::frame_builder_count_input(
+                Class::Input { port: input } => exported::frame_builder_count_input(
                     ports,
                     slots,
                     bytes,
@@ -262,7 +262,7 @@ impl Calls for Library {
                     length,
                     cells,
                 ),
-                Class::Output(output) => exported::frame_builder_count_output(
+                Class::Output { port: output } => exported::frame_builder_count_output(
                     ports,
                     slots,
                     bytes,
@@ -276,5 +276,15 @@ impl Calls for Library {
         };
         let counted = Numbers::of(call);
         counted.answer().map(|()| counted.first as u64)
+    }
+}
+
+impl SheetProgram for Library {
+    fn respond(&self, _: &[u8]) -> Vec<u8> {
+        Vec::new()
+    }
+
+    fn is_there(&self) -> bool {
+        false
     }
 }

@@ -1,8 +1,8 @@
-//! Compares a frame builder with the reference on random cases.
+//! Compares the proved frame builder with the reference on random cases.
 
 use std::process::ExitCode;
 
-use frame_builder::Reference;
+use frame_builder::Library;
 use tests::{run, Report, Settings};
 
 const USAGE: &str = "compare [--count CASES_PER_KIND] [--seed SEED] [--kind NAME] [--first CASE]";
@@ -52,7 +52,7 @@ fn main() -> ExitCode {
         "seed {}, {} cases of each kind",
         settings.seed, settings.count
     );
-    let report = run(&Reference, &settings);
+    let report = run(&Library, &settings);
     print_report(&report);
     let sound = report.passed > 0 && report.failed() == 0;
     ExitCode::from(u8::from(!sound))

@@ -1,0 +1,110 @@
+// A case's line: the call, what is asked of it, and the numbers of its answer.
+use model::Answer;
+use model::Refusal;
+use model::Service;
+use model::Who;
+
+// A number after a space.
+fn number(n: usize) {
+    io::write_all(1, b" ");
+    io::print_decimal(1, n as u64);
+}
+
+// A number after its name.
+fn named(name: &[u8], n: usize) {
+    io::write_all(1, b" ");
+    io::write_all(1, name);
+    number(n);
+}
+
+// The call, and the sizes that whoever sets up the rack gives.
+fn rack(call: &[u8], ports: usize, slots: usize) {
+    io::write_all(1, call);
+    named(b"ports", ports);
+    named(b"slots", slots);
+}
+
+// Two numbers: a port and its cells, or 0 and a count.
+fn load(port: usize, cells: usize) {
+    number(port);
+    number(cells);
+}
+
+// A refusal's number and what it carries; the refusals of a sheet are not among these calls' answers.
+fn refusal(refusal: Refusal) {
+    number(service::number_of(refusal));
+    if let Refusal::InputLoad { port, cells } = refusal {
+        load(port, cells);
+    }
+    if let Refusal::OutputLoad { port, cells } = refusal {
+        load(port, cells);
+    }
+}
+
+// The answer's number and values, 0 for accepted.
+pub fn admit(ports: usize, slots: usize, matrix: &[u16]) {
+    rack(b"Admit", ports, slots);
+    named(b"counts", matrix.len());
+    io::write_all(1, b":");
+    let answer = admission::admit(ports, slots, matrix);
+    match answer {
+        Answer::Accepted => number(0),
+        Answer::Refused(r) => refusal(r),
+    }
+    io::write_all(1, b"\n");
+}
+
+// A byte as a number.
+fn wide(byte: u8) -> usize {
+    byte as usize
+}
+
+// Each byte of a part.
+fn bytes(part: &[u8]) {
+    let mut q: usize = 0;
+    while q < part.len() {
+        number(wide(part[q]));
+        q += 1;
+    }
+}
+
+// The refusal's number, 0 for none, and the bytes of the part.
+pub fn view(ports: usize, slots: usize, frame: &[u8], slot: usize) {
+    rack(b"Slot view", ports, slots);
+    named(b"bytes", frame.len());
+    named(b"slot", slot);
+    io::write_all(1, b":");
+    let mut refused: usize = 99;
+    let part = service::slot_view(ports, slots, frame, slot, &mut refused);
+    number(refused);
+    bytes(part);
+    io::write_all(1, b"\n");
+}
+
+// Whom a count is for.
+fn whom(who: Who) {
+    match who {
+        Who::Pair { input, output } => {
+            named(b"pair", input);
+            number(output);
+        }
+        Who::Input(input) => named(b"input", input),
+        Who::Output(output) => named(b"output", output),
+    }
+}
+
+// 0 and the cells, or the refusal's number.
+pub fn count(ports: usize, slots: usize, frame: &[u8], who: Who, start: usize, len: usize) {
+    rack(b"Service count", ports, slots);
+    named(b"bytes", frame.len());
+    whom(who);
+    named(b"start", start);
+    named(b"length", len);
+    io::write_all(1, b":");
+    let answer = service::service_count(ports, slots, frame, who, start, len);
+    match answer {
+        Service::Counted(count) => load(0, count.cells),
+        Service::Refused(r) => refusal(r),
+    }
+    io::write_all(1, b"\n");
+}
