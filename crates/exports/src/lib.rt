@@ -139,7 +139,24 @@ pub extern "C" fn frame_builder_build(
     n.number
 }
 
-// Service count for a pair; the cells are the first value.
+// Service count; the cells are the first value.
+fn count(
+    ports: usize,
+    slots: usize,
+    frame: &[u8],
+    who: Who,
+    start: usize,
+    len: usize,
+    cells: &mut usize,
+) -> usize
+    ensures { λ r. ⌜ Two (service ports slots (now (frame .entry)) who start len) r (now (cells .exit)) ⌝ }
+{
+    let n = of_service(service::service_count(ports, slots, frame, who, start, len));
+    *cells = n.first;
+    n.number
+}
+
+// Service count for a pair.
 #[no_mangle]
 pub extern "C" fn frame_builder_count_pair(
     ports: usize,
@@ -154,9 +171,7 @@ pub extern "C" fn frame_builder_count_pair(
     ensures { λ r. ⌜ Two (service ports slots (now (frame .entry)) (Who.Pair input output) start len) r (now (cells .exit)) ⌝ }
 {
     let who = Who::Pair { input, output };
-    let n = of_service(service::service_count(ports, slots, frame, who, start, len));
-    *cells = n.first;
-    n.number
+    count(ports, slots, frame, who, start, len, cells)
 }
 
 // Service count for an input.
@@ -172,9 +187,7 @@ pub extern "C" fn frame_builder_count_input(
 ) -> usize
     ensures { λ r. ⌜ Two (service ports slots (now (frame .entry)) (Who.Input input) start len) r (now (cells .exit)) ⌝ }
 {
-    let n = of_service(service::service_count(ports, slots, frame, Who::Input(input), start, len));
-    *cells = n.first;
-    n.number
+    count(ports, slots, frame, Who::Input(input), start, len, cells)
 }
 
 // Service count for an output.
@@ -190,16 +203,7 @@ pub extern "C" fn frame_builder_count_output(
 ) -> usize
     ensures { λ r. ⌜ Two (service ports slots (now (frame .entry)) (Who.Output output) start len) r (now (cells .exit)) ⌝ }
 {
-    let n = of_service(service::service_count(
-        ports,
-        slots,
-        frame,
-        Who::Output(output),
-        start,
-        len,
-    ));
-    *cells = n.first;
-    n.number
+    count(ports, slots, frame, Who::Output(output), start, len, cells)
 }
 
 // Slot view: where in the frame the part begins, and how many bytes it has, stand in for the part itself.

@@ -1,0 +1,58 @@
+//! Builds some full loads of 16 × 2^K and prints how many odd counts they settled, for a count of instructions a settled count.
+
+#![forbid(unsafe_code)]
+
+use std::process::ExitCode;
+
+use frame_builder::{Calls, Library};
+use loads::{full_load, Random, Shape};
+
+const PORTS: usize = 16;
+
+/// Enough loads that one of them does not decide the figure.
+const LOADS: usize = 8;
+
+/// The pairs with an odd number of cells in some slots.
+fn odd_pairs(slots: &[u8]) -> usize {
+    let mut counts = [[0u32; PORTS + 1]; PORTS];
+    for slot in slots.chunks(PORTS) {
+        for (input, &output) in slot.iter().enumerate() {
+            counts[input][usize::from(output)] += 1;
+        }
+    }
+    let pairs = counts.iter().flat_map(|row| &row[1..]);
+    pairs.filter(|&&count| count % 2 == 1).count()
+}
+
+/// The odd counts of every block of two or more slots.
+fn settled(block: &[u8]) -> usize {
+    if block.len() <= PORTS {
+        return 0;
+    }
+    let (first, second) = block.split_at(block.len() / 2);
+    odd_pairs(block) + settled(first) + settled(second)
+}
+
+fn main() -> ExitCode {
+    let level = std::env::args().nth(1).and_then(|word| word.parse().ok());
+    let Some(level) = level.filter(|&level: &u32| level <= 10) else {
+        eprintln!("settled K, with K from 0 to 10");
+        return ExitCode::from(2);
+    };
+    let slots = 1 << level;
+    let shape = Shape {
+        ports: PORTS,
+        slots,
+    };
+    let mut random = Random::new(2_026);
+    let mut total = 0;
+    for _ in 0..LOADS {
+        let call = full_load(shape, slots, &mut random);
+        let mut frame = vec![0; PORTS * slots];
+        let answer = Library.build(call.ports, call.slots, &call.matrix, &mut frame);
+        assert!(answer.is_ok(), "a full load fits");
+        total += settled(&frame);
+    }
+    println!("{total}");
+    ExitCode::SUCCESS
+}
