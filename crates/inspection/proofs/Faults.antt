@@ -1,23 +1,23 @@
 -- The faults in their order.
-use Prim.Native.Nat.{ℕ, suc, zero, _+_, _*_, _/_, _%_, _≤_, _<_}
-use mathlib.Core.Path.{_≡_, refl, sym, ap, _∙_, subst}
+use Prim.Native.Nat.{ℕ, _+_, _*_, _/_, _%_, _≤_, _<_}
+use mathlib.Core.Path.{_≡_, sym, ap, _∙_}
 use mathlib.Core.List.{List, [], _∷_}
-use mathlib.Core.Bool.{Bool, true, false, not}
+use mathlib.Core.Bool.{Bool, false, not}
 use native.Mathlib.Omega.{arith}
 use native.Mathlib.Nat.{div-le-self, mod-le, mul-le-mul, pow-le-pow-right}
 use native.Mathlib.Numerals.{add-one}
 use mir.Syntax.{w64}
 use mir.Val.{Fits}
-use lib.Dec.{eqb, ltb}
+use lib.Dec.{eqb}
 use lib.ListN.{length, getD}
 use borrow.Author.Tests.{lt-ltb, le-ltb, ltb-false, not-false, eqb-true, eqb-false}
 use Rattle.model.specs.Words.{first, within}
 use Rattle.model.specs.Refusals.{Check, levels, report}
-use Rattle.model.specs.Inspect.{firstPlace, tooLarge, usedTwice, wrongCount, byteTooLarge, outputTwice, pairCount, unbalancedBlock}
+use Rattle.model.specs.Inspect.{firstPlace, tooLarge, usedTwice, wrongCount, outputTwice, pairCount, unbalancedBlock}
 use Rattle.model.proofs.Searches.{first-before}
 use Rattle.model.proofs.Levels.{levels-power, levels-most}
 use Rattle.model.proofs.Reports.{within-known}
-use Rattle.inspection.specs.Tally.{Switch, Readable, Lent, faults}
+use Rattle.inspection.specs.Tally.{Readable, Lent, faults}
 
 -- ---- one fault that is a place
 module _ (number width n q : ℕ) (wrong : ℕ → Bool) (e : q ≡ first wrong 0 n) (cs : List Check) (asked : List ℕ) where

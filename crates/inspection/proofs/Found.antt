@@ -1,14 +1,12 @@
 -- Searches of the code, step by step.
-use Prim.Native.Nat.{ℕ, suc, zero, _+_, _-_, _*_, _/_, _%_, _^_, _≤_, _<_}
-use mathlib.Core.Path.{_≡_, refl, sym, ap, _∙_, subst}
+use Prim.Native.Nat.{ℕ, suc, _+_, _-_, _*_, _/_, _%_, _^_, _≤_, _<_}
+use mathlib.Core.Path.{_≡_, refl, sym, ap, _∙_}
 use mathlib.Core.List.{List, [], _∷_}
 use mathlib.Core.Bool.{Bool, true, false, not}
 use native.Mathlib.Omega.{arith}
 use lib.Arith.{digits-lt, digits-div, digits-mod}
 use lib.Pow.{pow-pos, shr-shr}
-use lib.Dec.{leb, eqb}
 use lib.ListN.{length, getD}
-use mathlib.Core.Logic.{_≢_}
 use native.Mathlib.Nat.{div-add-mod', mul-le-mul-right, mul-le-mul, pow-le-pow-right}
 use native.Mathlib.Numerals.{add-one}
 use mir.Syntax.{w64}
@@ -20,8 +18,8 @@ use Rattle.model.specs.Frames.{cells, runOf}
 use Rattle.model.specs.Refusals.{levels, report}
 use Rattle.model.specs.Inspect.{tooLarge, twiceIn, usedTwice, wrongCount, unbalanced, unbalancedNumber, firstAt, unbalancedAt, unbalancedBlock}
 use Rattle.model.proofs.Cases.{byLt}
-use Rattle.model.proofs.Searches.{Passed, passed-start, passed-on, passed-found, passed-done, first-low, first-high, first-found, first-before}
-use Rattle.model.proofs.Levels.{levels-power, depth-size, depth-half, depth-fill}
+use Rattle.model.proofs.Searches.{Passed, passed-start, passed-on, passed-found, passed-done, first-low, first-found, first-before}
+use Rattle.model.proofs.Levels.{levels-power, depth-half, depth-fill}
 use Rattle.model.proofs.OneFrame.{double}
 use Rattle.model.proofs.Cells.{run-all}
 use Rattle.model.proofs.Inspected.{position-of, unbalanced-yes, unbalanced-no}

@@ -1,11 +1,10 @@
 -- What the code counts: a tally has a number for each pair, input and output, at a place of its own.
-use Prim.Native.Nat.{ℕ, suc, zero, _+_, _*_, _≤_, _<_}
+use Prim.Native.Nat.{ℕ, _+_, _*_, _≤_, _<_}
 use mathlib.Core.Path.{_≡_}
 use mathlib.Core.List.{List, [], _∷_}
 use mathlib.Core.Bool.{Bool, not}
-use lib.Dec.{ltb}
-use lib.ListN.{length, getD, replicate}
-use Rattle.model.specs.Words.{bit, near, first, sumTo}
+use lib.ListN.{length, getD}
+use Rattle.model.specs.Words.{bit, near, sumTo}
 use Rattle.model.specs.Loads.{Class, pair, input, output, Of}
 use Rattle.model.specs.Frames.{counts, cells}
 use Rattle.model.specs.Refusals.{levels, report}

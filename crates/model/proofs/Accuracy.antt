@@ -1,11 +1,10 @@
 -- A legal and balanced frame is accurate from its first slot on: the law of a block, for two counts of slots f and g.
-use Prim.Native.Nat.{ℕ, suc, zero, _+_, _*_, _-_, _^_, _≤_, _<_}
+use Prim.Native.Nat.{ℕ, suc, zero, _+_, _*_, _^_, _≤_}
 use mathlib.Core.Path.{_≡_, refl, ap, subst, sym, _∙_}
 use mathlib.Core.List.{List}
 use native.Mathlib.Nat.{mul-le-mul-left, mul-le-mul-right, zero-add}
 use native.Mathlib.Omega.{arith}
 use native.Mathlib.Decide.{decLe}
-use lib.ListN.{length}
 use Rattle.model.specs.Words.{Near}
 use Rattle.model.specs.Loads.{Class, Of, load}
 use Rattle.model.specs.Frames.{cells, runOf, Legal, Block, whole, front, back, Balanced}

@@ -1,6 +1,6 @@
 -- The nine bench loads of document 01 that are marked P, and the seam load: one list of cases, computed from the
 -- definitions.
-use Prim.Native.Nat.{ℕ, _+_, _*_, _^_}
+use Prim.Native.Nat.{ℕ, _*_}
 use mathlib.Core.Path.{_≡_, refl}
 use mathlib.Core.List.{List, [], _∷_, _++_, map}
 use lib.ListN.{replicate}
@@ -8,12 +8,10 @@ use Rattle.model.specs.Words.{sumTo}
 use Rattle.model.specs.Loads.{load}
 use Rattle.model.specs.Frames.{cells, runOf}
 use Rattle.model.specs.Refusals.{admitted}
-use Rattle.model.specs.Rules.{portOf}
 use Rattle.model.specs.Schedule.{walk, settleAt, favours, slotOf, frameOf}
 use Rattle.model.specs.Build.{buildChecks, built, left}
 use Rattle.model.specs.Service.{service, repeated}
 use Rattle.model.specs.Sheet.{text, digits, portsLine, slotsLine, pairLine, lines, numbersFrom, readPairs, readSheet, printSlots, response}
-use Rattle.model.specs.declared.Who.{Who}
 use Rattle.model.specs.declared.Who.the-variants.{Pair}
 
 -- What the definitions give, and what document 01 says.

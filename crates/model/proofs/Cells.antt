@@ -1,11 +1,11 @@
 -- Cells: those of whole slots end to end add up, and runs of what is put end to end are runs of its parts.
-use Prim.Native.Nat.{ℕ, suc, zero, _+_, _*_, _%_, _≤_, _<_}
-use mathlib.Core.Path.{_≡_, refl, sym, ap, _∙_}
-use mathlib.Core.List.{List, [], _∷_, _++_}
+use Prim.Native.Nat.{ℕ, _+_, _*_, _%_, _≤_}
+use mathlib.Core.Path.{_≡_, refl, ap, _∙_}
+use mathlib.Core.List.{List, [], _++_}
 use native.Mathlib.Omega.{arith}
 use native.Mathlib.Nat.{mul-le-mul-right, mul-add-mod-self-right, mod-eq-of-lt}
-use lib.ListN.{length, getD, take, drop, length-append, length-take, length-drop, List·getD-append}
-use lib.Seq.{getD-append-add, take-add, drop-drop, take-all, take-append-le, drop-append-le, drop-append-add, take-length}
+use lib.ListN.{length, getD, drop, length-append, length-take, length-drop, List·getD-append}
+use lib.Seq.{getD-append-add, take-add, drop-drop, take-all, take-append-le, drop-append-le, drop-append-add}
 use Rattle.model.specs.Words.{bit, sumTo}
 use Rattle.model.specs.Loads.{Class}
 use Rattle.model.specs.Frames.{counts, cells, runOf}

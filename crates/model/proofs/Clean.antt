@@ -1,26 +1,26 @@
 -- What Inspect's answer means: clean exactly where the frame is legal and balanced; and what a fault names is wrong, and
 -- nothing before it in the order is.
-use Prim.Native.Nat.{ℕ, suc, zero, _+_, _-_, _*_, _/_, _%_, _^_, _≤_, _<_}
-use mathlib.Core.Path.{_≡_, refl, sym, ap, _∙_, subst}
+use Prim.Native.Nat.{ℕ, suc, _+_, _-_, _*_, _/_, _%_, _^_, _<_}
+use mathlib.Core.Path.{_≡_, sym, ap, _∙_, subst}
 use mathlib.Core.Logic.{_≢_}
 use mathlib.Core.List.{List, [], _∷_}
-use mathlib.Core.Bool.{Bool, true, false, not, true≢false}
+use mathlib.Core.Bool.{Bool, true, false, not}
 use native.Mathlib.Omega.{arith}
 use native.Mathlib.Nat.{div-lt-iff-lt-mul, mod-lt}
 use lib.Arith.{digits-div, digits-mod, digits-lt}
-use lib.Dec.{eqb, ltb}
+use lib.Dec.{ltb}
 use lib.ListN.{length, getD}
-use borrow.Author.Tests.{lt-ltb, le-ltb, ltb-true, ltb-false, eq-eqb, ne-eqb, eqb-true, not-false}
-use Rattle.model.specs.Words.{within, Near, first, Every}
-use Rattle.model.specs.Loads.{Class, pair, output, Of, load}
-use Rattle.model.specs.Frames.{cells, runOf, Legal, Block, Balanced}
+use borrow.Author.Tests.{le-ltb, ltb-true, ltb-false, eq-eqb, ne-eqb, eqb-true, not-false}
+use Rattle.model.specs.Words.{first, Every}
+use Rattle.model.specs.Loads.{pair, output, load}
+use Rattle.model.specs.Frames.{cells, runOf, Legal, Balanced}
 use Rattle.model.specs.Refusals.{Check, report, levels}
-use Rattle.model.specs.Inspect.{firstPlace, tooLarge, twiceIn, usedTwice, wrongCount, unbalanced, unbalancedNumber, firstAt, unbalancedAt, byteTooLarge, outputTwice, pairCount, unbalancedBlock, inspected}
+use Rattle.model.specs.Inspect.{tooLarge, twiceIn, usedTwice, wrongCount, unbalanced, unbalancedNumber, firstAt, unbalancedAt, byteTooLarge, outputTwice, pairCount, unbalancedBlock, inspected}
 use Rattle.model.specs.Build.{buildAccepts, left}
 use Rattle.model.specs.Wire.{Carried, Shape, Accurate}
 use Rattle.model.proofs.Cases.{byBool, byLt, within-yes}
-use Rattle.model.proofs.Searches.{first-low, first-high, first-found, first-before, first-none}
-use Rattle.model.proofs.Levels.{levels-power, levels-most, depth-size, depth-half}
+use Rattle.model.proofs.Searches.{first-found, first-before, first-none}
+use Rattle.model.proofs.Levels.{levels-power, depth-size, depth-half}
 use Rattle.model.proofs.Blocks.{number-block, block-numbered}
 use Rattle.model.proofs.Inspected.{near-yes, position-of, unbalanced-no, balanced-near}
 use Rattle.model.proofs.Demand2.{WellFormed, accepts-is, build-sound}

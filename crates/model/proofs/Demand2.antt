@@ -1,22 +1,21 @@
 -- Demand 2: a well-formed load is refused as overloaded exactly where it does not fit, with the lowest such port and its
 -- load; every other one is accepted, and Build leaves the rules' only frame.
-use Prim.Native.Nat.{ℕ, suc, zero, _+_, _*_, _^_, _≤_, _<_}
-use mathlib.Core.Path.{_≡_, refl, sym, ap, _∙_, subst}
+use Prim.Native.Nat.{ℕ, suc, _*_, _^_, _≤_, _<_}
+use mathlib.Core.Path.{_≡_, sym, _∙_, subst}
 use mathlib.Core.Logic.{_≢_}
 use mathlib.Core.List.{List, [], _∷_}
-use mathlib.Core.Bool.{Bool, true, false, not, true≢false}
+use mathlib.Core.Bool.{true, false, not}
 use native.Mathlib.Omega.{arith}
 use lib.Dec.{eqb, ltb}
 use lib.ListN.{length}
 use borrow.Author.Tests.{eqb-true, eqb-false, eq-eqb, ne-eqb, lt-ltb, le-ltb, ltb-true, ltb-false, not-true, not-false}
-use Rattle.model.specs.Words.{both, within, first}
+use Rattle.model.specs.Words.{both, within}
 use Rattle.model.specs.Loads.{Class, input, output, load, Fits}
-use Rattle.model.specs.Refusals.{Check, report, clear, accepted, bad-ports, bad-slots, bad-matrix, bad-frame, overloaded, overload, levels, admitted}
+use Rattle.model.specs.Refusals.{Check, report, clear, accepted, overloaded, overload, levels, admitted}
 use Rattle.model.specs.Build.{buildChecks, built, buildAccepts, left}
-use Rattle.model.specs.Schedule.{frameOf}
 use Rattle.model.specs.Frames.{Legal, Balanced}
-use Rattle.model.proofs.Cases.{byBool, byLt, both-true, within-yes, within-true}
-use Rattle.model.proofs.Searches.{first-high, first-found, first-before, first-is, first-none}
+use Rattle.model.proofs.Cases.{byBool, both-true, within-yes, within-true}
+use Rattle.model.proofs.Searches.{first-found, first-before, first-is, first-none}
 use Rattle.model.proofs.Levels.{levels-power}
 use Rattle.model.proofs.OneFrame.{OneFrame, one-frame}
 

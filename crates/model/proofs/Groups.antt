@@ -1,19 +1,19 @@
 -- Groups: what partners reach from a count, the first count of each group, and the half that it favours.
-use Prim.Native.Nat.{ℕ, suc, zero, _+_, _-_, _≤_, _<_}
-use mathlib.Core.Path.{_≡_, refl, sym, ap, _∙_, subst}
+use Prim.Native.Nat.{ℕ, suc, zero, _-_, _≤_, _<_}
+use mathlib.Core.Path.{_≡_, ap, _∙_, subst}
 use mathlib.Core.Logic.{_≢_, _⊎_, inl, inr, ⊎-elim}
-use mathlib.Core.List.{List, [], _∷_}
-use mathlib.Core.Bool.{Bool, true, false}
+use mathlib.Core.List.{List}
+use mathlib.Core.Bool.{Bool, true}
 use native.Mathlib.Omega.{arith}
 use lib.ListN.{length, getD, set, replicate}
 use lib.Seq.{getD-set-other}
 use Rattle.model.specs.Words.{upFrom}
-use Rattle.model.specs.Rules.{Side, inputs, outputs, odd, oddsAt, Partners, Joined, itself, onward, backward}
-use Rattle.model.specs.Schedule.{partner, walk, tieHalf, settleAt, settle, favours}
+use Rattle.model.specs.Rules.{Side, inputs, outputs, odd, Joined, itself, onward, backward}
+use Rattle.model.specs.Schedule.{walk, tieHalf, settleAt, settle, favours}
 use Rattle.model.proofs.Cases.{byEq, byLt}
 use Rattle.model.proofs.Partners.{rule-partner, partner-rule}
 use Rattle.model.proofs.Walks.{Good, Pairing, walk-on, walk-off}
-use Rattle.model.proofs.Settled.{Settled, Keeps, groupOf, group-first, group-keeps, settle-cases, settle-one, partner-pairing, mate, favours-law, zero-at, start-settled}
+use Rattle.model.proofs.Settled.{Settled, groupOf, group-first, group-keeps, settle-cases, settle-one, partner-pairing, mate, favours-law, zero-at, start-settled}
 
 -- what is reached from p by partners
 pub data Reached (f : Side → ℕ → ℕ) (p : ℕ) : ℕ → Type 0 where

@@ -1,21 +1,19 @@
 -- Loads of halves: for each pair, input and output they sum to the whole and differ by at most 1, and what fits twice the
 -- slots splits into what fits them.
 use Prim.Native.Nat.{ℕ, suc, zero, _+_, _*_, _/_, _%_, _≤_, _<_}
-use mathlib.Core.Path.{_≡_, refl, sym, ap, _∙_, subst}
-use mathlib.Core.Logic.{_≢_}
+use mathlib.Core.Path.{_≡_, sym, ap, _∙_}
 use mathlib.Core.List.{List, [], _∷_}
 use mathlib.Core.Bool.{Bool, true, false, not}
 use native.Mathlib.Omega.{arith}
-use native.Mathlib.Nat.{mul-le-mul-right}
 use lib.Arith.{digits-div, digits-mod}
 use lib.Dec.{eqb}
 use lib.ListN.{length, getD}
-use borrow.Author.Tests.{eqb-true, eq-eqb, ne-eqb, eqb-false}
+use borrow.Author.Tests.{eq-eqb, ne-eqb}
 use Rattle.model.specs.Words.{if, both, Near, upFrom, keep, sumTo, Every}
 use Rattle.model.specs.Loads.{Class, pair, input, output, Of, countOf, load, Fits}
 use Rattle.model.specs.Rules.{Side, inputs, outputs, portOf, odd, oddsAt, Partners, these, later, favoursFirst, Split}
-use Rattle.model.proofs.Cases.{byBool, byEq}
-use Rattle.model.proofs.Sums.{sum-ext, sum-add, sum-zero, sum-one, sum-rows, sum-more}
+use Rattle.model.proofs.Cases.{byBool}
+use Rattle.model.proofs.Sums.{sum-ext, sum-add, sum-zero, sum-one, sum-rows}
 use Rattle.model.proofs.Partners.{every-map, AtPort, odds-every}
 use Rattle.model.proofs.Splits.{more, less, alike}
 

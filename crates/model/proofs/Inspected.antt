@@ -1,17 +1,15 @@
 -- Inspect: what its tests of classes and blocks say.
-use Prim.Native.Nat.{ℕ, suc, zero, _+_, _-_, _*_, _/_, _%_, _^_, _≤_, _<_}
-use mathlib.Core.Path.{_≡_, refl, sym, ap, ap₂, _∙_, subst}
-use mathlib.Core.Logic.{_≢_}
+use Prim.Native.Nat.{ℕ, suc, zero, _+_, _*_, _/_, _%_, _≤_, _<_}
+use mathlib.Core.Path.{_≡_, refl, sym, ap, _∙_}
 use mathlib.Core.List.{List, [], _∷_, _++_, map}
 use mathlib.Core.Bool.{Bool, true, false, not, true≢false}
 use native.Mathlib.Omega.{arith}
-use native.Mathlib.Nat.{mul-le-mul-right, div-add-mod', mod-lt, div-lt-iff-lt-mul}
+use native.Mathlib.Nat.{mod-lt, div-lt-iff-lt-mul}
 use lib.Arith.{digits-div, digits-mod, digits-lt}
-use lib.Dec.{eqb, ltb, leb}
-use lib.ListN.{length, getD}
-use borrow.Author.Tests.{leb-true, le-leb, lt-leb, not-true, not-false}
-use Rattle.model.specs.Words.{both, near, Near, upFrom, first}
-use Rattle.model.specs.Loads.{Class, pair, input, output, Of, load}
+use lib.Dec.{leb}
+use borrow.Author.Tests.{leb-true, le-leb}
+use Rattle.model.specs.Words.{both, near, Near, upFrom}
+use Rattle.model.specs.Loads.{Class, pair, input, output, Of}
 use Rattle.model.specs.Frames.{cells, runOf}
 use Rattle.model.specs.Inspect.{classes, all, unbalanced}
 use Rattle.model.proofs.Cases.{byBool, byEq, both-true}

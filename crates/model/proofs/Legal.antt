@@ -1,20 +1,18 @@
 -- Legal frames: what is exact for each pair is exact for each input and output.
-use Prim.Native.Nat.{ℕ, suc, zero, _+_, _*_, _%_, _≤_, _<_}
-use mathlib.Core.Path.{_≡_, refl, sym, ap, _∙_}
-use mathlib.Core.Logic.{_≢_}
+use Prim.Native.Nat.{ℕ, suc, _%_, _<_}
+use mathlib.Core.Path.{_≡_, refl, sym, _∙_}
 use mathlib.Core.List.{List}
-use mathlib.Core.Bool.{Bool, true, false, not}
+use mathlib.Core.Bool.{not}
 use native.Mathlib.Omega.{arith}
 use native.Mathlib.Nat.{mod-lt}
 use lib.Dec.{eqb}
 use lib.ListN.{length, getD}
 use borrow.Author.Tests.{eq-eqb, ne-eqb}
 use Rattle.model.specs.Words.{both, bit, sumTo}
-use Rattle.model.specs.Loads.{Class, pair, input, output, Of, countOf, load}
+use Rattle.model.specs.Loads.{Class, pair, input, output, Of, load}
 use Rattle.model.specs.Frames.{cells, Legal}
 use Rattle.model.proofs.Cases.{byBool}
 use Rattle.model.proofs.Sums.{sum-ext, sum-zero, sum-one, sum-swap}
-use Rattle.model.proofs.Splits.{is-yes, is-no}
 use Rattle.model.proofs.Slots.{busy}
 
 module _ {ports slots : ℕ} {matrix bytes : List ℕ} (legal : Legal ports slots matrix bytes) where

@@ -2,15 +2,13 @@
 use Prim.Native.Nat.{ℕ, suc, zero, _+_, _-_, _*_, _/_, _^_, _≤_, _<_}
 use mathlib.Core.Path.{_≡_, refl, sym, ap, _∙_}
 use mathlib.Core.Logic.{_≢_}
-use mathlib.Core.Bool.{Bool, true, false}
+use mathlib.Core.Bool.{Bool}
 use native.Mathlib.Omega.{arith}
 use native.Mathlib.Nat.{pow-le-pow-right, two-pow-succ}
 use lib.Dec.{eqb}
 use lib.Pow.{pow-pos, pow-add, shl-shr}
 use borrow.Author.Tests.{eqb-true, eq-eqb, ne-eqb}
-use Rattle.model.specs.Words.{first}
 use Rattle.model.specs.Refusals.{levels}
-use Rattle.model.proofs.Cases.{byLt}
 use Rattle.model.proofs.Searches.{first-high, first-found, first-is}
 
 -- powers of two rise

@@ -1,17 +1,17 @@
 -- One frame: for a load that fits, the rules' frame exists, is the only one, is legal and is balanced.
 use Prim.Native.Nat.{ℕ, suc, zero, _+_, _-_, _*_, _^_, _≤_, _<_}
-use mathlib.Core.Path.{_≡_, refl, sym, ap, ap₂, _∙_, subst}
+use mathlib.Core.Path.{_≡_, refl, ap, ap₂, _∙_}
 use mathlib.Core.Logic.{_⊎_, inl, inr}
-use mathlib.Core.List.{List, [], _∷_, _++_}
+use mathlib.Core.List.{List, _++_}
 use native.Mathlib.Omega.{arith}
 use native.Mathlib.Nat.{two-pow-succ}
 use lib.ListN.{length, getD, length-append, List·getD-append}
 use lib.Seq.{getD-append-add}
 use Rattle.model.specs.Words.{Near}
-use Rattle.model.specs.Loads.{Class, pair, output, Of, load, Fits}
+use Rattle.model.specs.Loads.{Class, pair, output, Of, Fits}
 use Rattle.model.specs.Frames.{cells, runOf, Legal, Block, Balanced}
-use Rattle.model.specs.Rules.{portOf, Split, Slot, Halved, Scheduled}
-use Rattle.model.specs.Schedule.{favours, halfOf, slotOf, frameOf}
+use Rattle.model.specs.Rules.{portOf, Split, Slot, Scheduled}
+use Rattle.model.specs.Schedule.{halfOf, frameOf}
 use Rattle.model.proofs.Cases.{byLt}
 use Rattle.model.proofs.Cells.{cells-append, run-all, run-first, run-second}
 use Rattle.model.proofs.Splits.{split-is, only-split}

@@ -1,6 +1,6 @@
 -- Overloads: loads added up in matrix order, and the lowest port above slots.
 use Prim.Native.Nat.{ℕ, suc, zero, _+_, _*_, _≤_, _<_}
-use mathlib.Core.Path.{_≡_, refl, sym, _∙_}
+use mathlib.Core.Path.{_≡_, refl, sym}
 use mathlib.Core.Logic.{_≢_}
 use mathlib.Core.List.{List, [], _∷_}
 use mathlib.Core.Bool.{Bool, true, false}

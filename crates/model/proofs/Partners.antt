@@ -1,14 +1,14 @@
 -- Partners: in a rising list the partner is an involution, and it is the rule's; which counts are partners is settled here.
 use Prim.Native.Nat.{ℕ, suc, zero, _+_, _%_, _≤_, _<_}
-use mathlib.Core.Path.{_≡_, refl, sym, ap, _∙_, subst}
+use mathlib.Core.Path.{_≡_, refl, sym, ap, _∙_}
 use mathlib.Core.Logic.{_≢_, _⊎_, inl, inr, ⊎-elim}
 use mathlib.Core.List.{List, [], _∷_}
-use mathlib.Core.Bool.{Bool, true, false}
+use mathlib.Core.Bool.{Bool, true}
 use native.Mathlib.Omega.{arith}
 use lib.Dec.{eqb}
 use lib.ListN.{length, getD, List·getD-eq-default}
 use borrow.Author.Tests.{eqb-true, eq-eqb, ne-eqb}
-use Rattle.model.specs.Words.{if, both, upFrom, keep, Every}
+use Rattle.model.specs.Words.{both, upFrom, keep, Every}
 use Rattle.model.specs.Rules.{odd, oddsAt, Partners, these, later}
 use Rattle.model.specs.Schedule.{partnerIn, partner}
 use Rattle.model.proofs.Cases.{byBool, byEq, byLt, both-true}

@@ -1,6 +1,6 @@
 -- Reports: the first condition that holds.
 use Prim.Native.Nat.{ℕ, _^_, _≤_}
-use mathlib.Core.Path.{_≡_, refl, sym, ap, _∙_}
+use mathlib.Core.Path.{_≡_, refl, sym, _∙_}
 use mathlib.Core.Logic.{_≢_}
 use mathlib.Core.List.{List, [], _∷_}
 use mathlib.Core.Bool.{Bool, true, false, not, true≢false}
@@ -10,7 +10,7 @@ use lib.Dec.{eqb}
 use lib.ListN.{getD}
 use lib.Pow.{pow-pos}
 use borrow.Author.Tests.{eqb-false, not-false}
-use Rattle.model.specs.Words.{if, within, Every}
+use Rattle.model.specs.Words.{within, Every}
 use Rattle.model.specs.Refusals.{Check, report, clear, accepted, levels}
 use Rattle.model.proofs.Cases.{byBool, within-true}
 use Rattle.model.proofs.Levels.{levels-most, levels-power}

@@ -1,12 +1,11 @@
 -- Runs: the cells of whole slots end to end, and of a run of a frame that repeats for ever.
 use Prim.Native.Nat.{ℕ, suc, zero, _+_, _-_, _*_, _/_, _%_, _≤_, _<_, min}
-use mathlib.Core.Path.{_≡_, sym, ap, ap₂, _∙_}
-use mathlib.Core.List.{List, [], _++_}
+use mathlib.Core.Path.{_≡_, sym, ap, _∙_}
+use mathlib.Core.List.{List}
 use mathlib.Core.Bool.{Bool}
 use native.Mathlib.Omega.{arith}
-use native.Mathlib.Nat.{mod-eq-of-lt, mul-add-mod-self-right, add-mul-mod-self-right, mul-le-mul-right, div-add-mod', add-mod-left, mod-lt}
-use lib.ListN.{length, getD, take, drop, length-append, length-take, length-drop, List·getD-append}
-use lib.Seq.{getD-append-add, take-add, drop-drop, length-take-le, take-all}
+use native.Mathlib.Nat.{mod-eq-of-lt, add-mul-mod-self-right, mul-le-mul-right, div-add-mod', add-mod-left, mod-lt}
+use lib.ListN.{length, getD, take, drop, length-take, length-drop}
 use Rattle.model.specs.Words.{bit, sumTo}
 use Rattle.model.specs.Loads.{Class}
 use Rattle.model.specs.Frames.{counts, cells, runOf}

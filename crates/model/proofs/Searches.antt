@@ -1,9 +1,8 @@
 -- A search: the first of some numbers that passes a test.
 use Prim.Native.Nat.{ℕ, suc, zero, _+_, _≤_, _<_}
-use mathlib.Core.Path.{_≡_, refl, sym, ap, subst, _∙_}
-use mathlib.Core.Bool.{Bool, true, false, true≢false}
+use mathlib.Core.Path.{_≡_, sym, _∙_}
+use mathlib.Core.Bool.{Bool, true, false}
 use native.Mathlib.Omega.{arith}
-use native.Mathlib.Nat.{add-suc}
 use Rattle.model.specs.Words.{first}
 use Rattle.model.proofs.Cases.{byBool, byEq}
 

@@ -3,9 +3,9 @@ use Prim.Native.Nat.{ℕ, suc, zero, _+_, _*_, _/_, _%_, _≤_, _<_}
 use mathlib.Core.Path.{_≡_, refl, sym, ap, _∙_, subst}
 use mathlib.Core.Logic.{_≢_}
 use mathlib.Core.List.{List, [], _∷_}
-use mathlib.Core.Bool.{Bool, true, false, not}
+use mathlib.Core.Bool.{Bool, true, not}
 use native.Mathlib.Omega.{arith}
-use native.Mathlib.Nat.{mul-le-mul-right, div-add-mod', mod-lt}
+use native.Mathlib.Nat.{div-add-mod', mod-lt}
 use lib.Arith.{digits-div, digits-mod}
 use lib.Dec.{eqb}
 use lib.ListN.{length, getD, set, replicate, length-set, length-replicate}
@@ -16,7 +16,7 @@ use Rattle.model.specs.Loads.{Class, pair, input, output, Of, countOf, l
 use Rattle.model.specs.Frames.{counts, cells}
 use Rattle.model.specs.Rules.{odd, Slot}
 use Rattle.model.specs.Schedule.{put, slotOf}
-use Rattle.model.proofs.Cases.{byBool, byEq, byLt}
+use Rattle.model.proofs.Cases.{byBool, byEq}
 use Rattle.model.proofs.Sums.{sum-ext, sum-zero, sum-one, sum-has, sum-has-two}
 use Rattle.model.proofs.Cells.{cells-slot}
 use Rattle.model.proofs.Partners.{odd-lt}

@@ -1,21 +1,21 @@
 -- One split: the function's halves meet rules 2 to 5, and whatever meets them is the function's halves.
-use Prim.Native.Nat.{ℕ, suc, zero, _+_, _-_, _/_, _%_, _≤_, _<_}
+use Prim.Native.Nat.{ℕ, suc, zero, _+_, _/_, _%_, _≤_}
 use mathlib.Core.Path.{_≡_, refl, sym, ap, _∙_, subst}
 use mathlib.Core.Logic.{_≢_, ⊎-elim}
 use mathlib.Core.List.{List, [], _∷_}
 use mathlib.Core.Bool.{Bool, true, false, not}
 use native.Mathlib.Omega.{arith}
-use lib.Dec.{eqb, ltb}
+use lib.Dec.{eqb}
 use lib.ListN.{length, getD}
 use lib.Seq.{ext-getD}
 use borrow.Author.Tests.{eqb-true, eqb-false, eq-eqb, ne-eqb, lt-ltb, le-ltb, ltb-true, ltb-false}
 use Rattle.model.specs.Words.{bit, Near}
 use Rattle.model.specs.Rules.{Side, odd, oddsAt, Partners, Joined, favoursFirst, Split}
-use Rattle.model.specs.Schedule.{partner, favours, halfBy, halfOf}
+use Rattle.model.specs.Schedule.{favours, halfBy, halfOf}
 use Rattle.model.proofs.Cases.{byBool, byEq}
 use Rattle.model.proofs.Partners.{rule-partner, partner-rule}
 use Rattle.model.proofs.Settled.{mate, favours-law}
-use Rattle.model.proofs.Groups.{reached-closed, reached-sym, Led, pairings, favours-led, reached-joined, joined-reached}
+use Rattle.model.proofs.Groups.{reached-closed, reached-sym, pairings, favours-led, reached-joined, joined-reached}
 
 -- ---- halves by what each count favours
 pub is-yes : (x h : ℕ) → x ≡ h → bit (eqb x h) ≡ 1

@@ -5,7 +5,7 @@ use mathlib.Core.Logic.{_≢_}
 use native.Mathlib.Nat.{add-zero, add-suc}
 use native.Mathlib.Omega.{arith}
 use Rattle.model.specs.Words.{sumTo}
-use Rattle.model.proofs.Cases.{byEq, byLt}
+use Rattle.model.proofs.Cases.{byEq}
 
 pub sum-none : (f : ℕ → ℕ) → sumTo 0 f ≡ 0
 unfolding sumTo

@@ -1,10 +1,10 @@
 -- Inspect: a frame from anywhere is clean, or has a first fault.
-use Prim.Native.Nat.{ℕ, suc, zero, _+_, _*_, _/_, _%_, _^_}
+use Prim.Native.Nat.{ℕ, suc, _+_, _*_, _/_, _%_, _^_}
 use mathlib.Core.List.{List, [], _∷_, _++_, map}
-use mathlib.Core.Bool.{Bool, true, false, not}
+use mathlib.Core.Bool.{Bool, true, not}
 use lib.Dec.{eqb, ltb}
 use lib.ListN.{getD}
-use Rattle.model.specs.Words.{if, both, near, upFrom, first}
+use Rattle.model.specs.Words.{both, near, upFrom, first}
 use Rattle.model.specs.Loads.{Class, pair, input, output, load}
 use Rattle.model.specs.Frames.{cells, runOf}
 use Rattle.model.specs.Refusals.{Check, report, refusal, bad-ports, bad-slots, bad-matrix, bad-frame, levels}

@@ -1,7 +1,7 @@
 -- Refusals 1 to 13: each condition with its number and what it carries, and the number and values of each answer.
-use Prim.Native.Nat.{ℕ, suc, zero, _*_, _^_}
+use Prim.Native.Nat.{ℕ, suc, _*_, _^_}
 use mathlib.Core.List.{List, [], _∷_}
-use mathlib.Core.Bool.{Bool, true, false, not}
+use mathlib.Core.Bool.{Bool, true, not}
 use lib.Dec.{eqb, ltb}
 use lib.ListN.{length}
 use Rattle.model.specs.Words.{if, both, within, first}

@@ -1,5 +1,5 @@
 -- Slot view and Service count: what is asked about a frame.
-use Prim.Native.Nat.{ℕ, suc, zero, _+_, _-_, _*_, _%_}
+use Prim.Native.Nat.{ℕ, suc, zero, _-_, _*_, _%_}
 use mathlib.Core.List.{List, [], _∷_, _++_}
 use mathlib.Core.Bool.{Bool, not}
 use lib.Dec.{ltb}

@@ -1,5 +1,5 @@
 -- The wire: what a list of Build calls puts on it, and demand 3 as one statement about the list.
-use Prim.Native.Nat.{ℕ, suc, zero, _+_, _*_, _-_, _/_, _^_, _≤_, min, max}
+use Prim.Native.Nat.{ℕ, _+_, _*_, _-_, _^_, _≤_, min, max}
 use mathlib.Core.Path.{_≡_}
 use mathlib.Core.List.{List, [], _∷_, _++_}
 use mathlib.Core.Bool.{Bool, true, false}

@@ -1,5 +1,4 @@
 use Rattle.exports.proofs.Threes.{two-of}
-use native.Mathlib.Omega.{arith}
 use borrow.Author.Needs.{needs}
 use Rattle.exports.proofs.count.Statement.{statement}
 use Rattle.exports.proofs.count.Tie as tie

@@ -1,5 +1,4 @@
 use Rattle.exports.proofs.Threes.{three-of}
-use native.Mathlib.Omega.{arith}
 use borrow.Author.Needs.{needs}
 use Rattle.exports.proofs.frame_builder_admit.Statement.{statement}
 use Rattle.exports.proofs.frame_builder_admit.Tie as tie

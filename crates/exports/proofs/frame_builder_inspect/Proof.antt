@@ -1,5 +1,4 @@
 use Rattle.exports.proofs.Threes.{three-of}
-use native.Mathlib.Omega.{arith}
 use borrow.Author.Needs.{needs}
 use Rattle.exports.proofs.frame_builder_inspect.Statement.{statement}
 use Rattle.exports.proofs.frame_builder_inspect.Tie as tie

@@ -1,5 +1,4 @@
 use Rattle.inspection.proofs.Tallies.{adds-idle, adds-cell, row-fits, pair-low, pair-fits, input-low, output-low, room-less, room-one, room-two}
-use native.Mathlib.Omega.{arith}
 use borrow.Author.Needs.{needs}
 use Rattle.inspection.proofs.add_byte.Statement.{statement}
 use Rattle.inspection.proofs.add_byte.Tie as tie

@@ -1,5 +1,4 @@
 use Rattle.inspection.proofs.Tallies.{one-fits}
-use native.Mathlib.Omega.{arith}
 use borrow.Author.Needs.{needs}
 use Rattle.inspection.proofs.add_one.Statement.{statement}
 use Rattle.inspection.proofs.add_one.Tie as tie

@@ -1,5 +1,4 @@
 use Rattle.inspection.proofs.Found.{apart-over, apart-under, apart-near}
-use native.Mathlib.Omega.{arith}
 use borrow.Author.Needs.{needs}
 use Rattle.inspection.proofs.apart.Statement.{statement}
 use Rattle.inspection.proofs.apart.Tie as tie

@@ -4,7 +4,6 @@ use Rattle.model.proofs.Searches.{Passed, passed-start, passed-end}
 use Rattle.inspection.specs.Tally.{far}
 use Rattle.inspection.proofs.Found.{far-on, far-found}
 use borrow.Author.Needs.{needs}
-use native.Mathlib.Omega.{arith}
 use Rattle.inspection.proofs.first_far.Statement.{statement}
 use Rattle.inspection.proofs.first_far.Tie as tie
 

@@ -1,6 +1,5 @@
 use Rattle.inspection.proofs.Faults.{row-fits, column-fits, input-fits, output-fits, too-large, readable, twice, wrong, last-fault}
 use borrow.Author.Needs.{needs}
-use native.Mathlib.Omega.{arith}
 use Rattle.inspection.proofs.first_fault.Statement.{statement}
 use Rattle.inspection.proofs.first_fault.Tie as tie
 

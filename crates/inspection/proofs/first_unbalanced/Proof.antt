@@ -3,7 +3,6 @@ use Rattle.model.specs.Inspect.{unbalancedNumber}
 use Rattle.model.proofs.Searches.{Passed, passed-start, passed-done}
 use Rattle.inspection.proofs.Found.{block-ends, half-fits, block-fits, number-on, number-found}
 use borrow.Author.Needs.{needs}
-use native.Mathlib.Omega.{arith}
 use Rattle.inspection.proofs.first_unbalanced.Statement.{statement}
 use Rattle.inspection.proofs.first_unbalanced.Tie as tie
 

@@ -1,5 +1,4 @@
 use Prim.Native.Nat.{_-_, _*_}
-use mathlib.Core.Path.{_≡_}
 use lib.ListN.{length}
 use Rattle.model.specs.Frames.{runOf}
 use Rattle.model.specs.Inspect.{wrongCount}
@@ -7,7 +6,6 @@ use Rattle.model.proofs.Searches.{Passed, passed-start}
 use Rattle.inspection.specs.Tally.{Tally}
 use Rattle.inspection.proofs.Found.{count-on, count-found, position-low, position-done}
 use borrow.Author.Needs.{needs}
-use native.Mathlib.Omega.{arith}
 use Rattle.inspection.proofs.first_wrong_count.Statement.{statement}
 use Rattle.inspection.proofs.first_wrong_count.Tie as tie
 

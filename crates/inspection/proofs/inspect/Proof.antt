@@ -1,5 +1,4 @@
 use mathlib.Core.Path.{sym, _∙_}
-use borrow.Author.Tests.{not-false, eqb-true, eqb-false}
 use Rattle.model.specs.Inspect.{inspected}
 use Rattle.model.proofs.Reports.{within-known, slots-known}
 use Rattle.inspection.proofs.Faults.{lent}

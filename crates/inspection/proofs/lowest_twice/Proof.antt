@@ -5,7 +5,6 @@ use Rattle.model.proofs.Searches.{Passed, passed-start, passed-done}
 use Rattle.inspection.specs.Tally.{Tally}
 use Rattle.inspection.proofs.Found.{twice-on, twice-found}
 use borrow.Author.Needs.{needs}
-use native.Mathlib.Omega.{arith}
 use Rattle.inspection.proofs.lowest_twice.Statement.{statement}
 use Rattle.inspection.proofs.lowest_twice.Tie as tie
 

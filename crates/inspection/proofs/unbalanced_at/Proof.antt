@@ -1,6 +1,5 @@
 use Rattle.inspection.proofs.Found.{square-fits, square-most, pair-far, input-far, output-far, none-far}
 use borrow.Author.Needs.{needs}
-use native.Mathlib.Omega.{arith}
 use Rattle.inspection.proofs.unbalanced_at.Statement.{statement}
 use Rattle.inspection.proofs.unbalanced_at.Tie as tie
 

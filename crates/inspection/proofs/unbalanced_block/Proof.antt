@@ -1,7 +1,6 @@
 use Prim.Native.Nat.{_-_}
 use Rattle.inspection.proofs.Found.{Depths, depths-start, depths-on, depths-found, depths-none, blocks-room, size-fits, count-fits, start-fits, number-fits}
 use borrow.Author.Needs.{needs}
-use native.Mathlib.Omega.{arith}
 use Rattle.inspection.proofs.unbalanced_block.Statement.{statement}
 use Rattle.inspection.proofs.unbalanced_block.Tie as tie
 
