@@ -23,4 +23,5 @@ pub mod Reports
 pub mod Runs
 pub mod Inspected
 pub mod Clean
+pub mod Sheets
 pub mod Bench

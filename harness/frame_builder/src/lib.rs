@@ -4,6 +4,7 @@
 
 #[allow(unsafe_code)]
 mod library;
+mod program;
 
 pub use library::Library;
 pub use reference::{Class, Inspection, Refusal};
@@ -51,11 +52,6 @@ pub trait Calls {
 pub trait SheetProgram {
     /// Everything printed for the sheet.
     fn respond(&self, sheet: &[u8]) -> Vec<u8>;
-
-    /// Whether there is such a program.
-    fn is_there(&self) -> bool {
-        true
-    }
 }
 
 /// The reference builder behind the same calls.

@@ -1,5 +1,6 @@
-//! The proved calls, through the static library of crate `exports`.
+//! The proved calls, through the static library of crate `exports`, and the program of crate `frame`.
 
+use crate::program;
 use crate::{Answer, Calls, Class, Inspection, Refusal, Service, SheetProgram};
 
 /// The C functions, as `crates/exports/src/lib.rt` has them: a slice is a pointer and then a length.
@@ -280,11 +281,7 @@ impl Calls for Library {
 }
 
 impl SheetProgram for Library {
-    fn respond(&self, _: &[u8]) -> Vec<u8> {
-        Vec::new()
-    }
-
-    fn is_there(&self) -> bool {
-        false
+    fn respond(&self, sheet: &[u8]) -> Vec<u8> {
+        program::respond(sheet)
     }
 }

@@ -31,7 +31,7 @@ impl Hits {
     }
 
     /// Everything a whole run must have come upon at least once.
-    pub fn required(kinds: &[Kind]) -> Vec<String> {
+    pub fn required() -> Vec<String> {
         let mut names = vec!["inspect clean".to_string(), "sheet frame".to_string()];
         for fault in ["byte too large", "output twice", "pair count"] {
             names.push(format!("inspect {fault}"));
@@ -43,10 +43,8 @@ impl Hits {
         names.extend(refusal_names());
         names.extend(["pair", "input", "output"].map(|class| format!("count of {class}")));
         names.extend(CHAIN_EVENTS.map(str::to_string));
-        names.extend(kinds.iter().map(|kind| format!("case {}", kind.name())));
-        if !kinds.iter().any(|kind| matches!(kind, Kind::Sheet(_))) {
-            names.retain(|name| !name.starts_with("sheet "));
-        }
+        let kinds = Kind::all().into_iter();
+        names.extend(kinds.map(|kind| format!("case {}", kind.name())));
         names
     }
 }

@@ -53,8 +53,8 @@ impl Report {
     }
 
     /// Each thing required counts as one check of its own.
-    fn check_required(&mut self, kinds: &[Kind]) {
-        for name in Hits::required(kinds) {
+    fn check_required(&mut self) {
+        for name in Hits::required() {
             if self.hits.count(&name) > 0 {
                 self.passed += 1;
             } else {
@@ -81,18 +81,9 @@ pub fn run<B: Calls + SheetProgram + Sync>(candidate: &B, settings: &Settings) -
         report.merge(part);
     }
     if settings.is_whole() {
-        report.check_required(&kinds_for(candidate));
+        report.check_required();
     }
     report
-}
-
-/// The kinds of case that the candidate has calls for.
-fn kinds_for<B: SheetProgram>(candidate: &B) -> Vec<Kind> {
-    let mut kinds = Kind::all();
-    if !candidate.is_there() {
-        kinds.retain(|kind| !matches!(kind, Kind::Sheet(_)));
-    }
-    kinds
 }
 
 /// Runs every so-manieth case of each kind.
@@ -103,7 +94,7 @@ fn run_part<B: Calls + SheetProgram>(
     workers: u64,
 ) -> Report {
     let mut report = Report::default();
-    for (order, kind) in (0..).zip(kinds_for(candidate)) {
+    for (order, kind) in (0..).zip(Kind::all()) {
         if !kind.name().starts_with(&settings.kind) {
             continue;
         }

@@ -1,0 +1,22 @@
+use Rattle.sheet.proofs.Responses.{pairs-low, size-low, part-size, size-inside, room-size, built-yes, built-no}
+use borrow.Author.Needs.{needs}
+use native.Mathlib.Omega.{arith}
+use Rattle.sheet.proofs.build_loads.Statement.{statement}
+use Rattle.sheet.proofs.build_loads.Tie as tie
+
+pub build-loads-spec : {M : Type 1} → statement M
+build-loads-spec =
+    tie.close
+    (tie.spec
+    (λ c. omega (arith, pairs-low _ _ _ _ (c .before .before .pre)))
+    (λ c. omega (arith, size-low _ _ _ _ (c .before .before .pre)))
+    (λ c. part-size _ _ _ _ (c .before .before .before .pre))
+    (λ c. size-inside _ _ _ _ (c .before .before .before .pre))
+    (λ c. room-size _ _ _ _ (c .before .before .before .before .pre))
+    (λ c κs. search needs)
+    (λ c. search needs)
+    (λ c. search needs)
+    (λ c. search needs)
+    (λ c. built-yes _ _ _ _ (c .before .before .before .before .before .before .before .before .before .pre) _ _ (c .before .before .before .before .build .ensures .0) (c .before .before .before .before .build .ensures .1) (c .enum-told .given .1) (c .before .before .before .before .build .kept .1 .1 .1 .0))
+    (λ c. search needs)
+    (λ c. built-no _ _ _ _ (c .before .before .before .before .before .before .before .before .before .before .pre) _ _ _ (c .before .before .before .before .before .build .ensures .0) (c .before .built .given .1)))

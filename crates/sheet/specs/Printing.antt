@@ -1,0 +1,41 @@
+-- What is written into a buffer from a place on, and the pieces that a response is made of.
+use Prim.Native.Nat.{ℕ, _+_, _*_, _≤_}
+use mathlib.Core.Path.{_≡_}
+use mathlib.Core.List.{List, [], _++_}
+use lib.ListN.{length}
+use lib.Dec.{eqb}
+use lib.Seq.{sets}
+use Rattle.model.specs.Words.{if}
+use Rattle.model.specs.Sheet.{text, decimal, printCells}
+
+-- The bytes stand in the buffer from a place on, as far as they fit, and next is the place behind them.
+pub record Printed (out : List ℕ) (at : ℕ) (bytes new : List ℕ) (next : ℕ) : Type 0 where
+  pub is : new ≡ sets out at bytes
+  pub place : next ≡ at + length bytes
+
+-- The same, and no more than so many bytes.
+pub record PrintedIn (most : ℕ) (out : List ℕ) (at : ℕ) (bytes new : List ℕ) (next : ℕ) : Type 0 where
+  pub printed : Printed out at bytes new next
+  pub most-bytes : next ≤ at + most
+
+-- A frame of its size.
+pub record Sized (ports slots : ℕ) (bytes : List ℕ) : Type 0 where
+  pub most-ports : ports ≤ 16
+  pub most-slots : slots ≤ 1024
+  pub size : length bytes ≡ slots * ports
+
+abbrev pub wordThen : List ℕ → ℕ → List ℕ
+wordThen w n = w ++ decimal n
+
+-- What an input sends in a slot.
+abbrev pub cellOf : ℕ → ℕ → List ℕ
+cellOf i b = if (eqb b 0) [] (text " (" ++ (decimal i ++ (text " " ++ (decimal b ++ text ")"))))
+
+-- The line of a slot.
+abbrev pub slotLine : ℕ → List ℕ → List ℕ
+slotLine s slot = text "(slot " ++ (decimal s ++ (printCells 1 slot ++ text ")\n"))
+
+-- What is still to be written, from a place on, of what was to be written.
+pub record Prints (out : List ℕ) (at : ℕ) (bytes new : List ℕ) (next : ℕ) (rest : List ℕ) : Type 0 where
+  pub is : sets out at bytes ≡ sets new next rest
+  pub place : at + length bytes ≡ next + length rest
