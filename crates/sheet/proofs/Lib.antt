@@ -1,4 +1,1 @@
-pub mod Places
-pub mod Lines
-pub mod Prints
 pub mod Responses

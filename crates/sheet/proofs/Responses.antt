@@ -26,12 +26,12 @@ use Rattle.model.specs.declared.Answer.{Answer}
 use Rattle.model.specs.declared.Answer.the-variants as answers
 use Rattle.model.proofs.Cases.{byBool, within-yes}
 use Rattle.model.proofs.Reports.{Refuses, clear-none, clear-some, slots-known}
-use Rattle.sheet.proofs.Reading.{the-type}
-use Rattle.sheet.specs.Reading.{LoadsRead, SheetOf}
-use Rattle.sheet.specs.Printing.{Printed, Sized}
+use Rattle.reading.proofs.Reading.{the-type}
+use Rattle.reading.specs.Reading.{LoadsRead, SheetOf}
+use Rattle.printing.specs.Printing.{Printed, Sized}
 use Rattle.sheet.specs.Response.{Readable, bytesOf, Lies, Printable, Answered, responded, holding}
-use Rattle.sheet.specs.declared.Reading.{Reading}
-use Rattle.sheet.specs.declared.Reading.the-variants.{Ports, Slots, Pair, Loads, Refused}
+use Rattle.reading.specs.declared.Reading.{Reading}
+use Rattle.reading.specs.declared.Reading.the-variants.{Ports, Slots, Pair, Loads, Refused}
 use Rattle.sheet.specs.declared.Response as declared
 use Rattle.sheet.specs.declared.Response.the-variants.{Written, TooSmall}
 

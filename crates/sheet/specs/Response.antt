@@ -8,8 +8,8 @@ use lib.ListN.{length, take, drop}
 use Rattle.model.specs.Words.{if}
 use Rattle.model.specs.Refusals.{levels, refusal}
 use Rattle.model.specs.Sheet.{Asked, printed, printFrame, printRefusal}
-use Rattle.sheet.specs.declared.Reading.{Reading}
-use Rattle.sheet.specs.declared.Reading.the-variants.{Ports, Slots, Pair, Loads, Refused}
+use Rattle.reading.specs.declared.Reading.{Reading}
+use Rattle.reading.specs.declared.Reading.the-variants.{Ports, Slots, Pair, Loads, Refused}
 use Rattle.sheet.specs.declared.Response as declared
 use Rattle.sheet.specs.declared.Response.the-variants.{Written, TooSmall}
 

@@ -1,0 +1,314 @@
+-- Writing piece by piece.
+use Prim.Native.Nat.{ℕ, suc, _+_, _-_, _*_, _/_, _%_, _≤_, _<_}
+use mathlib.Core.Path.{_≡_, refl, sym, ap, _∙_}
+use mathlib.Core.List.{List, [], _∷_, _++_, append-assoc, append-nil}
+use native.Mathlib.Omega.{arith}
+use native.Mathlib.Numerals.{add-one}
+use native.Mathlib.Nat.{mul-le-mul-right, mul-le-mul}
+use lib.ListN.{length, getD, set, take, drop, length-append, length-take, length-drop, drop-of-length-le}
+use lib.Seq.{sets, length-sets, set-out, drop-cons, drop-drop}
+use mir.Syntax.{w64}
+use mir.Val.{Fits}
+use borrow.Author.Tests.{eq-eqb, ne-eqb}
+use Rattle.model.specs.Sheet.{text, decimal, printCells, printSlots, printFrame, printRefusal}
+use Rattle.model.specs.Refusals.{refusal}
+use Rattle.model.specs.declared.Refusal.{Refusal}
+use Rattle.model.proofs.Sheets.{decimal-one, decimal-go, decimal-most}
+use Rattle.printing.specs.Printing.{Printed, PrintedIn, Prints, Sized, wordThen, cellOf, slotLine}
+
+-- ---- one piece behind another
+sets-append : (a b l : List ℕ) (i : ℕ) → sets l i (a ++ b) ≡ sets (sets l i a) (i + length a) b
+sets-append [] b l i = ap (λ z. sets l z b) (let e : i ≡ i + 0 = omega arith in e)
+sets-append (x ∷ a) b l i =
+    sets-append a b (set l i x) (suc i) ∙ ap (λ z. sets (sets (set l i x) (suc i) a) z b) (let e : suc i + length a ≡ i + suc (length a) = omega arith in e)
+
+pub prints-on : (out : List ℕ) (at : ℕ) (bytes mid : List ℕ) (at′ : ℕ) (w rest new : List ℕ) (next : ℕ)
+    → Prints out at bytes mid at′ (w ++ rest) → Printed mid at′ w new next → Prints out at bytes new next rest
+prints-on out at bytes mid at′ w rest new next x y =
+    let p = x .place in
+    let q = y .place in
+    record {
+      is = x .is ∙ (sets-append w rest mid at′ ∙ (ap (λ z. sets z (at′ + length w) rest) (sym (y .is)) ∙ ap (λ z. sets new z rest) (sym q)));
+      place = omega (arith, length-append w rest);
+    }
+
+pub prints-all : (out : List ℕ) (at : ℕ) (bytes : List ℕ) → Prints out at bytes out at bytes
+prints-all out at bytes = record { is = refl; place = refl }
+
+pub prints-end : (out : List ℕ) (at : ℕ) (bytes new : List ℕ) (next : ℕ) → Prints out at bytes new next [] → Printed out at bytes new next
+prints-end out at bytes new next x = let p = x .place in record { is = sym (x .is); place = omega arith }
+
+pub prints-as : (out : List ℕ) (at : ℕ) (bytes new : List ℕ) (next : ℕ) (rest rest′ : List ℕ) → rest ≡ rest′ → Prints out at bytes new next rest → Prints out at bytes new next rest′
+prints-as out at bytes new next rest rest′ e x = rw e at x
+
+pub prints-size : (out : List ℕ) (at : ℕ) (bytes new : List ℕ) (next : ℕ) (rest : List ℕ) → Prints out at bytes new next rest → length new ≡ length out
+prints-size out at bytes new next rest x = sym (length-sets new next rest) ∙ (ap length (sym (x .is)) ∙ length-sets out at bytes)
+
+pub printed-both : (out : List ℕ) (at : ℕ) (a b mid : List ℕ) (at′ : ℕ) (new : List ℕ) (next : ℕ)
+    → Printed out at a mid at′ → Printed mid at′ b new next → Printed out at (a ++ b) new next
+printed-both out at a b mid at′ new next x y =
+    let p = x .place in
+    let q = y .place in
+    record {
+      is = y .is ∙ (ap (λ z. sets z at′ b) (x .is) ∙ (ap (λ z. sets (sets out at a) z b) p ∙ sym (sets-append a b out at)));
+      place = omega (arith, length-append a b);
+    }
+
+-- ---- a byte, a word, a number
+pub put-in : (out : List ℕ) (at b : ℕ) → Printed out at (b ∷ []) (set out at b) (at + 1)
+put-in out at b = record { is = refl; place = refl }
+
+pub put-out : (out : List ℕ) (at b : ℕ) → length out ≤ at → Printed out at (b ∷ []) out (at + 1)
+put-out out at b h = record { is = sym (set-out out at b h); place = refl }
+
+pub word-first : (out w : List ℕ) (at : ℕ) → Prints out at w out at (drop 0 w)
+word-first out w at = prints-all out at w
+
+pub word-next : (out w : List ℕ) (at i : ℕ) (mid : List ℕ) (at′ : ℕ) (new : List ℕ) (next : ℕ)
+    → Prints out at w mid at′ (drop i w) → i < length w → Printed mid at′ (getD w i 0 ∷ []) new next → Prints out at w new next (drop (i + 1) w)
+word-next out w at i mid at′ new next x h y =
+    prints-on out at w mid at′ (getD w i 0 ∷ []) (drop (i + 1) w) new next
+    (prints-as out at w mid at′ (drop i w) (getD w i 0 ∷ drop (i + 1) w) (drop-cons w i 0 h ∙ ap (λ z. getD w i 0 ∷ drop z w) (sym (add-one i))) x) y
+
+pub word-room : (out w : List ℕ) (at i : ℕ) (mid : List ℕ) (at′ : ℕ) → Prints out at w mid at′ (drop i w) → i < length w → at + length w ≤ 4294967296 → at′ < 4294967296
+word-room out w at i mid at′ x h r = omega (arith, x .place, length-drop i w)
+
+pub word-done : (out w : List ℕ) (at i : ℕ) (new : List ℕ) (next : ℕ) → Prints out at w new next (drop i w) → length w ≤ i → Printed out at w new next
+word-done out w at i new next x h =
+    prints-end out at w new next (prints-as out at w new next (drop i w) [] (drop-of-length-le w h) x)
+
+number-room : (out : List ℕ) (at n : ℕ) (new : List ℕ) (next : ℕ) → Printed out at (decimal n) new next → Fits w64 n → PrintedIn 20 out at (decimal n) new next
+number-room out at n new next x h = record { printed = x; most-bytes = omega (arith, x .place, decimal-most n (h .fits)) }
+
+pub number-last : (out : List ℕ) (at n b : ℕ) (new : List ℕ) (next : ℕ) → Printed out at (b ∷ []) new next → n < 10 → b ≡ 48 + n → Fits w64 n
+    → PrintedIn 20 out at (decimal n) new next
+number-last out at n b new next x h e f = number-room out at n new next (rw (decimal-one n h, sym e) x) f
+
+pub number-tens : (out : List ℕ) (at n b : ℕ) (mid : List ℕ) (at′ : ℕ) (new : List ℕ) (next : ℕ)
+    → PrintedIn 20 out at (decimal (n / 10)) mid at′ → Printed mid at′ (b ∷ []) new next → 10 ≤ n → b ≡ 48 + n % 10 → Fits w64 n
+    → PrintedIn 20 out at (decimal n) new next
+number-tens out at n b mid at′ new next x y h e f =
+    let z = printed-both out at (decimal (n / 10)) (b ∷ []) mid at′ new next (x .printed) y in
+    number-room out at n new next (rw (decimal-go n h, sym e) z) f
+
+pub both-printed : (out : List ℕ) (at : ℕ) (w : List ℕ) (n : ℕ) (mid : List ℕ) (at′ : ℕ) (new : List ℕ) (next : ℕ)
+    → Printed out at w mid at′ → PrintedIn 20 mid at′ (decimal n) new next → PrintedIn (length w + 20) out at (wordThen w n) new next
+both-printed out at w n mid at′ new next x y =
+    let p = x .place in
+    let q = y .most-bytes in
+    record { printed = printed-both out at w (decimal n) mid at′ new next x (y .printed); most-bytes = omega arith }
+
+-- a word and a number, where they are what is written next
+pub piece : {out : List ℕ} {at : ℕ} {bytes mid : List ℕ} {at′ : ℕ} (w : List ℕ) (n : ℕ) (rest : List ℕ) {new : List ℕ} {next k : ℕ}
+    → Prints out at bytes mid at′ (w ++ (decimal n ++ rest)) → PrintedIn k mid at′ (wordThen w n) new next → Prints out at bytes new next rest
+piece {out} {at} {bytes} {mid} {at′} w n rest {new} {next} x y =
+    prints-on out at bytes mid at′ (w ++ decimal n) rest new next
+    (prints-as out at bytes mid at′ (w ++ (decimal n ++ rest)) ((w ++ decimal n) ++ rest) (sym (append-assoc w (decimal n) rest)) x) (y .printed)
+
+-- ---- refusals
+pub plain-printed : (out : List ℕ) (number : ℕ) (mid : List ℕ) (at′ : ℕ) (new : List ℕ) (next : ℕ)
+    → PrintedIn 29 out 0 (wordThen (text "(refused ") number) mid at′ → Printed mid at′ (text ")\n") new next → Printed out 0 (printRefusal (number ∷ [])) new next
+plain-printed out number mid at′ new next x y =
+    let b = printRefusal (number ∷ []) in
+    prints-end out 0 b new next
+    (prints-on out 0 b mid at′ (text ")\n") [] new next (piece (text "(refused ") number (text ")\n") (prints-all out 0 b) x) y)
+
+pub line-printed : (out : List ℕ) (number line : ℕ) (mid : List ℕ) (at′ : ℕ) (mid2 : List ℕ) (at2 : ℕ) (new : List ℕ) (next : ℕ)
+    → PrintedIn 29 out 0 (wordThen (text "(refused ") number) mid at′ → PrintedIn 27 mid at′ (wordThen (text " (line ") line) mid2 at2
+    → Printed mid2 at2 (text "))\n") new next → Printed out 0 (printRefusal (number ∷ line ∷ [])) new next
+line-printed out number line mid at′ mid2 at2 new next x y z =
+    let b = printRefusal (number ∷ line ∷ []) in
+    let e : text " (line " ++ ((decimal line ++ text ")") ++ text ")\n") ≡ text " (line " ++ (decimal line ++ text "))\n") = ap (λ l. text " (line " ++ l) (append-assoc (decimal line) (text ")") (text ")\n")) in
+    prints-end out 0 b new next
+    (prints-on out 0 b mid2 at2 (text "))\n") [] new next
+    (piece (text " (line ") line (text "))\n")
+    (prints-as out 0 b mid at′ (text " (line " ++ ((decimal line ++ text ")") ++ text ")\n")) (text " (line " ++ (decimal line ++ text "))\n")) e
+    (piece (text "(refused ") number (text " (line " ++ ((decimal line ++ text ")") ++ text ")\n")) (prints-all out 0 b) x)) y) z)
+
+pub load-printed : (out : List ℕ) (number port cells : ℕ) (mid : List ℕ) (at′ : ℕ) (mid2 : List ℕ) (at2 : ℕ) (mid3 : List ℕ) (at3 : ℕ) (new : List ℕ) (next : ℕ)
+    → PrintedIn 29 out 0 (wordThen (text "(refused ") number) mid at′ → PrintedIn 27 mid at′ (wordThen (text " (port ") port) mid2 at2
+    → PrintedIn 29 mid2 at2 (wordThen (text ") (cells ") cells) mid3 at3
+    → Printed mid3 at3 (text "))\n") new next → Printed out 0 (printRefusal (number ∷ port ∷ cells ∷ [])) new next
+load-printed out number port cells mid at′ mid2 at2 mid3 at3 new next x y z u =
+    let b = printRefusal (number ∷ port ∷ cells ∷ []) in
+    let long : List ℕ = (text " (port " ++ (decimal port ++ (text ") (cells " ++ (decimal cells ++ text ")")))) ++ text ")\n" in
+    let short : List ℕ = text " (port " ++ (decimal port ++ (text ") (cells " ++ (decimal cells ++ text "))\n"))) in
+    let e : long ≡ short = simp append-assoc in
+    prints-end out 0 b new next
+    (prints-on out 0 b mid3 at3 (text "))\n") [] new next
+    (piece (text ") (cells ") cells (text "))\n")
+    (piece (text " (port ") port (text ") (cells " ++ (decimal cells ++ text "))\n"))
+    (prints-as out 0 b mid at′ long short e (piece (text "(refused ") number long (prints-all out 0 b) x)) y) z) u)
+
+pub refusal-printed : (out : List ℕ) (r r′ : Refusal) (new : List ℕ) (next : ℕ) → r ≡ r′ → Printed out 0 (printRefusal (refusal r′)) new next
+    → Printed out 0 (printRefusal (refusal r)) new next
+refusal-printed out r r′ new next e x = rw e x
+
+-- ---- a slot
+pub cell-none : (out : List ℕ) (at i b : ℕ) → b ≡ 0 → PrintedIn 44 out at (cellOf i b) out at
+cell-none out at i b e = rw (eq-eqb b 0 e) (record { printed = record { is = refl; place = omega arith }; most-bytes = omega arith })
+
+pub cell-some : (out : List ℕ) (at i b : ℕ) (mid : List ℕ) (at′ : ℕ) (mid2 : List ℕ) (at2 : ℕ) (new : List ℕ) (next : ℕ) → (b ≡ 0 → ⊥)
+    → PrintedIn 22 out at (wordThen (text " (") i) mid at′ → PrintedIn 21 mid at′ (wordThen (text " ") b) mid2 at2
+    → Printed mid2 at2 (text ")") new next → PrintedIn 44 out at (cellOf i b) new next
+cell-some out at i b mid at′ mid2 at2 new next n x y z =
+    let c : List ℕ = text " (" ++ (decimal i ++ (text " " ++ (decimal b ++ text ")"))) in
+    let p = x .most-bytes in
+    let q = y .most-bytes in
+    let r = z .place in
+    rw (ne-eqb b 0 n)
+    (record {
+      printed = prints-end out at c new next
+          (prints-on out at c mid2 at2 (text ")") [] new next
+          (piece (text " ") b (text ")") (piece (text " (") i (text " " ++ (decimal b ++ text ")")) (prints-all out at c) x) y) z);
+      most-bytes = omega arith;
+    })
+
+pub record Celled (out : List ℕ) (at : ℕ) (slot new : List ℕ) (next i : ℕ) : Type 0 where
+  pub passed : i ≤ length slot
+  pub most-bytes : next ≤ at + 44 * i
+  pub prints : Prints out at (printCells 1 slot) new next (printCells (suc i) (drop i slot))
+
+pub cells-first : (out : List ℕ) (at : ℕ) (slot : List ℕ) → Celled out at slot out at 0
+cells-first out at slot = record { passed = omega arith; most-bytes = omega arith; prints = prints-all out at (printCells 1 slot) }
+
+pub cells-next : (out : List ℕ) (at : ℕ) (slot mid : List ℕ) (at′ i b : ℕ) (new : List ℕ) (next : ℕ) → Celled out at slot mid at′ i → i < length slot
+    → b ≡ getD slot i 0 → PrintedIn 44 mid at′ (cellOf (i + 1) b) new next → Celled out at slot new next (i + 1)
+cells-next out at slot mid at′ i b new next x h e y =
+    let p = x .most-bytes in
+    let q = y .most-bytes in
+    let s = add-one i in
+    record {
+      passed = omega arith;
+      most-bytes = omega arith;
+      prints = prints-on out at (printCells 1 slot) mid at′ (cellOf (i + 1) b) (printCells (suc (i + 1)) (drop (i + 1) slot)) new next
+          (prints-as out at (printCells 1 slot) mid at′ (printCells (suc i) (drop i slot)) (cellOf (i + 1) b ++ printCells (suc (i + 1)) (drop (i + 1) slot))
+          (ap (printCells (suc i)) (drop-cons slot i 0 h)
+          ∙ (ap (λ z. cellOf (suc i) z ++ printCells (suc (suc i)) (drop (suc i) slot)) (sym e) ∙ ap (λ z. cellOf z b ++ printCells (suc z) (drop z slot)) (sym s)))
+          (x .prints)) (y .printed);
+    }
+
+pub cells-done : (out : List ℕ) (at : ℕ) (slot new : List ℕ) (next i : ℕ) → Celled out at slot new next i → length slot ≤ i → length slot ≤ 16
+    → PrintedIn 704 out at (printCells 1 slot) new next
+cells-done out at slot new next i x h l =
+    let p = x .most-bytes in
+    let q = x .passed in
+    record {
+      printed = prints-end out at (printCells 1 slot) new next
+          (prints-as out at (printCells 1 slot) new next (printCells (suc i) (drop i slot)) [] (ap (printCells (suc i)) (drop-of-length-le slot h)) (x .prints));
+      most-bytes = omega arith;
+    }
+
+pub slot-printed : (out : List ℕ) (at number : ℕ) (slot mid : List ℕ) (at′ : ℕ) (mid2 : List ℕ) (at2 : ℕ) (new : List ℕ) (next : ℕ)
+    → PrintedIn 26 out at (wordThen (text "(slot ") number) mid at′ → PrintedIn 704 mid at′ (printCells 1 slot) mid2 at2 → Printed mid2 at2 (text ")\n") new next
+    → PrintedIn 800 out at (slotLine number slot) new next
+slot-printed out at number slot mid at′ mid2 at2 new next x y z =
+    let b = slotLine number slot in
+    let p = x .most-bytes in
+    let q = y .most-bytes in
+    let r = z .place in
+    record {
+      printed = prints-end out at b new next
+          (prints-on out at b mid2 at2 (text ")\n") [] new next
+          (prints-on out at b mid at′ (printCells 1 slot) (text ")\n") mid2 at2 (piece (text "(slot ") number (printCells 1 slot ++ text ")\n") (prints-all out at b) x) (y .printed)) z);
+      most-bytes = omega arith;
+    }
+
+-- ---- the slots of a frame
+pub record Slotted (out : List ℕ) (at ports slots : ℕ) (frame new : List ℕ) (next s : ℕ) : Type 0 where
+  pub passed : s ≤ slots
+  pub most-bytes : next ≤ at + 800 * s
+  pub prints : Prints out at (printSlots ports 1 slots frame) new next (printSlots ports (suc s) (slots - s) (drop (s * ports) frame))
+
+pub slots-first : (out : List ℕ) (at ports slots : ℕ) (frame : List ℕ) → Slotted out at ports slots frame out at 0
+slots-first out at ports slots frame =
+    record {
+      passed = omega arith;
+      most-bytes = omega arith;
+      prints = prints-as out at (printSlots ports 1 slots frame) out at (printSlots ports 1 slots frame) (printSlots ports 1 (slots - 0) (drop (0 * ports) frame))
+          (ap (λ z. printSlots ports 1 z frame) (let e : slots ≡ slots - 0 = omega arith in e)
+          ∙ ap (λ z. printSlots ports 1 (slots - 0) (drop z frame)) (let e : 0 ≡ 0 * ports = omega arith in e)) (prints-all out at (printSlots ports 1 slots frame));
+    }
+
+slots-step : (ports s k : ℕ) (l : List ℕ) → printSlots ports s (suc k) l ≡ slotLine s (take ports l) ++ printSlots ports (suc s) k (drop ports l)
+unfolding printSlots
+slots-step ports s k l = simp append-assoc
+
+slots-at : (ports slots s : ℕ) (frame : List ℕ) → s < slots
+    → printSlots ports (suc s) (slots - s) (drop (s * ports) frame)
+    ≡ slotLine (s + 1) (take ports (drop (s * ports) frame)) ++ printSlots ports (suc (s + 1)) (slots - (s + 1)) (drop ((s + 1) * ports) frame)
+slots-at ports slots s frame h =
+    let a : slots - s ≡ suc (slots - (s + 1)) = omega arith in
+    let b : s * ports + ports ≡ (s + 1) * ports = omega arith in
+    ap (λ z. printSlots ports (suc s) z (drop (s * ports) frame)) a
+    ∙ (slots-step ports (suc s) (slots - (s + 1)) (drop (s * ports) frame)
+    ∙ (ap (λ z. slotLine z (take ports (drop (s * ports) frame)) ++ printSlots ports (suc z) (slots - (s + 1)) (drop ports (drop (s * ports) frame))) (sym (add-one s))
+    ∙ ap (λ z. slotLine (s + 1) (take ports (drop (s * ports) frame)) ++ printSlots ports (suc (s + 1)) (slots - (s + 1)) z)
+    (drop-drop ports (s * ports) frame ∙ ap (λ z. drop z frame) b)))
+
+part-is : (ports s : ℕ) (frame : List ℕ) → take (s * ports + ports - s * ports) (drop (s * ports) frame) ≡ take ports (drop (s * ports) frame)
+part-is ports s frame = let e : s * ports + ports - s * ports ≡ ports = omega arith in ap (λ z. take z (drop (s * ports) frame)) e
+
+pub slots-next : (out : List ℕ) (at ports slots : ℕ) (frame mid : List ℕ) (at′ s : ℕ) (new : List ℕ) (next : ℕ) → Slotted out at ports slots frame mid at′ s → s < slots
+    → PrintedIn 800 mid at′ (slotLine (s + 1) (take (s * ports + ports - s * ports) (drop (s * ports) frame))) new next
+    → Slotted out at ports slots frame new next (s + 1)
+slots-next out at ports slots frame mid at′ s new next x h y =
+    let p = x .most-bytes in
+    let q = y .most-bytes in
+    let rest = printSlots ports (suc (s + 1)) (slots - (s + 1)) (drop ((s + 1) * ports) frame) in
+    record {
+      passed = omega arith;
+      most-bytes = omega arith;
+      prints = prints-on out at (printSlots ports 1 slots frame) mid at′ (slotLine (s + 1) (take (s * ports + ports - s * ports) (drop (s * ports) frame))) rest new next
+          (prints-as out at (printSlots ports 1 slots frame) mid at′ (printSlots ports (suc s) (slots - s) (drop (s * ports) frame))
+          (slotLine (s + 1) (take (s * ports + ports - s * ports) (drop (s * ports) frame)) ++ rest)
+          (slots-at ports slots s frame h ∙ ap (λ z. slotLine (s + 1) z ++ rest) (sym (part-is ports s frame)))
+          (x .prints)) (y .printed);
+    }
+
+pub slots-done : (out : List ℕ) (at ports slots : ℕ) (frame new : List ℕ) (next s : ℕ) → Slotted out at ports slots frame new next s → slots ≤ s
+    → Printed out at (printSlots ports 1 slots frame) new next
+unfolding printSlots
+slots-done out at ports slots frame new next s x h =
+    let e : slots - s ≡ 0 = omega arith in
+    prints-end out at (printSlots ports 1 slots frame) new next
+    (prints-as out at (printSlots ports 1 slots frame) new next (printSlots ports (suc s) (slots - s) (drop (s * ports) frame)) []
+    (ap (λ z. printSlots ports (suc s) z (drop (s * ports) frame)) e) (x .prints))
+
+-- the part of a slot lies inside the frame
+pub slot-end : {ports slots s : ℕ} {frame : List ℕ} → Sized ports slots frame → s < slots → s * ports + ports ≤ length frame
+slot-end {ports} {slots} {s} {frame} x h = let k = mul-le-mul-right ports h in omega (arith, x .size)
+
+pub slot-low : {ports slots s : ℕ} {frame : List ℕ} → Sized ports slots frame → s < slots → s * ports + ports ≤ 16384
+slot-low {ports} {slots} {s} {frame} x h =
+    let k = mul-le-mul-right ports h in
+    let z : slots * ports ≤ 1024 * 16 = mul-le-mul (x .most-slots) (x .most-ports) in
+    omega arith
+
+pub from-fits : {ports slots s : ℕ} {frame : List ℕ} → Sized ports slots frame → s < slots → Fits w64 (s * ports)
+from-fits {ports} {slots} {s} {frame} x h = record { fits = (let k = slot-low x h in omega arith) }
+
+pub end-fits : {ports slots s : ℕ} {frame : List ℕ} → Sized ports slots frame → s < slots → Fits w64 (s * ports + ports)
+end-fits {ports} {slots} {s} {frame} x h = record { fits = (let k = slot-low x h in omega arith) }
+
+pub slot-place : {out : List ℕ} {at ports slots : ℕ} {frame new : List ℕ} {next s : ℕ} → Slotted out at ports slots frame new next s → Sized ports slots frame → s < slots → at ≤ 100
+    → next ≤ 10000000
+slot-place {s = s} x y h k = omega (arith, x .most-bytes, y .most-slots)
+
+pub slot-size : (ports slots s : ℕ) (frame : List ℕ) → Sized ports slots frame → length (take (s * ports + ports - s * ports) (drop (s * ports) frame)) ≤ 16
+slot-size ports slots s frame x =
+    let e : s * ports + ports - s * ports ≡ ports = omega arith in
+    omega (arith, x .most-ports, length-take (s * ports + ports - s * ports) (drop (s * ports) frame))
+
+pub frame-printed : (out : List ℕ) (ports slots : ℕ) (frame mid : List ℕ) (at′ : ℕ) (mid2 : List ℕ) (at2 : ℕ) (mid3 : List ℕ) (at3 : ℕ) (new : List ℕ) (next : ℕ)
+    → PrintedIn 34 out 0 (wordThen (text "(frame (ports ") ports) mid at′ → PrintedIn 29 mid at′ (wordThen (text ") (slots ") slots) mid2 at2
+    → Printed mid2 at2 (text "))\n") mid3 at3 → Printed mid3 at3 (printSlots ports 1 slots frame) new next → Printed out 0 (printFrame ports slots frame) new next
+frame-printed out ports slots frame mid at′ mid2 at2 mid3 at3 new next x y z u =
+    let b = printFrame ports slots frame in
+    let last = printSlots ports 1 slots frame in
+    prints-end out 0 b new next
+    (prints-on out 0 b mid3 at3 last [] new next
+    (prints-as out 0 b mid3 at3 last (last ++ []) (sym (append-nil last))
+    (prints-on out 0 b mid2 at2 (text "))\n") last mid3 at3
+    (piece (text ") (slots ") slots (text "))\n" ++ last)
+    (piece (text "(frame (ports ") ports (text ") (slots " ++ (decimal slots ++ (text "))\n" ++ last))) (prints-all out 0 b) x) y) z)) u)

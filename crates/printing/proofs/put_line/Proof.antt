@@ -1,0 +1,17 @@
+use Rattle.printing.proofs.Prints.{line-printed}
+use borrow.Author.Needs.{needs}
+use Rattle.printing.proofs.put_line.Statement.{statement}
+use Rattle.printing.proofs.put_line.Tie as tie
+
+pub put-line-spec : {M : Type 1} → statement M
+put-line-spec =
+    tie.close
+    (tie.spec
+    (λ c. search needs)
+    (λ c κs. search needs)
+    (λ c. search needs)
+    (λ c κs. search needs)
+    (λ c. search needs)
+    (λ c κs. search needs)
+    (λ c. search needs)
+    (λ c. search (needs, line-printed)))

@@ -1,0 +1,2 @@
+-- What the functions that print promise.
+pub mod Printing

@@ -1,0 +1,2 @@
+-- What the functions that read a sheet promise.
+pub mod Reading
