@@ -2,19 +2,23 @@
 use Prim.Native.Nat.{ℕ, suc, _+_, _-_, _*_, _/_, _%_, _≤_, _<_}
 use mathlib.Core.Path.{_≡_, refl, sym, ap, _∙_}
 use mathlib.Core.List.{List, [], _∷_, _++_, append-assoc, append-nil}
+use mathlib.Core.Bool.{Bool, true, false}
 use native.Mathlib.Omega.{arith}
 use native.Mathlib.Numerals.{add-one}
 use native.Mathlib.Nat.{mul-le-mul-right, mul-le-mul}
+use lib.Dec.{eqb, leb}
 use lib.ListN.{length, getD, set, take, drop, length-append, length-take, length-drop, drop-of-length-le}
 use lib.Seq.{sets, length-sets, set-out, drop-cons, drop-drop}
 use mir.Syntax.{w64}
 use mir.Val.{Fits}
-use borrow.Author.Tests.{eq-eqb, ne-eqb}
+use borrow.Author.Tests.{eq-eqb, ne-eqb, eqb-true, le-leb, lt-leb, leb-true}
+use Rattle.model.specs.Words.{if, both}
 use Rattle.model.specs.Sheet.{text, decimal, printCells, printSlots, printFrame, printRefusal}
 use Rattle.model.specs.Refusals.{refusal}
 use Rattle.model.specs.declared.Refusal.{Refusal}
+use Rattle.model.proofs.Cases.{both-true, both-yes}
 use Rattle.model.proofs.Sheets.{decimal-one, decimal-go, decimal-most}
-use Rattle.printing.specs.Printing.{Printed, PrintedIn, Prints, Sized, wordThen, cellOf, slotLine}
+use Rattle.printing.specs.Printing.{Printed, PrintedIn, Prints, Sized, ofSize, frameBytes, wordThen, cellOf, slotLine}
 
 -- ---- one piece behind another
 sets-append : (a b l : List ℕ) (i : ℕ) → sets l i (a ++ b) ≡ sets (sets l i a) (i + length a) b
@@ -300,10 +304,10 @@ slot-size ports slots s frame x =
     let e : s * ports + ports - s * ports ≡ ports = omega arith in
     omega (arith, x .most-ports, length-take (s * ports + ports - s * ports) (drop (s * ports) frame))
 
-pub frame-printed : (out : List ℕ) (ports slots : ℕ) (frame mid : List ℕ) (at′ : ℕ) (mid2 : List ℕ) (at2 : ℕ) (mid3 : List ℕ) (at3 : ℕ) (new : List ℕ) (next : ℕ)
+pub sized-printed : (out : List ℕ) (ports slots : ℕ) (frame mid : List ℕ) (at′ : ℕ) (mid2 : List ℕ) (at2 : ℕ) (mid3 : List ℕ) (at3 : ℕ) (new : List ℕ) (next : ℕ)
     → PrintedIn 34 out 0 (wordThen (text "(frame (ports ") ports) mid at′ → PrintedIn 29 mid at′ (wordThen (text ") (slots ") slots) mid2 at2
     → Printed mid2 at2 (text "))\n") mid3 at3 → Printed mid3 at3 (printSlots ports 1 slots frame) new next → Printed out 0 (printFrame ports slots frame) new next
-frame-printed out ports slots frame mid at′ mid2 at2 mid3 at3 new next x y z u =
+sized-printed out ports slots frame mid at′ mid2 at2 mid3 at3 new next x y z u =
     let b = printFrame ports slots frame in
     let last = printSlots ports 1 slots frame in
     prints-end out 0 b new next
@@ -312,3 +316,38 @@ frame-printed out ports slots frame mid at′ mid2 at2 mid3 at3 new next x y z u
     (prints-on out 0 b mid2 at2 (text "))\n") last mid3 at3
     (piece (text ") (slots ") slots (text "))\n" ++ last)
     (piece (text "(frame (ports ") ports (text ") (slots " ++ (decimal slots ++ (text "))\n" ++ last))) (prints-all out 0 b) x) y) z)) u)
+
+-- ---- a frame of any size
+pub size-ports : (ports slots n : ℕ) → 16 < ports → false ≡ ofSize ports slots n
+size-ports ports slots n a = sym (ap (λ b. both b (both (leb slots 1024) (eqb n (slots * ports)))) (lt-leb ports 16 a))
+
+within-ports : (ports slots n : ℕ) → ports ≤ 16 → ofSize ports slots n ≡ both (leb slots 1024) (eqb n (slots * ports))
+within-ports ports slots n a = ap (λ b. both b (both (leb slots 1024) (eqb n (slots * ports)))) (le-leb ports 16 a)
+
+pub size-slots : (ports slots n : ℕ) → ports ≤ 16 → 1024 < slots → false ≡ ofSize ports slots n
+size-slots ports slots n a c = sym (within-ports ports slots n a ∙ ap (λ b. both b (eqb n (slots * ports))) (lt-leb slots 1024 c))
+
+pub size-bytes : (ports slots n : ℕ) → ports ≤ 16 → slots ≤ 1024 → eqb n (slots * ports) ≡ ofSize ports slots n
+size-bytes ports slots n a c = sym (within-ports ports slots n a ∙ ap (λ b. both b (eqb n (slots * ports))) (le-leb slots 1024 c))
+
+pub size-fits : {ports slots : ℕ} → ports ≤ 16 → slots ≤ 1024 → Fits w64 (slots * ports)
+size-fits {ports} {slots} a c = record { fits = (let z : slots * ports ≤ 1024 * 16 = mul-le-mul c a in omega arith) }
+
+pub size-known : (ports slots : ℕ) (frame : List ℕ) (b : Bool) → b ≡ ofSize ports slots (length frame) → b ≡ true → Sized ports slots frame
+size-known ports slots frame b f e =
+    let x = both-true (leb ports 16) (both (leb slots 1024) (eqb (length frame) (slots * ports))) (sym f ∙ e) in
+    let y = both-true (leb slots 1024) (eqb (length frame) (slots * ports)) (x .1) in
+    record { most-ports = leb-true ports 16 (x .0); most-slots = leb-true slots 1024 (y .0); size = eqb-true (length frame) (slots * ports) (y .1) }
+
+pub frame-bytes : (ports slots : ℕ) (frame : List ℕ) → Sized ports slots frame → frameBytes ports slots frame ≡ printFrame ports slots frame
+frame-bytes ports slots frame x =
+    ap (λ b. if b (printFrame ports slots frame) [])
+    (sym (size-bytes ports slots (length frame) (x .most-ports) (x .most-slots)) ∙ eq-eqb (length frame) (slots * ports) (x .size))
+
+pub frame-printed : (out : List ℕ) (ports slots : ℕ) (frame : List ℕ) (b : Bool) (new : List ℕ) (next : ℕ) → b ≡ ofSize ports slots (length frame) → b ≡ true
+    → Printed out 0 (printFrame ports slots frame) new next → Printed out 0 (frameBytes ports slots frame) new next
+frame-printed out ports slots frame b new next f e x = rw (sym f ∙ e) x
+
+pub frame-none : (out : List ℕ) (ports slots : ℕ) (frame : List ℕ) (b : Bool) → b ≡ ofSize ports slots (length frame) → b ≡ false
+    → Printed out 0 (frameBytes ports slots frame) out 0
+frame-none out ports slots frame b f e = rw (sym f ∙ e) (record { is = refl; place = refl })

@@ -2,11 +2,12 @@
 use Prim.Native.Nat.{ℕ, _+_, _*_, _≤_}
 use mathlib.Core.Path.{_≡_}
 use mathlib.Core.List.{List, [], _++_}
+use mathlib.Core.Bool.{Bool}
 use lib.ListN.{length}
-use lib.Dec.{eqb}
+use lib.Dec.{eqb, leb}
 use lib.Seq.{sets}
-use Rattle.model.specs.Words.{if}
-use Rattle.model.specs.Sheet.{text, decimal, printCells}
+use Rattle.model.specs.Words.{if, both}
+use Rattle.model.specs.Sheet.{text, decimal, printCells, printFrame}
 
 -- The bytes stand in the buffer from a place on, as far as they fit, and next is the place behind them.
 pub record Printed (out : List ℕ) (at : ℕ) (bytes new : List ℕ) (next : ℕ) : Type 0 where
@@ -23,6 +24,14 @@ pub record Sized (ports slots : ℕ) (bytes : List ℕ) : Type 0 where
   pub most-ports : ports ≤ 16
   pub most-slots : slots ≤ 1024
   pub size : length bytes ≡ slots * ports
+
+-- The test of it.
+abbrev pub ofSize : ℕ → ℕ → ℕ → Bool
+ofSize ports slots n = both (leb ports 16) (both (leb slots 1024) (eqb n (slots * ports)))
+
+-- What is written of a frame: nothing where it is not of its size.
+abbrev pub frameBytes : ℕ → ℕ → List ℕ → List ℕ
+frameBytes ports slots frame = if (ofSize ports slots (length frame)) (printFrame ports slots frame) []
 
 abbrev pub wordThen : List ℕ → ℕ → List ℕ
 wordThen w n = w ++ decimal n

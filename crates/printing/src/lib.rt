@@ -5,7 +5,7 @@ ghost use Prim.Native.Nat.{_+_, _≤_, _<_};
 ghost use lib.ListN.{length};
 ghost use Rattle.model.specs.Refusals.{refusal};
 ghost use Rattle.model.specs.Sheet.{decimal, printCells, printSlots, printFrame, printRefusal};
-ghost use Rattle.printing.specs.Printing.{Printed, PrintedIn, Sized, wordThen, cellOf, slotLine};
+ghost use Rattle.printing.specs.Printing.{Printed, PrintedIn, Sized, ofSize, frameBytes, wordThen, cellOf, slotLine};
 use model::Refusal;
 
 // Writes a byte where it fits, and answers the next place: past the end nothing is written, and the places are counted all the same.
@@ -165,8 +165,8 @@ fn put_slots(out: &mut [u8], at: usize, ports: usize, slots: usize, frame: &[u8]
     next
 }
 
-// Writes a frame.
-pub fn put_frame(out: &mut [u8], ports: usize, slots: usize, frame: &[u8]) -> usize
+// Writes a frame of its size.
+fn put_sized(out: &mut [u8], ports: usize, slots: usize, frame: &[u8]) -> usize
     requires { ⌜ Sized ports slots (now frame) ⌝ }
     ensures { λ r. ⌜ Printed (now (out .entry)) 0 (printFrame ports slots (now (frame .entry))) (now (out .exit)) r ⌝ }
 {
@@ -174,4 +174,27 @@ pub fn put_frame(out: &mut [u8], ports: usize, slots: usize, frame: &[u8]) -> us
     let next = put_both(out, next, b") (slots ", slots);
     let next = put_word(out, next, b"))\n");
     put_slots(out, next, ports, slots, frame)
+}
+
+// Up to 16 ports and 1024 slots, and a byte for each input and slot.
+fn of_size(ports: usize, slots: usize, bytes: usize) -> bool
+    ensures { λ r. ⌜ r ≡ ofSize ports slots bytes ⌝ }
+{
+    if 16 < ports {
+        return false;
+    }
+    if 1024 < slots {
+        return false;
+    }
+    bytes == slots * ports
+}
+
+// Writes a frame; nothing where it is not of its size.
+pub fn put_frame(out: &mut [u8], ports: usize, slots: usize, frame: &[u8]) -> usize
+    ensures { λ r. ⌜ Printed (now (out .entry)) 0 (frameBytes ports slots (now (frame .entry))) (now (out .exit)) r ⌝ }
+{
+    if of_size(ports, slots, frame.len()) {
+        return put_sized(out, ports, slots, frame);
+    }
+    0
 }

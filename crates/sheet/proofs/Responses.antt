@@ -1,6 +1,6 @@
 -- From what a sheet asks for to the bytes of its response.
 use Prim.Native.Nat.{ℕ, _+_, _*_, _≤_, _<_}
-use mathlib.Core.Path.{_≡_, refl, sym, ap, _∙_}
+use mathlib.Core.Path.{_≡_, refl, sym, ap, subst, _∙_}
 use mathlib.Core.Logic.{_≢_}
 use mathlib.Core.List.{List, [], _∷_, _++_}
 use mathlib.Core.Bool.{true, false, not, true≢false}
@@ -28,7 +28,8 @@ use Rattle.model.proofs.Cases.{byBool, within-yes}
 use Rattle.model.proofs.Reports.{Refuses, clear-none, clear-some, slots-known}
 use Rattle.reading.proofs.Reading.{the-type}
 use Rattle.reading.specs.Reading.{LoadsRead, SheetOf}
-use Rattle.printing.specs.Printing.{Printed, Sized}
+use Rattle.printing.specs.Printing.{Printed, Sized, frameBytes}
+use Rattle.printing.proofs.Prints.{frame-bytes}
 use Rattle.sheet.specs.Response.{Readable, bytesOf, Lies, Printable, Answered, responded, holding}
 use Rattle.reading.specs.declared.Reading.{Reading}
 use Rattle.reading.specs.declared.Reading.the-variants.{Ports, Slots, Pair, Loads, Refused}
@@ -177,6 +178,12 @@ lies-low r ports slots frame x e =
 
 pub answer-as : (out : List ℕ) (r r′ : Reading) (frame new : List ℕ) (next : ℕ) → r ≡ r′ → Printed out 0 (bytesOf r′ frame) new next → Printed out 0 (bytesOf r frame) new next
 answer-as out r r′ frame new next e x = rw e x
+
+pub answer-frame : (out : List ℕ) (r : Reading) (ports slots : ℕ) (frame new : List ℕ) (next : ℕ) → Printable r frame → r ≡ Loads ports slots
+    → Printed out 0 (frameBytes ports slots (take (slots * ports) frame)) new next → Printed out 0 (bytesOf r frame) new next
+answer-frame out r ports slots frame new next x e y =
+    answer-as out r (Loads ports slots) frame new next e
+    (subst (λ b. Printed out 0 b new next) (frame-bytes ports slots (take (slots * ports) frame) (lies-sized r ports slots frame x e)) y)
 
 pub answer-none : (out : List ℕ) (r : Reading) (frame : List ℕ) → OneOf (0 ∷ 1 ∷ 2 ∷ 4 ∷ []) (tagOf the-type r) → OneOf (0 ∷ 1 ∷ 2 ∷ 3 ∷ []) (tagOf the-type r)
     → Printed out 0 (bytesOf r frame) out 0

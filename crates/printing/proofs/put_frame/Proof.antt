@@ -1,4 +1,4 @@
-use Rattle.printing.proofs.Prints.{frame-printed}
+use Rattle.printing.proofs.Prints.{size-known, frame-printed, frame-none}
 use borrow.Author.Needs.{needs}
 use Rattle.printing.proofs.put_frame.Statement.{statement}
 use Rattle.printing.proofs.put_frame.Tie as tie
@@ -7,12 +7,8 @@ pub put-frame-spec : {M : Type 1} → statement M
 put-frame-spec =
     tie.close
     (tie.spec
-    (λ c. search needs)
     (λ c κs. search needs)
+    (λ c κs. search (needs, size-known))
     (λ c. search needs)
-    (λ c κs. search needs)
-    (λ c. search needs)
-    (λ c κs. search needs)
-    (λ c κs. search needs)
-    (λ c. search needs)
-    (λ c. search (needs, frame-printed)))
+    (λ c. search (needs, frame-printed))
+    (λ c. search (needs, frame-none)))

@@ -1,5 +1,5 @@
 use mathlib.Core.Path.{sym}
-use Rattle.sheet.proofs.Responses.{lies-low, lies-sized, answer-as, answer-none}
+use Rattle.sheet.proofs.Responses.{lies-low, lies-sized, answer-as, answer-frame, answer-none}
 use borrow.Author.Needs.{needs}
 use Rattle.sheet.proofs.put_answer.Statement.{statement}
 use Rattle.sheet.proofs.put_answer.Tie as tie
@@ -11,9 +11,11 @@ put-answer-spec =
     (λ c. search needs)
     (λ c. lies-low (c .before .before .before .before .before .args .answer) _ _ (c .before .before .before .before .before .args .frame .now) (c .before .before .before .before .before .pre) (c .before .answer .given .1))
     (λ c. sym (lies-sized (c .before .before .before .before .before .before .before .args .answer) _ _ (c .before .before .before .before .before .before .before .args .frame .now) (c .before .before .before .before .before .before .before .pre) (c .before .before .before .answer .given .1) .size))
-    (λ c κs. lies-sized (c .before .before .before .before .before .before .before .args .answer) _ _ (c .before .before .before .before .before .before .before .args .frame .now) (c .before .before .before .before .before .before .before .pre) (c .before .before .before .answer .given .1))
+    (λ c κs. search needs)
     (λ c. search needs)
-    (λ c. answer-as _ _ _ (c .before .before .before .before .before .before .before .before .before .before .args .frame .now) _ _ (c .before .before .before .before .before .before .answer .given .1) (c .before .before .put-frame .ensures))
+    (λ c.
+    let start = c .before .before .before .before .before .before .before .before .before .before in
+    answer-frame _ (start .args .answer) _ _ (start .args .frame .now) _ _ (start .pre) (c .before .before .before .before .before .before .answer .given .1) (c .before .before .put-frame .ensures))
     (λ c. search needs)
     (λ c κs. search needs)
     (λ c. search needs)
