@@ -6,7 +6,7 @@ use std::hint::black_box;
 use std::process::ExitCode;
 use std::time::Instant;
 
-use frame_builder::{Calls, Inspection, Library};
+use calls::{Calls, Inspection, Library};
 use loads::{full_load, Call, Random, Shape};
 
 const USAGE: &str = "benchmark [--repetitions COUNT]";

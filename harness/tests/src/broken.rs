@@ -1,6 +1,6 @@
 //! Builders that must be sent back, each the reference with one call replaced.
 
-use frame_builder::{Answer, Calls, Class, Inspection, Reference, Refusal, Service, SheetProgram};
+use calls::{Answer, Calls, Class, Inspection, Reference, Refusal, Service, SheetProgram};
 
 type AdmitCall = fn(u64, u64, &[u16]) -> Answer;
 type BuildCall = fn(u64, u64, &[u16], &mut [u8]) -> Answer;

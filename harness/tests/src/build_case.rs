@@ -1,6 +1,6 @@
 //! Cases of Admit and Build.
 
-use frame_builder::{Answer, Calls, Class, Inspection};
+use calls::{Answer, Calls, Class, Inspection};
 use loads::{load, Call, LoadKind, Random};
 use reference::wire::{self, Frame, Run};
 

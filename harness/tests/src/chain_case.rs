@@ -1,6 +1,6 @@
 //! Cases of demand 3: lists of Build calls on one buffer and the chain the wire carries.
 
-use frame_builder::Calls;
+use calls::Calls;
 use loads::{load_of_shape, random_shape, Call, LoadKind, Random, Shape};
 use reference::wire::Frame;
 

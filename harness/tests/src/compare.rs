@@ -2,7 +2,7 @@
 
 use std::process::ExitCode;
 
-use frame_builder::Library;
+use calls::Library;
 use tests::{run, Report, Settings};
 
 const USAGE: &str = "compare [--count CASES_PER_KIND] [--seed SEED] [--kind NAME] [--first CASE]";

@@ -1,6 +1,6 @@
 //! Cases of Inspect.
 
-use frame_builder::{Calls, Inspection};
+use calls::{Calls, Inspection};
 use loads::{damage, load_of_shape, random_shape, Damage, LoadKind, Random};
 
 use crate::build_case::{lend_bytes, lend_matrix};

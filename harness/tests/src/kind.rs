@@ -1,6 +1,6 @@
 //! The kinds of random case.
 
-use frame_builder::{Calls, SheetProgram};
+use calls::{Calls, SheetProgram};
 use loads::{Damage, LoadKind, Random, SheetKind};
 
 use crate::build_case::{check_admit, check_build};

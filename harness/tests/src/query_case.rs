@@ -1,6 +1,6 @@
 //! Cases of Slot view and Service count.
 
-use frame_builder::{Calls, Class};
+use calls::{Calls, Class};
 use loads::{junk_number, load_of_shape, random_shape, Call, LoadKind, Random};
 use reference::LONGEST_RUN;
 

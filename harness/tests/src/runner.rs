@@ -4,7 +4,7 @@ use std::collections::BTreeMap;
 use std::panic::{catch_unwind, AssertUnwindSafe};
 use std::thread;
 
-use frame_builder::{Calls, SheetProgram};
+use calls::{Calls, SheetProgram};
 use loads::Random;
 
 use crate::hits::Hits;

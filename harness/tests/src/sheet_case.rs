@@ -1,6 +1,6 @@
 //! Cases of the sheet program.
 
-use frame_builder::SheetProgram;
+use calls::SheetProgram;
 use loads::{sheet, Random, SheetKind};
 
 use crate::hits::Hits;

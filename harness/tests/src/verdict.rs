@@ -2,7 +2,7 @@
 
 use std::fmt::Debug;
 
-use frame_builder::Refusal;
+use calls::Refusal;
 
 /// Nothing to report, or what went wrong.
 pub type Verdict = Result<(), String>;

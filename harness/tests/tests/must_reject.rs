@@ -1,12 +1,12 @@
 //! Builders that would be sent back are sent back.
 
-use frame_builder::{Calls, Class, Inspection, Reference};
+use calls::{Calls, Class, Inspection, Reference};
 use reference::wire::{self, Frame};
 use tests::broken::{self, Broken};
 use tests::{run, Settings};
 
 /// The number of cases of the named kinds that a builder fails.
-fn failures(builder: &(impl Calls + frame_builder::SheetProgram + Sync), kind: &str) -> usize {
+fn failures(builder: &(impl Calls + calls::SheetProgram + Sync), kind: &str) -> usize {
     let settings = Settings {
         seed: 5,
         first: 0,

@@ -4,7 +4,7 @@
 
 use std::process::ExitCode;
 
-use frame_builder::{Calls, Library};
+use calls::{Calls, Library};
 use loads::{full_load, Random, Shape};
 
 const PORTS: usize = 16;

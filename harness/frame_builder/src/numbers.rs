@@ -1,0 +1,46 @@
+//! Answers as numbers, the form in which they cross from the library.
+
+use crate::{Fault, Refusal};
+
+/// An answer's number, and two values where it has them.
+#[derive(Default)]
+pub struct Numbers {
+    pub number: usize,
+    pub first: usize,
+    pub second: usize,
+}
+
+impl Numbers {
+    pub fn answer(&self) -> Result<(), Refusal> {
+        match self.number {
+            0 => Ok(()),
+            _ => Err(self.refusal()),
+        }
+    }
+
+    fn refusal(&self) -> Refusal {
+        let (port, cells) = (self.first, self.second);
+        match self.number {
+            1 => Refusal::Ports,
+            2 => Refusal::Slots,
+            3 => Refusal::MatrixLength,
+            4 => Refusal::FrameLength,
+            5 => Refusal::InputLoad { port, cells },
+            6 => Refusal::OutputLoad { port, cells },
+            11 => Refusal::SlotNumber,
+            12 => Refusal::PortNumber,
+            // By the library's contract this is 13: no call refuses with another number.
+            _ => Refusal::RunLength,
+        }
+    }
+
+    pub fn fault(&self) -> Option<Fault> {
+        match (self.number, self.first, self.second) {
+            (101, slot, input) => Some(Fault::ByteTooLarge { slot, input }),
+            (102, slot, output) => Some(Fault::OutputTwice { slot, output }),
+            (103, input, output) => Some(Fault::PairCount { input, output }),
+            (104, slot, size) => Some(Fault::UnbalancedBlock { slot, size }),
+            _ => None,
+        }
+    }
+}
