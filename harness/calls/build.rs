@@ -1,6 +1,7 @@
-//! Builds the sheet program.
+//! Builds the sheet program, and the C programs that make calls through the header.
 
-use std::path::Path;
+use std::env;
+use std::path::{Path, PathBuf};
 use std::process::Command;
 
 /// Runs a command that must succeed.
@@ -12,12 +13,30 @@ fn run(command: &mut Command) {
     assert!(output.status.success(), "{command:?} failed:\n{printed}");
 }
 
+/// Compiles C sources of this harness over the static library; the program's path goes to a variable.
+fn compile(top: &Path, sources: &[&str], options: &[&str], variable: &str) {
+    let archive = env::var_os("DEP_EXPORTS_ARCHIVE").expect("crate frame_builder names it");
+    let folder = PathBuf::from(env::var_os("OUT_DIR").expect("cargo names it"));
+    let program = folder.join(variable.to_lowercase());
+    let sources = sources.iter().map(|name| top.join("harness/c").join(name));
+    let mut gcc = Command::new("gcc");
+    gcc.args(["-std=c99", "-O2", "-Wall", "-Wextra", "-Werror"]);
+    gcc.arg("-I").arg(top.join("include")).args(sources);
+    gcc.arg(archive).args(options).arg("-o").arg(&program);
+    run(&mut gcc);
+    println!("cargo:rustc-env={variable}={}", program.display());
+}
+
 fn main() {
     let top = Path::new(env!("CARGO_MANIFEST_DIR")).join("../..");
-    for watched in ["crates", "crates.txt"] {
+    for watched in ["crates", "crates.txt", "include", "harness/c"] {
         println!("cargo:rerun-if-changed={}", top.join(watched).display());
     }
     run(Command::new("rt")
         .args(["check", "frame"])
         .current_dir(&top));
+    compile(&top, &["calls.c"], &[], "CALLS_IN_C");
+    let broken = ["calls.c", "writes_outside.c"];
+    let wrapped = ["-Wl,--wrap=frame_builder_build"];
+    compile(&top, &broken, &wrapped, "CALLS_WRITING_OUTSIDE");
 }

@@ -18,4 +18,5 @@ fn main() {
     let folder = top.join("target/staticlib");
     println!("cargo:rustc-link-search=native={}", folder.display());
     println!("cargo:rustc-link-lib=static=exports");
+    println!("cargo:archive={}", folder.join("libexports.a").display());
 }

@@ -2,9 +2,11 @@
 
 #![forbid(unsafe_code)]
 
+mod in_c;
 mod library;
 mod program;
 
+pub use in_c::InC;
 pub use library::Library;
 pub use reference::{Class, Inspection, Refusal};
 
