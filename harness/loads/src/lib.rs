@@ -25,11 +25,13 @@ macro_rules! kinds {
 }
 
 mod damage;
+mod hostile;
 mod load;
 mod random;
 mod sheet;
 
 pub use damage::{damage, Damage};
+pub use hostile::{hostile_length, hostile_number, LengthKind, HOSTILE};
 pub use load::{full_load, junk_number, load, load_of_shape, random_shape, Call, LoadKind, Shape};
 pub use random::Random;
 pub use sheet::{sheet, SheetKind};

@@ -375,6 +375,59 @@ pub fn share_for_count(
     Ok(whole.map_or(right, |cells| cells * length / slots))
 }
 
+/// A number as a 32-bit word keeps it.
+fn cut(number: u64) -> u64 {
+    number & 0xffff_ffff
+}
+
+/// Takes 2^32 + 1 ports for 1.
+pub fn cut_ports(ports: u64, slots: u64, matrix: &[u16], frame: &mut [u8]) -> Answer {
+    reference::build(cut(ports), slots, matrix, frame)
+}
+
+/// Takes 2^32 + 1 slots for 1.
+pub fn cut_slots(ports: u64, slots: u64, matrix: &[u16], frame: &[u8]) -> Inspection {
+    reference::inspect(ports, cut(slots), matrix, frame)
+}
+
+/// Shows slot 1 where slot 2^32 + 1 is asked for.
+pub fn cut_view<'f>(
+    ports: u64,
+    slots: u64,
+    frame: &'f [u8],
+    slot: u64,
+    number: &mut u64,
+) -> &'f [u8] {
+    right_view(ports, slots, frame, cut(slot), number)
+}
+
+/// Counts nothing in a run of 2^32 slots.
+pub fn cut_run(
+    ports: u64,
+    slots: u64,
+    frame: &[u8],
+    class: Class,
+    start: u64,
+    length: u64,
+) -> Service {
+    reference::service_count(ports, slots, frame, class, start, cut(length))
+}
+
+/// Takes a matrix that is too long, and looks at its beginning only.
+pub fn overlong_matrix(ports: u64, slots: u64, matrix: &[u16]) -> Answer {
+    let wanted = ports.saturating_mul(ports) as usize;
+    reference::admit(ports, slots, matrix.get(..wanted).unwrap_or(matrix))
+}
+
+/// Writes one byte of a frame that it refuses to fill.
+pub fn marks_refused_frame(ports: u64, slots: u64, matrix: &[u16], frame: &mut [u8]) -> Answer {
+    let answer = reference::build(ports, slots, matrix, frame);
+    if let (Err(_), Some(last)) = (answer, frame.last_mut()) {
+        *last = last.wrapping_add(1);
+    }
+    answer
+}
+
 /// Prints nothing for a refused sheet.
 pub fn silent_refusal(sheet: &[u8]) -> Vec<u8> {
     let response = reference::respond(sheet);

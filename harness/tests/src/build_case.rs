@@ -9,13 +9,22 @@ use crate::lent::Lent;
 use crate::verdict::{expect, expect_equal, outcome, Verdict};
 
 /// Holds Admit's answer against the reference's.
-pub fn check_admit<B: Calls>(
-    candidate: &B,
+pub fn check_admit(
+    candidate: &dyn Calls,
     kind: LoadKind,
     random: &mut Random,
     hits: &mut Hits,
 ) -> Verdict {
-    let call = load(kind, random);
+    admit_and_compare(candidate, &load(kind, random), random, hits)
+}
+
+/// Admits with the candidate and the reference and compares.
+pub fn admit_and_compare(
+    candidate: &dyn Calls,
+    call: &Call,
+    random: &mut Random,
+    hits: &mut Hits,
+) -> Verdict {
     let matrix = lend_matrix(&call.matrix, random);
     let before = matrix.clone();
     let answer = candidate.admit(call.ports, call.slots, matrix.part());
@@ -26,8 +35,8 @@ pub fn check_admit<B: Calls>(
 }
 
 /// Holds Build's answer and buffer against the reference's, and an accepted frame to the rules.
-pub fn check_build<B: Calls>(
-    candidate: &B,
+pub fn check_build(
+    candidate: &dyn Calls,
     kind: LoadKind,
     random: &mut Random,
     hits: &mut Hits,
@@ -48,8 +57,8 @@ pub fn check_build<B: Calls>(
 }
 
 /// Builds with the candidate and the reference from the same bytes and compares all of them.
-pub fn build_and_compare<B: Calls>(
-    candidate: &B,
+pub fn build_and_compare(
+    candidate: &dyn Calls,
     call: &Call,
     buffer: &mut Lent<u8>,
     random: &mut Random,

@@ -18,8 +18,8 @@ loads::kinds! {
 }
 
 /// Makes a list of calls on one buffer, then counts runs of the chain.
-pub fn check_chain<B: Calls>(
-    candidate: &B,
+pub fn check_chain(
+    candidate: &dyn Calls,
     kind: ChainKind,
     random: &mut Random,
     hits: &mut Hits,

@@ -30,23 +30,51 @@ impl Hits {
         counts.map(|(name, &count)| (name.as_str(), count))
     }
 
+    /// Adds what another came upon, each name after a word.
+    pub fn merge_under(&mut self, word: &str, other: Hits) {
+        for (name, count) in other.counts {
+            *self.counts.entry(format!("{word} {name}")).or_default() += count;
+        }
+    }
+
     /// Everything a whole run must have come upon at least once.
     pub fn required() -> Vec<String> {
-        let mut names = vec!["inspect clean".to_string(), "sheet frame".to_string()];
-        for fault in ["byte too large", "output twice", "pair count"] {
-            names.push(format!("inspect {fault}"));
-        }
-        // A legal frame cannot unbalance a block of 2: each of its halves is one slot.
-        names.extend((2..=10).map(|k| format!("inspect unbalanced block of {}", 1 << k)));
+        let mut names = outcomes();
+        names.push("sheet frame".into());
+        names.extend(refusal_names("sheet", &[1, 2, 5, 6, 7, 8, 9, 10]));
         names.extend((1..=16).map(|ports| format!("build with {ports} ports")));
         names.extend((0..=10).map(|k| format!("build with {} slots", 1 << k)));
-        names.extend(refusal_names());
-        names.extend(["pair", "input", "output"].map(|class| format!("count of {class}")));
         names.extend(CHAIN_EVENTS.map(str::to_string));
         let kinds = Kind::all().into_iter();
         names.extend(kinds.map(|kind| format!("case {}", kind.name())));
         names
     }
+}
+
+/// Each answer of each call.
+pub fn outcomes() -> Vec<String> {
+    let mut names = vec!["inspect clean".to_string()];
+    names.extend(["admit", "build", "view", "count"].map(|call| format!("{call} accepted")));
+    for fault in ["byte too large", "output twice", "pair count"] {
+        names.push(format!("inspect {fault}"));
+    }
+    // A legal frame cannot unbalance a block of 2: each of its halves is one slot.
+    names.extend((2..=10).map(|k| format!("inspect unbalanced block of {}", 1 << k)));
+    names.extend(refusal_names("admit", &[1, 2, 3, 5, 6]));
+    names.extend(refusal_names("build", &[1, 2, 3, 4, 5, 6]));
+    names.extend(refusal_names("inspect", &[1, 2, 3, 4]));
+    names.extend(refusal_names("view", &[1, 2, 4, 11]));
+    names.extend(refusal_names("count", &[1, 2, 4, 11, 12, 13]));
+    names.extend(["pair", "input", "output"].map(|class| format!("count of {class}")));
+    names
+}
+
+/// A call's refusals, in its order.
+fn refusal_names(call: &str, numbers: &[u64]) -> Vec<String> {
+    let names = numbers.iter();
+    names
+        .map(|number| format!("{call} refusal {number}"))
+        .collect()
 }
 
 /// What the chains of calls must have come upon.
@@ -59,25 +87,3 @@ const CHAIN_EVENTS: [&str; 7] = [
     "chain other shape accepted and not carried",
     "chain bound exactly reached",
 ];
-
-/// Each call's acceptance and each refusal in its order.
-fn refusal_names() -> Vec<String> {
-    let orders: [(&str, &[u64]); 6] = [
-        ("admit", &[1, 2, 3, 5, 6]),
-        ("build", &[1, 2, 3, 4, 5, 6]),
-        ("inspect", &[1, 2, 3, 4]),
-        ("view", &[1, 2, 4, 11]),
-        ("count", &[1, 2, 4, 11, 12, 13]),
-        ("sheet", &[1, 2, 5, 6, 7, 8, 9, 10]),
-    ];
-    let mut names = Vec::new();
-    for (call, numbers) in orders {
-        names.extend(
-            numbers
-                .iter()
-                .map(|number| format!("{call} refusal {number}")),
-        );
-    }
-    names.extend(["admit", "build", "view", "count"].map(|call| format!("{call} accepted")));
-    names
-}

@@ -5,7 +5,10 @@
 pub mod broken;
 mod build_case;
 mod chain_case;
+pub mod command;
 mod hits;
+mod hostile_call;
+mod hostile_case;
 mod inspect_case;
 mod kind;
 mod lent;
@@ -15,5 +18,7 @@ mod sheet_case;
 mod verdict;
 
 pub use hits::Hits;
+pub use hostile_call::HostileKind;
+pub use hostile_case::{run_hostile, Face};
 pub use kind::Kind;
 pub use runner::{run, Report, Settings};

@@ -30,8 +30,8 @@ loads::kinds! {
 }
 
 /// Holds views against the bytes of the frame itself, by place.
-pub fn check_view<B: Calls>(
-    candidate: &B,
+pub fn check_view(
+    candidate: &dyn Calls,
     kind: ViewKind,
     random: &mut Random,
     hits: &mut Hits,
@@ -44,14 +44,14 @@ pub fn check_view<B: Calls>(
             ViewKind::SlotOutside => random.pick(&[0, call.slots + 1, good + (1 << 32), u64::MAX]),
             ViewKind::Junk => random_number(good, random),
         };
-        check_one_view(candidate, &call, &frame, slot, random, hits)?;
+        view_and_compare(candidate, &call, &frame, slot, random, hits)?;
     }
     Ok(())
 }
 
 /// The view must be the frame's own bytes, and the lent number must be written.
-fn check_one_view<B: Calls>(
-    candidate: &B,
+pub fn view_and_compare(
+    candidate: &dyn Calls,
     call: &Call,
     frame: &Lent<u8>,
     slot: u64,
@@ -80,19 +80,31 @@ fn check_one_view<B: Calls>(
 }
 
 /// Holds Service count against a count slot by slot.
-pub fn check_count<B: Calls>(
-    candidate: &B,
+pub fn check_count(
+    candidate: &dyn Calls,
     kind: RunKind,
     random: &mut Random,
     hits: &mut Hits,
 ) -> Verdict {
     let (call, frame) = any_frame(kind == RunKind::Junk, random);
-    let before = frame.clone();
-    let (start, length) = start_and_length(kind, call.slots, random);
+    let run = start_and_length(kind, call.slots, random);
     let mut class = random_class(call.ports.clamp(1, 16), random);
     if kind == RunKind::Junk && random.one_in(3) {
         class = junk_class(call.ports, random);
     }
+    count_and_compare(candidate, &call, &frame, class, run, hits)
+}
+
+/// Counts with the candidate and the reference, in a run given by its start and its length, and compares.
+pub fn count_and_compare(
+    candidate: &dyn Calls,
+    call: &Call,
+    frame: &Lent<u8>,
+    class: Class,
+    (start, length): (u64, u64),
+    hits: &mut Hits,
+) -> Verdict {
+    let before = frame.clone();
     let bytes = frame.part();
     let given = candidate.service_count(call.ports, call.slots, bytes, class, start, length);
     let right = reference::service_count(call.ports, call.slots, bytes, class, start, length);
@@ -108,9 +120,20 @@ pub fn check_count<B: Calls>(
 fn any_frame(junk: bool, random: &mut Random) -> (Call, Lent<u8>) {
     let shape = random_shape(random);
     let mut call = load_of_shape(LoadKind::Scattered, shape, random);
+    let mut bytes = any_bytes(&call, random);
+    if junk {
+        call = load_of_shape(LoadKind::Junk, shape, random);
+        bytes.resize(call.frame_length, 1);
+    }
+    let frame = lend_bytes(&bytes, random);
+    (call, frame)
+}
+
+/// Bytes for a frame: any bytes, or any outputs, or those that Build leaves.
+pub fn any_bytes(call: &Call, random: &mut Random) -> Vec<u8> {
     let mut bytes = random.bytes(call.frame_length);
     match random.below(3) {
-        0 => bytes.fill_with(|| random.between(0, shape.ports as u64) as u8),
+        0 => bytes.fill_with(|| random.between(0, call.ports) as u8),
         1 => drop(reference::build(
             call.ports,
             call.slots,
@@ -119,12 +142,7 @@ fn any_frame(junk: bool, random: &mut Random) -> (Call, Lent<u8>) {
         )),
         _ => {}
     }
-    if junk {
-        call = load_of_shape(LoadKind::Junk, shape, random);
-        bytes.resize(call.frame_length, 1);
-    }
-    let frame = lend_bytes(&bytes, random);
-    (call, frame)
+    bytes
 }
 
 /// A start slot and a length of the kind.

@@ -53,8 +53,8 @@ impl Report {
     }
 
     /// Each thing required counts as one check of its own.
-    fn check_required(&mut self) {
-        for name in Hits::required() {
+    fn check_required(&mut self, required: Vec<String>) {
+        for name in required {
             if self.hits.count(&name) > 0 {
                 self.passed += 1;
             } else {
@@ -64,12 +64,30 @@ impl Report {
     }
 }
 
-/// Runs the cases against the candidate.
+/// Runs one case.
+type Check<'c> = dyn Fn(&mut Random, &mut Hits) -> Verdict + Sync + 'c;
+
+/// The cases of one kind.
+pub struct Cases<'c> {
+    pub name: String,
+    pub check: Box<Check<'c>>,
+}
+
+/// Runs the cases of every kind against the candidate.
 pub fn run<B: Calls + SheetProgram + Sync>(candidate: &B, settings: &Settings) -> Report {
+    let kinds = Kind::all().into_iter().map(|kind| Cases {
+        name: kind.name(),
+        check: Box::new(move |random, hits| kind.check(candidate, random, hits)),
+    });
+    run_cases(&kinds.collect::<Vec<_>>(), Hits::required(), settings)
+}
+
+/// Runs cases; a whole run must come upon everything that is required.
+pub fn run_cases(kinds: &[Cases], required: Vec<String>, settings: &Settings) -> Report {
     let workers = thread::available_parallelism().map_or(1, |cores| cores.get() as u64);
     let parts: Vec<Report> = thread::scope(|scope| {
         let started: Vec<_> = (0..workers)
-            .map(|worker| scope.spawn(move || run_part(candidate, settings, worker, workers)))
+            .map(|worker| scope.spawn(move || run_part(kinds, settings, worker, workers)))
             .collect();
         let finished = started.into_iter().map(|thread| thread.join());
         finished
@@ -81,31 +99,26 @@ pub fn run<B: Calls + SheetProgram + Sync>(candidate: &B, settings: &Settings) -
         report.merge(part);
     }
     if settings.is_whole() {
-        report.check_required();
+        report.check_required(required);
     }
     report
 }
 
 /// Runs every so-manieth case of each kind.
-fn run_part<B: Calls + SheetProgram>(
-    candidate: &B,
-    settings: &Settings,
-    worker: u64,
-    workers: u64,
-) -> Report {
+fn run_part(kinds: &[Cases], settings: &Settings, worker: u64, workers: u64) -> Report {
     let mut report = Report::default();
-    for (order, kind) in (0..).zip(Kind::all()) {
-        if !kind.name().starts_with(&settings.kind) {
+    for (order, kind) in (0..).zip(kinds) {
+        if !kind.name.starts_with(&settings.kind) {
             continue;
         }
         let cases = settings.first..settings.first + settings.count;
         for case in cases.filter(|case| case % workers == worker) {
             let mut random = Random::for_case(&[settings.seed, order, case]);
-            report.hits.add(format!("case {}", kind.name()));
-            match check_guarded(kind, candidate, &mut random, &mut report.hits) {
+            report.hits.add(format!("case {}", kind.name));
+            match check_guarded(kind, &mut random, &mut report.hits) {
                 Ok(()) => report.passed += 1,
                 Err(complaint) => {
-                    let failure = describe(&complaint, kind, settings.seed, case);
+                    let failure = describe(&complaint, &kind.name, settings.seed, case);
                     report.failures.insert((order, case), failure);
                 }
             }
@@ -115,18 +128,16 @@ fn run_part<B: Calls + SheetProgram>(
 }
 
 /// A candidate that panics has failed its case, not ended the run.
-fn check_guarded<B: Calls + SheetProgram>(
-    kind: Kind,
-    candidate: &B,
-    random: &mut Random,
-    hits: &mut Hits,
-) -> Verdict {
-    let check = AssertUnwindSafe(|| kind.check(candidate, random, hits));
-    catch_unwind(check).unwrap_or_else(|_| Err("panicked".into()))
+fn check_guarded(kind: &Cases, random: &mut Random, hits: &mut Hits) -> Verdict {
+    let check = AssertUnwindSafe(|| (kind.check)(random, hits));
+    catch_unwind(check).unwrap_or_else(|panic| {
+        let said = panic.downcast_ref::<String>().map(String::as_str);
+        let said = said.or(panic.downcast_ref::<&str>().copied());
+        Err(format!("panicked: {}", said.unwrap_or_default()))
+    })
 }
 
 /// What went wrong in a case and how to run it again.
-fn describe(complaint: &str, kind: Kind, seed: u64, case: u64) -> String {
-    let name = kind.name();
+fn describe(complaint: &str, name: &str, seed: u64, case: u64) -> String {
     format!("{name}: {complaint}; again with --seed {seed} --kind {name} --first {case} --count 1")
 }

@@ -7,8 +7,8 @@ use crate::hits::Hits;
 use crate::verdict::{expect, Verdict};
 
 /// Holds all that is printed for a sheet against what the reference prints.
-pub fn check_sheet<B: SheetProgram>(
-    candidate: &B,
+pub fn check_sheet(
+    candidate: &dyn SheetProgram,
     kind: SheetKind,
     random: &mut Random,
     hits: &mut Hits,

@@ -1,0 +1,67 @@
+//! Hostile calls find the builders that would be sent back, and nothing else.
+
+use calls::{Calls, InC, Library, Reference};
+use tests::broken::{self, Broken};
+use tests::{run_hostile, Face, Report, Settings};
+
+fn hostile(calls: &(dyn Calls + Sync), kind: &str, count: u64) -> Report {
+    let settings = Settings {
+        seed: 5,
+        first: 0,
+        count,
+        kind: kind.into(),
+    };
+    let name = "it";
+    run_hostile(&[Face { name, calls }], &settings)
+}
+
+/// A builder with this one call replaced is sent back.
+macro_rules! sent_back {
+    ($call:ident: $function:ident, $kind:literal) => {
+        let builder = Broken {
+            $call: broken::$function,
+            ..Broken::default()
+        };
+        assert!(!hostile(&builder, $kind, 400).failures.is_empty());
+    };
+}
+
+#[test]
+fn right_builders_are_not_sent_back() {
+    for builder in [&Reference as &(dyn Calls + Sync), &Library, &InC::default()] {
+        assert!(hostile(builder, "hostile/", 100).failures.is_empty());
+    }
+}
+
+#[test]
+fn numbers_cut_to_32_bits() {
+    sent_back!(build: cut_ports, "hostile/build");
+    sent_back!(inspect: cut_slots, "hostile/inspect");
+    sent_back!(slot_view: cut_view, "hostile/view");
+    sent_back!(service_count: cut_run, "hostile/count");
+}
+
+#[test]
+fn lengths_not_looked_at() {
+    sent_back!(admit: overlong_matrix, "hostile/admit");
+}
+
+#[test]
+fn a_byte_written_on_refusal() {
+    sent_back!(build: marks_refused_frame, "hostile/build");
+}
+
+#[test]
+fn a_byte_written_outside_in_c() {
+    let report = hostile(&InC::writing_outside(), "hostile/build", 4);
+    assert_eq!(report.failures.len(), 4);
+    let mut failures = report.failures.values();
+    assert!(failures.all(|failure| failure.contains("bytes around the frame")));
+}
+
+#[test]
+fn a_whole_run_must_come_upon_every_answer() {
+    let report = hostile(&Reference, "", 1);
+    assert!(report.failures.is_empty());
+    assert!(report.never_hit.contains(&"it count refusal 13".into()));
+}
