@@ -1,0 +1,281 @@
+//! The picture of a flow: how far it is ahead of its share along the frame.
+
+use crate::flow::Course;
+use crate::svg::{count, dot, signed, Page, Path};
+
+const SIZE: (f64, f64) = (1_200.0, 560.0);
+const MARGIN: f64 = 20.0;
+const LEFT: f64 = 84.0;
+const RIGHT: f64 = 1_136.0;
+const TOP: f64 = 104.0;
+const BOTTOM: f64 = 496.0;
+/// The most slots whose ends are dotted.
+const MOST_DOTTED: i64 = 128;
+
+const LINE: &str = "fill=\"none\" stroke=\"#1f5fbf\" stroke-width=\"1.5\"";
+const DASHES: &str =
+    "fill=\"none\" stroke=\"#c62828\" stroke-width=\"1.5\" stroke-dasharray=\"8 5\"";
+const GREY: &str = "fill=\"none\" stroke=\"#777\" stroke-width=\"1.5\"";
+const FAINT: &str = "fill=\"none\" stroke=\"#e2e2e2\"";
+const AXES: &str = "fill=\"none\" stroke=\"#222\"";
+const DOT: &str = "fill=\"#1f5fbf\"";
+
+/// Where slots and cells are on the page.
+struct Plot {
+    slots: f64,
+    /// The most cells, ahead or behind, that are to be seen.
+    most: f64,
+}
+
+impl Plot {
+    fn of(course: &Course) -> Plot {
+        let slots = course.slots as f64;
+        let heights = course.heights.iter().map(|height| height.abs());
+        let farthest = heights.max().unwrap_or(0) as f64 / slots;
+        let most = farthest.max(thirds(course) as f64 / 3.0);
+        Plot { slots, most }
+    }
+
+    fn x(&self, slots: i64) -> f64 {
+        LEFT + slots as f64 * (RIGHT - LEFT) / self.slots
+    }
+
+    /// The most cells are a little inside the edge, so that there is room for words.
+    fn y(&self, cells: f64) -> f64 {
+        let middle = (TOP + BOTTOM) / 2.0;
+        middle - cells / (1.15 * self.most) * (BOTTOM - TOP) / 2.0
+    }
+
+    /// The place of a height, which is cells times slots.
+    fn y_of(&self, height: i64) -> f64 {
+        self.y(height as f64 / self.slots)
+    }
+
+    /// The cells between two ticks: at most five ticks on either side.
+    fn step(&self) -> f64 {
+        let steps = [
+            0.1, 0.2, 0.5, 1.0, 2.0, 5.0, 10.0, 20.0, 50.0, 100.0, 200.0, 500.0,
+        ];
+        let few = |step: &f64| self.most / step < 6.0;
+        steps.into_iter().find(few).unwrap_or(1_000.0)
+    }
+}
+
+/// Three times the bound of demand 3, in cells.
+fn thirds(course: &Course) -> i64 {
+    2 * course.halvings() + 1
+}
+
+/// The picture of a flow.
+pub fn draw_flow(course: &Course) -> String {
+    let cells = count(course.load as usize, "cell");
+    let slots = count(course.slots as usize, "slot");
+    let name = course.flow.name();
+    let halvings = course.halvings();
+    let title = format!("{name}: m = {cells} in a frame of 2^k = {slots} (k = {halvings})");
+    let plot = Plot::of(course);
+    let mut page = Page::new(SIZE, &title);
+    page.heading(MARGIN, &title, &subtitle(course));
+    draw_legend(&mut page, course);
+    draw_slot_axis(&mut page, &plot, course);
+    draw_cell_axis(&mut page, &plot);
+    draw_level(&mut page, plot.y(0.0), GREY);
+    let beside = (RIGHT + 8.0, plot.y(0.0) + 4.0);
+    page.text(beside, "fill=\"#555\"", "share");
+    draw_bound(&mut page, &plot, ("+", thirds(course)));
+    draw_bound(&mut page, &plot, ("\u{2212}", -thirds(course)));
+    page.path(&course_path(&plot, course), LINE);
+    if course.slots <= MOST_DOTTED {
+        draw_dots(&mut page, &plot, course);
+    }
+    page.finish()
+}
+
+/// The farthest ahead and behind, in words.
+fn subtitle(course: &Course) -> String {
+    let words = |(slots, height): (i64, i64)| match height {
+        0 => "0".to_string(),
+        _ => {
+            let cells = signed(height as f64 / course.slots as f64);
+            format!("{cells} (after slot {slots})")
+        }
+    };
+    let most = words(course.farthest_ahead());
+    let least = words(course.farthest_behind());
+    format!("Cells ahead of share: at most {most}, at least {least}")
+}
+
+fn draw_legend(page: &mut Page, course: &Course) {
+    let base = 80.0;
+    let so_far = "cells so far \u{2212} t \u{d7} m / 2^k, after t slots";
+    let bound = "bound of demand 3: \u{b1}(2k + 1)/3 cells";
+    let entries = [
+        (MARGIN, LINE, so_far),
+        (340.0, DASHES, bound),
+        (640.0, GREY, "share: t \u{d7} m / 2^k cells"),
+    ];
+    for (x, style, words) in entries {
+        let mut path = Path::default();
+        path.start(x, base - 4.0);
+        path.across_by(34.0);
+        page.path(&path, style);
+        page.text((x + 42.0, base), "", words);
+    }
+    if course.slots <= MOST_DOTTED {
+        page.put(&dot((MARGIN + 17.0, base - 4.0), DOT));
+    }
+}
+
+fn draw_slot_axis(page: &mut Page, plot: &Plot, course: &Course) {
+    let step = (course.slots / 16).max(1);
+    let (mut faint, mut ticks) = (Path::default(), Path::default());
+    page.put("<g text-anchor=\"middle\">");
+    for slots in (0..=course.slots).step_by(step as usize) {
+        let x = plot.x(slots);
+        faint.start(x, TOP);
+        faint.down_to(BOTTOM);
+        ticks.start(x, BOTTOM);
+        ticks.down_to(BOTTOM + 5.0);
+        page.text((x, BOTTOM + 20.0), "", &slots.to_string());
+    }
+    let below = ((LEFT + RIGHT) / 2.0, BOTTOM + 46.0);
+    let words = "slots from the frame's beginning";
+    page.text(below, "font-size=\"13\"", words);
+    page.put("</g>");
+    ticks.start(LEFT, BOTTOM);
+    ticks.across_to(RIGHT);
+    page.path(&faint, FAINT);
+    page.path(&ticks, AXES);
+}
+
+fn draw_cell_axis(page: &mut Page, plot: &Plot) {
+    let last = (plot.most / plot.step()).floor() as i32;
+    let (mut faint, mut ticks) = (Path::default(), Path::default());
+    page.put("<g text-anchor=\"end\">");
+    for place in -last..=last {
+        let cells = f64::from(place) * plot.step();
+        let y = plot.y(cells);
+        faint.start(LEFT, y);
+        faint.across_to(RIGHT);
+        ticks.start(LEFT - 5.0, y);
+        ticks.across_to(LEFT);
+        page.text((LEFT - 10.0, y + 4.0), "", &signed(cells));
+    }
+    page.put("</g>");
+    ticks.start(LEFT, TOP);
+    ticks.down_to(BOTTOM);
+    page.path(&faint, FAINT);
+    page.path(&ticks, AXES);
+    let beside = (30.0, (TOP + BOTTOM) / 2.0);
+    page.upright(beside, "font-size=\"13\"", "cells ahead of share");
+}
+
+/// A line across the whole frame.
+fn draw_level(page: &mut Page, y: f64, style: &str) {
+    let mut path = Path::default();
+    path.start(LEFT, y);
+    path.across_to(RIGHT);
+    page.path(&path, style);
+}
+
+/// The bound on one side, given by its sign and its thirds of a cell, with its value on the far side of it.
+fn draw_bound(page: &mut Page, plot: &Plot, (sign, thirds): (&str, i64)) {
+    let cells = thirds as f64 / 3.0;
+    let value = match thirds % 3 {
+        0 => signed(cells),
+        _ => format!("{sign}{}/3 \u{2248} {}", thirds.abs(), signed(cells)),
+    };
+    let y = plot.y(cells);
+    draw_level(page, y, DASHES);
+    let base = if thirds > 0 { y - 7.0 } else { y + 17.0 };
+    let words = format!("bound of demand 3: {sign}(2k + 1)/3 cells = {value}");
+    let attributes = "text-anchor=\"end\" fill=\"#b71c1c\"";
+    page.text((RIGHT - 6.0, base), attributes, &words);
+}
+
+/// Level from slot to slot, with a jump at the end of each slot that changes the height.
+fn course_path(plot: &Plot, course: &Course) -> Path {
+    let mut path = Path::default();
+    path.start(LEFT, plot.y(0.0));
+    for (slots, height) in course.jumps() {
+        path.across_to(plot.x(slots));
+        path.down_to(plot.y_of(height));
+    }
+    path.across_to(RIGHT);
+    path
+}
+
+fn draw_dots(page: &mut Page, plot: &Plot, course: &Course) {
+    for (slots, &height) in (0..).zip(&course.heights) {
+        page.put(&dot((plot.x(slots), plot.y_of(height)), DOT));
+    }
+}
+
+#[cfg(test)]
+mod tests {
+    use super::*;
+    use crate::flow::Flow;
+    use crate::frame::Frame;
+
+    fn course(text: &str, flow: Flow) -> Course {
+        Course::of(&Frame::read(text.as_bytes()).unwrap(), flow).unwrap()
+    }
+
+    fn table7(flow: Flow) -> Course {
+        course(include_str!("../../../examples/table7.answer"), flow)
+    }
+
+    #[test]
+    fn the_line_of_pair_4_4_of_table_7() {
+        let course = table7(Flow::Pair(4, 4));
+        let plot = Plot::of(&course);
+        // Half a cell is 196 / (1.15 × 5/3) / 2 = 51.13 high, a slot 1052 / 4 = 263 wide.
+        let path = course_path(&plot, &course);
+        let slots = "H347V248.87H610V300H873V351.13H1136V300";
+        assert_eq!(path.data(), format!("M84 300{slots}H1136"));
+    }
+
+    #[test]
+    fn a_flow_that_keeps_its_share_is_one_line() {
+        for flow in [Flow::Input(4), Flow::Input(2), Flow::Pair(2, 2)] {
+            let course = table7(flow);
+            let path = course_path(&Plot::of(&course), &course);
+            assert_eq!(path.data(), "M84 300H1136");
+        }
+    }
+
+    #[test]
+    fn words_of_table_7() {
+        let drawn = draw_flow(&table7(Flow::Pair(4, 4)));
+        for words in [
+            "<title>Pair (4, 4): m = 2 cells in a frame of 2^k = 4 slots (k = 2)</title>",
+            "at most +0.5 (after slot 1), at least \u{2212}0.5 (after slot 3)<",
+            "bound of demand 3: +(2k + 1)/3 cells = +5/3 \u{2248} +1.667<",
+            "bound of demand 3: \u{2212}(2k + 1)/3 cells = \u{2212}5/3 \u{2248} \u{2212}1.667<",
+        ] {
+            assert!(drawn.contains(words), "{words}");
+        }
+        let full = draw_flow(&table7(Flow::Input(4)));
+        assert!(full.contains("Cells ahead of share: at most 0, at least 0<"));
+    }
+
+    #[test]
+    fn a_whole_bound_is_a_whole_number() {
+        let text = "(frame (ports 1) (slots 2))\n(slot 1 (1 1))\n(slot 2)\n";
+        let drawn = draw_flow(&course(text, Flow::Pair(1, 1)));
+        assert!(drawn.contains("bound of demand 3: +(2k + 1)/3 cells = +1<"));
+    }
+
+    #[test]
+    fn a_bunched_flow_stays_on_the_page() {
+        let busy = (1..=512).map(|slot| format!("(slot {slot} (1 1))\n"));
+        let idle = (513..=1_024).map(|slot| format!("(slot {slot})\n"));
+        let slots: String = busy.chain(idle).collect();
+        let text = format!("(frame (ports 1) (slots 1024))\n{slots}");
+        let course = course(&text, Flow::Output(1));
+        let plot = Plot::of(&course);
+        assert_eq!(course.farthest_ahead(), (512, 256 * 1_024));
+        assert!(plot.y_of(256 * 1_024) > TOP);
+        assert_eq!(plot.step(), 50.0);
+    }
+}
