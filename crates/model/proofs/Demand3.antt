@@ -39,7 +39,7 @@ module _ (c : Class) where
       let split : min hi (start + len) - lo ≡ (min hi start - lo) + inside lo hi start len = omega arith in
       cc (inside-first lo hi (start + len), inside-first lo hi start)
 
-  share-split : (fs : List Carried) (lo start len : ℕ) → share c lo fs 0 (start + len) ≡ share c lo fs 0 start + share c lo fs start len
+  pub share-split : (fs : List Carried) (lo start len : ℕ) → share c lo fs 0 (start + len) ≡ share c lo fs 0 start + share c lo fs start len
   unfolding share
   share-split [] lo start len = refl
   share-split (f ∷ fs) lo start len =

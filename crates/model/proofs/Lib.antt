@@ -18,6 +18,7 @@ pub mod Demand2
 pub mod Accuracy
 pub mod Demand3
 pub mod Tight
+pub mod Queues
 pub mod Overloads
 pub mod Reports
 pub mod Runs

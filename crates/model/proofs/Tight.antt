@@ -1,14 +1,18 @@
--- The bound of demand 3 is reached: document 01's seam load, k = 1, two ports. A frame of pair (1, 2) alone with 1 cell, then
+-- The bound of demand 3 is reached, and a flow's queue is as deep as it allows: document 01's seam load, k = 1, two ports. A frame of pair (1, 2) alone with 1 cell, then
 -- a frame of (1, 1) and (1, 2) with 1 each: the last slot of the first and the first slot of the second have no cell of (1, 2).
-use Prim.Native.Nat.{ℕ, _+_, _*_, _^_}
+use Prim.Native.Nat.{ℕ, suc, zero, _+_, _*_, _-_, _^_, _≤_, min}
 use mathlib.Core.Path.{_≡_, refl}
 use mathlib.Core.List.{List, [], _∷_}
-use Rattle.model.specs.Words.{sumTo}
+use native.Mathlib.Omega.{arith}
+use lib.ListN.{length}
+use Rattle.model.specs.Words.{sumTo, Every}
 use Rattle.model.specs.Loads.{pair, load}
 use Rattle.model.specs.Frames.{cells, runOf}
 use Rattle.model.specs.Schedule.{walk, settleAt, favours, slotOf, frameOf}
 use Rattle.model.specs.Build.{buildChecks}
 use Rattle.model.specs.Wire.{Call, Carried, none, chain, wire, share}
+use Rattle.model.specs.Queue.{waiting, scheduledOn, arrived, Paced}
+use Rattle.model.proofs.Sums.{sum-append}
 
 -- a call of two ports and two slots, carried once, and one that is refused, carried once more
 abbrev pub once : List ℕ → Call
@@ -26,3 +30,29 @@ seam-wire = refl
 pub tight : 3 * share (pair 0 1) 0 seam 1 2 ≡ 3 * 2 ^ 1 * cells (pair 0 1) 2 (runOf 2 1 2 (wire seam)) + (2 * 1 + 1) * 2 ^ 1
 unfolding chain wire share cells runOf buildChecks sumTo load walk settleAt favours slotOf frameOf
 tight = refl
+
+-- the pair has 1 cell in each frame of the seam
+pub seam-steady : Every (λ f. load (pair 0 1) 2 (f .call .matrix) ≡ 1) seam
+unfolding chain buildChecks sumTo load walk settleAt favours slotOf frameOf
+seam-steady = (refl, (refl, (refl, tt)))
+
+-- one cell arrives in each of the two slots that have none of the pair
+abbrev pub arriving : ℕ → ℕ
+arriving t = min t 2 - min (t - 1) 2
+
+arriving-first : (t : ℕ) → sumTo t arriving ≡ min (t - 1) 2
+unfolding sumTo
+arriving-first zero = refl
+arriving-first (suc t) = omega (arith, arriving-first t)
+
+-- in L slots at most L / 2 + 1 cells arrive
+pub arriving-paced : Paced 1 1 (length seam * 2 ^ 1) (λ start len. len * 1) arriving
+unfolding arrived
+arriving-paced start len h =
+    let sum = sum-append start len arriving in
+    omega (arith, arriving-first (start + len), arriving-first start)
+
+-- after the second of them a + (2 k + 1)/3 cells wait, k = 1 and a = 1
+pub deepest : 3 * 2 ^ 1 * waiting arriving (scheduledOn (pair 0 1) 2 seam) 3 ≡ 3 * 2 ^ 1 * 1 + (2 * 1 + 1) * 2 ^ 1
+unfolding waiting chain wire cells runOf buildChecks sumTo load walk settleAt favours slotOf frameOf
+deepest = refl

@@ -10,4 +10,5 @@ pub mod Build
 pub mod Inspect
 pub mod Service
 pub mod Wire
+pub mod Queue
 pub mod Sheet

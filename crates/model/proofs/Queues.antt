@@ -1,0 +1,152 @@
+-- Queues: how many cells of a flow wait at most, for every list of Build calls.
+use Prim.Native.Nat.{ℕ, suc, zero, _+_, _*_, _-_, _^_, _≤_, _<_, min, max}
+use mathlib.Core.Path.{_≡_, refl, ap, subst, sym, _∙_}
+use mathlib.Core.List.{List, [], _∷_}
+use native.Mathlib.Nat.{mul-le-mul-right, mul-le-mul-left}
+use native.Mathlib.Omega.{arith}
+use native.Mathlib.Decide.{decLe}
+use lib.ListN.{length}
+use Rattle.model.specs.Words.{sumTo, Every}
+use Rattle.model.specs.Loads.{Class, Of, load}
+use Rattle.model.specs.Frames.{cells, runOf}
+use Rattle.model.specs.Wire.{Call, Carried, none, chain, wire, inside, share, Shape}
+use Rattle.model.specs.Queue.{waiting, scheduledOn, arrived, Paced, Held, Deep, Buffers, BuffersAtSeams}
+use Rattle.model.proofs.Sums.{sum-more}
+use Rattle.model.proofs.Cells.{cells-none, cells-run, run-none}
+use Rattle.model.proofs.Demand3.{Good, good-of, wire-length, share-split, run-accurate, chain-sound}
+
+-- ---- the run since the queue was last empty: what waits now arrived in it and has not left
+pub record Since (arrive scheduled : ℕ → ℕ) (t : ℕ) : Type 0 where
+  pub start : ℕ
+  pub len : ℕ
+  pub ends : start + len ≡ t
+  pub waits : waiting arrive scheduled t + arrived scheduled start len ≤ arrived arrive start len
+
+module _ (arrive scheduled : ℕ → ℕ) where
+  pub since : (t : ℕ) → Since arrive scheduled t
+  unfolding waiting arrived sumTo
+  since zero = record { start = 0; len = 0; ends = refl; waits = omega arith }
+  since (suc t) =
+      let s = since t in
+      elim (decLe (waiting arrive scheduled t + arrive t) (scheduled t)) as (λ _. Since arrive scheduled (suc t)) [
+        | yes h ↦ record { start = suc t; len = 0; ends = omega arith; waits = omega arith }
+        | no h ↦ (
+            let a : arrive (s .start + s .len) ≡ arrive t = ap arrive (s .ends) in
+            let b : scheduled (s .start + s .len) ≡ scheduled t = ap scheduled (s .ends) in
+            record { start = s .start; len = suc (s .len); ends = omega (arith, s .ends); waits = omega (arith, s .waits, a, b) })
+      ]
+
+-- ---- the cells of a run are those of its slots
+pub cells-slots : (c : Class) (ports start len : ℕ) (bytes : List ℕ) → (start + len) * ports ≤ length bytes
+    → sumTo len (λ t. cells c ports (runOf ports (start + t) 1 bytes)) ≡ cells c ports (runOf ports start len bytes)
+unfolding sumTo
+cells-slots c ports start zero bytes h = sym (ap (cells c ports) (run-none ports start bytes) ∙ cells-none ports c)
+cells-slots c ports start (suc len) bytes h =
+    let more : suc len ≡ len + 1 = omega arith in
+    rw more (omega (arith, cells-run ports c start len 1 bytes (omega arith), cells-slots c ports start len bytes (omega arith)))
+
+-- ---- a chain in which a flow's load is the same in every frame
+inside-parts : (lo hi start end : ℕ) → lo ≤ hi → hi ≤ end → (hi - max lo start) + (end - max hi start) ≡ end - max lo start
+inside-parts lo hi start end below above = omega arith
+
+inside-sum : (lo hi end start len : ℕ) → lo ≤ hi → hi ≤ end → inside lo hi start len + inside hi end start len ≡ inside lo end start len
+inside-sum lo hi end start len below above =
+    elim (decLe (start + len) hi) as (λ _. inside lo hi start len + inside hi end start len ≡ inside lo end start len) [
+      | yes h ↦ (
+          let ends : min hi (start + len) ≡ start + len = omega arith in
+          let late : min end (start + len) ≡ start + len = omega arith in
+          let none : (start + len) - max hi start ≡ 0 = omega arith in
+          rw (ends, late, none) (omega arith))
+      | no h ↦ (
+          let ends : min hi (start + len) ≡ hi = omega arith in
+          let low : hi ≤ min end (start + len) = omega arith in
+          rw ends (inside-parts lo hi start (min end (start + len)) below low))
+    ]
+
+share-steady : (c : Class) (ports n m : ℕ) (fs : List Carried) → Every (Shape ports n) fs → Every (λ f. load c ports (f .call .matrix) ≡ m) fs
+    → (lo start len : ℕ) → share c lo fs start len ≡ m * inside lo (lo + length fs * n) start len
+unfolding share
+share-steady c ports n m [] shape same lo start len = let e : inside lo (lo + 0 * n) start len ≡ 0 = omega arith in omega (arith, ap (λ z. m * z) e)
+share-steady c ports n m (f ∷ fs) shape same lo start len =
+    let hi = lo + n in
+    let end = lo + suc (length fs) * n in
+    let tail : hi + length fs * n ≡ end = omega arith in
+    let sum : inside lo hi start len + inside hi end start len ≡ inside lo end start len = inside-sum lo hi end start len (omega arith) (omega arith) in
+    let is : load c (f .call .ports) (f .call .matrix) ≡ m = ap (λ p. load c p (f .call .matrix)) (shape .0 .ports-are) ∙ same .0 in
+    let law : share c hi fs start len ≡ m * inside hi end start len = rw tail at (share-steady c ports n m fs (shape .1) (same .1) hi start len) in
+    rw (is, shape .0 .slots-are, law) (omega (arith, ap (λ z. m * z) sum))
+
+share-more : (c : Class) (fs : List Carried) (start len : ℕ) → share c 0 fs start (len + 1) ≡ share c 0 fs start len + share c 0 fs (start + len) 1
+share-more c fs start len =
+    let all : share c 0 fs 0 (start + (len + 1)) ≡ share c 0 fs 0 (start + len) + share c 0 fs (start + len) 1
+    = ap (λ z. share c 0 fs 0 z) (omega arith) ∙ share-split c fs 0 (start + len) 1 in
+    omega (arith, all, share-split c fs 0 start (len + 1), share-split c fs 0 start len)
+
+arrived-more : (arrive : ℕ → ℕ) (start len : ℕ) → arrived arrive start (len + 1) ≡ arrived arrive start len + arrive (start + len)
+unfolding arrived
+arrived-more arrive start len =
+    let more : len + 1 ≡ suc len = omega arith in
+    rw more (sum-more len (λ t. arrive (start + t)))
+
+-- ---- every slot of a chain of sound frames
+module _ (c : Class) (ports k : ℕ) (of : Of ports c) (fs : List Carried) (good : Every (Good ports (2 ^ k)) fs) where
+  served : (start len : ℕ) → start + len ≤ length fs * 2 ^ k
+      → arrived (scheduledOn c ports fs) start len ≡ cells c ports (runOf ports start len (wire fs))
+  unfolding arrived
+  served start len h =
+      let long = mul-le-mul-right ports h in
+      cells-slots c ports start len (wire fs) (omega (arith, wire-length fs ports (2 ^ k) good))
+
+  -- what has been scheduled since the queue was last empty, and the share of that run
+  module _ (a : ℕ) (arrive : ℕ → ℕ) (paced : Paced k a (length fs * 2 ^ k) (share c 0 fs) arrive) (t : ℕ) (s : Since arrive (scheduledOn c ports fs) t) where
+    after : t ≤ length fs * 2 ^ k → 3 * 2 ^ k * waiting arrive (scheduledOn c ports fs) t ≤ 3 * 2 ^ k * a + (2 * k + 1) * 2 ^ k
+    after h =
+        let fits : s .start + s .len ≤ length fs * 2 ^ k = omega (arith, s .ends) in
+        let near = run-accurate c ports k of fs good (s .start) (s .len) fits in
+        omega (
+          arith,
+          near .1,
+          paced (s .start) (s .len) fits,
+          mul-le-mul-left (2 ^ k) (s .waits),
+          ap (λ x. 2 ^ k * x) (served (s .start) (s .len) fits),
+        )
+
+    before : t < length fs * 2 ^ k
+        → 3 * 2 ^ k * (waiting arrive (scheduledOn c ports fs) t + arrive t) ≤ 3 * 2 ^ k * a + (2 * k + 1) * 2 ^ k + 3 * share c 0 fs t 1
+    before h =
+        let fits : s .start + s .len ≤ length fs * 2 ^ k = omega (arith, s .ends) in
+        let near = run-accurate c ports k of fs good (s .start) (s .len) fits in
+        let last : arrived arrive (s .start) (s .len + 1) ≡ arrived arrive (s .start) (s .len) + arrive t
+        = arrived-more arrive (s .start) (s .len) ∙ ap (λ z. arrived arrive (s .start) (s .len) + arrive z) (s .ends) in
+        let shares : share c 0 fs (s .start) (s .len + 1) ≡ share c 0 fs (s .start) (s .len) + share c 0 fs t 1
+        = share-more c fs (s .start) (s .len) ∙ ap (λ z. share c 0 fs (s .start) (s .len) + share c 0 fs z 1) (s .ends) in
+        omega (
+          arith,
+          near .1,
+          paced (s .start) (s .len + 1) (omega (arith, s .ends)),
+          mul-le-mul-left (2 ^ k) (s .waits),
+          ap (λ x. 2 ^ k * x) (served (s .start) (s .len) fits),
+          ap (λ x. 2 ^ k * x) last,
+          shares,
+        )
+
+  pub deep : Deep c ports k fs (share c 0 fs)
+  deep a arrive paced t h =
+      let s = since arrive (scheduledOn c ports fs) in
+      record { after = after a arrive paced (suc t) (s (suc t)) (omega arith); before = before a arrive paced t (s t) h }
+
+-- How deep a buffer to order, where the flow's load changes at seams,
+pub buffers-at-seams : BuffersAtSeams
+buffers-at-seams buffer calls ports k shape c of =
+    deep c ports k of (chain none buffer calls) (good-of ports (2 ^ k) (chain none buffer calls) (chain-sound none buffer calls tt) shape)
+
+-- and where it does not.
+pub buffers : Buffers
+buffers buffer calls ports k shape c of m same a arrive paced t h =
+    let fs = chain none buffer calls in
+    let is : (start len : ℕ) → start + len ≤ length fs * 2 ^ k → share c 0 fs start len ≡ len * m
+    = λ start len fits.
+    let e : inside 0 (0 + length fs * 2 ^ k) start len ≡ len = omega arith in
+    omega (arith, share-steady c ports (2 ^ k) m fs shape same 0 start len, ap (λ z. m * z) e) in
+    let law = buffers-at-seams buffer calls ports k shape c of a arrive (λ start len fits. omega (arith, paced start len fits, is start len fits)) t h in
+    record { after = law .after; before = omega (arith, law .before, is t 1 (omega arith)) }
