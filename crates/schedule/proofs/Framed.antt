@@ -14,8 +14,8 @@ use Rattle.model.specs.Rules.{portOf}
 use Rattle.model.specs.Refusals.{levels}
 use Rattle.model.specs.Schedule.{halfOf, slotOf, frameOf}
 use Rattle.model.proofs.Levels.{Halving, levels-one, levels-half}
-use Rattle.schedule.specs.Steps.{Wide, Tables, Half}
-use Rattle.schedule.proofs.Favoured.{half-of}
+use Rattle.split.specs.Steps.{Wide, Tables, Half}
+use Rattle.split.proofs.Favoured.{half-of}
 
 -- ---- a block of one slot
 one-slot : (ports slots l : ℕ) → slots ≡ 1 → l ≡ slots * ports → l ≡ ports

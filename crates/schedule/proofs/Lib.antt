@@ -1,12 +1,5 @@
 -- Laws of the steps, one file for each that they are about.
-pub mod Lists
-pub mod Gathered
 pub mod Tabled
-pub mod Linked
-pub mod Walked
-pub mod Settled
-pub mod Favoured
-pub mod Halved
 pub mod Written
 pub mod Framed
 pub mod Built

@@ -10,7 +10,7 @@ use lib.Seq.{take-suc, take-suc-set, take-all, getD-set-same, getD-set-other}
 use Rattle.model.specs.Rules.{Side, inputs, outputs, portOf}
 use Rattle.model.proofs.Cases.{byEq}
 use Rattle.model.proofs.Overloads.{port-low}
-use Rattle.schedule.specs.Steps.{Wide, lookup, tabled, Sides, Tables}
+use Rattle.split.specs.Steps.{Wide, lookup, tabled, Sides, Tables}
 
 -- ---- copy
 pub record Copied (matrix : List ℕ) (p : ℕ) (counts : List ℕ) : Type 0 where

@@ -1,7 +1,4 @@
 // Recursively balanced scheduling: a block's matrix is split between its halves, down to single slots.
-mod groups;
-mod halves;
-mod partners;
 mod positions;
 mod slots;
 
@@ -17,7 +14,7 @@ ghost use lib.ListN.{length, take};
 ghost use Rattle.model.specs.Refusals.{levels, answered};
 ghost use Rattle.model.specs.Build.{built, left};
 ghost use Rattle.model.specs.Schedule.{frameOf};
-ghost use Rattle.schedule.specs.Steps.{Wide, Tables};
+ghost use Rattle.split.specs.Steps.{Wide, Tables};
 ghost use Rattle.schedule.specs.Fill.{Fillable};
 
 // The length of the block in slots falls by half with each call.
@@ -38,7 +35,7 @@ fn block(
     } else {
         let mut first = [0u16; 256];
         let mut second = [0u16; 256];
-        halves::split(counts, n, ins, outs, &mut first, &mut second);
+        split::split(counts, n, ins, outs, &mut first, &mut second);
         let half = slots / 2;
         let mid = half * ports;
         block(&first, n, ports, half, ins, outs, &mut frame[..mid]);

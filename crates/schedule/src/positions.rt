@@ -1,37 +1,8 @@
-// Positions of a matrix: as bytes, with their ports in two tables, and the odd ones gathered.
+// Positions of a matrix, with their ports in two tables.
 ghost use mathlib.Core.Path.{_≡_};
-ghost use Prim.Native.Nat.{_*_, _%_, _<_, _≤_};
+ghost use Prim.Native.Nat.{_*_, _≤_};
 ghost use lib.ListN.{length, take};
-ghost use Rattle.schedule.specs.Steps.{Wide, Tables, Gathered};
-
-// A byte is an index of 256 without a test.
-pub(crate) fn index(x: u8) -> usize
-    ensures { λ r. ⌜ (r ≡ x) × (r < 256) ⌝ }
-{
-    x as usize
-}
-
-// 1 for an odd count, 0 for an even one.
-fn odd(x: u16) -> usize
-    ensures { λ r. ⌜ (r ≡ x % 2) × (r ≤ 1) ⌝ }
-{
-    (x % 2) as usize
-}
-
-// Writes every position at the end of the list, which an odd one alone moves on: no branch depends on the counts.
-pub(crate) fn gather(counts: &[u16; 256], n: usize, odds: &mut [u8; 256]) -> usize
-    requires { ⌜ (n ≤ 256) × Wide (now odds) ⌝ }
-    ensures { λ r. ⌜ Gathered (now (counts .entry)) n (now (odds .exit)) r ⌝ }
-{
-    let mut k: usize = 0;
-    let mut p: usize = 0;
-    while p < n {
-        odds[k] = p as u8;
-        k += odd(counts[p]);
-        p += 1;
-    }
-    k
-}
+ghost use Rattle.split.specs.Steps.{Wide, Tables};
 
 // The ports of the positions are divided out once, for all blocks.
 pub(crate) fn tabulate(ports: usize, n: usize, ins: &mut [u8; 256], outs: &mut [u8; 256])

@@ -1,11 +1,12 @@
 // Slots: the counts of a block of one slot, as its bytes.
-use crate::positions::gather;
-use crate::positions::index;
+use split::positions::gather;
+use split::positions::index;
 ghost use mathlib.Core.Path.{_≡_};
 ghost use Prim.Native.Nat.{_≤_};
 ghost use lib.ListN.{length, take, replicate};
 ghost use Rattle.model.specs.Schedule.{slotOf};
-ghost use Rattle.schedule.specs.Steps.{Wide, Tables, Placed, PutBy};
+ghost use Rattle.split.specs.Steps.{Wide, Tables};
+ghost use Rattle.schedule.specs.Steps.{Placed, PutBy};
 
 // Every input is idle until a cell is written.
 fn clear(slot: &mut [u8])

@@ -7,7 +7,7 @@ use Rattle.schedule.proofs.Framed.{slot-tables, frame-one, half-less, h
 use Rattle.schedule.proofs.block.Reads as block
 use Rattle.schedule.proofs.block.Kinds as block-kinds
 use Rattle.schedule.proofs.+block.Lts-block as block-lts
-use Rattle.schedule.proofs.halves.split.Reads as split-reads
+use Rattle.split.proofs.split.Reads as split-reads
 use Rattle.schedule.proofs.slots.write.Reads as write-reads
 use Rattle.schedule.proofs.+block.{statement}
 use Rattle.schedule.proofs.+block.Tie.{close}

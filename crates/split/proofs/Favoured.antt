@@ -1,0 +1,192 @@
+-- What the steps settle is what the definitions settle.
+use Prim.Native.Nat.{ℕ, suc, zero, _-_, _≤_, _<_}
+use mathlib.Core.Path.{_≡_, refl, sym, ap, ap₂, _∙_, subst, fun-ext}
+use mathlib.Core.Logic.{_≢_}
+use mathlib.Core.List.{List, _∷_}
+use mathlib.Core.Bool.{Bool, true, false}
+use native.Mathlib.Omega.{arith}
+use lib.Dec.{eqb}
+use lib.ListN.{length, getD, set, take, replicate, length-set, length-replicate}
+use lib.Seq.{length-take-le, getD-take, take-set-lt}
+use borrow.Author.Tests.{eq-eqb, ne-eqb}
+use Rattle.model.specs.Words.{both, upFrom, keep, Every}
+use Rattle.model.specs.Rules.{Side, inputs, outputs, portOf, odd, oddsAt}
+use Rattle.model.specs.Schedule.{partnerIn, partner, walk, tieHalf, settleAt, settle, favours, halfBy, halfOf}
+use Rattle.model.proofs.Cases.{byBool, byEq, byLt}
+use Rattle.model.proofs.Partners.{odd-lt, every-map, keep-every}
+use Rattle.model.proofs.Walks.{zeros, zeros-set, zeros-le, walk-on, walk-off}
+use Rattle.model.proofs.Settled.{partner-pairing}
+use Rattle.split.specs.Steps.{Wide, lookup, tabled, Sides, Tables, oddsBelow, Gathered, portIn, thoseAt, mateAmong, Linked, walked, groupSettled, allSettled, SettledBy, HalvedBy, Half}
+use Rattle.split.proofs.Lists.{every-kept, keep-same, keep-keep}
+use Rattle.split.proofs.Gathered.{odds-take}
+use Rattle.split.proofs.Walked.{walk-end, walk-length}
+use Rattle.split.proofs.Linked.{Mated, none-at}
+
+-- ---- walks
+none-zero : (c : List ℕ) (q : ℕ) → zeros c ≤ 0 → q < length c → getD c q 0 ≢ 0
+none-zero c q z h e = let a = zeros-set c q 1 h e (omega arith) in omega arith
+
+module _ (n : ℕ) (od : ℕ → Bool) (od-lt : (p : ℕ) → od p ≡ true → p < n) where
+  -- f does as the pairing g where od holds
+  abbrev Does : (ℕ → ℕ) → (ℕ → ℕ) → Type 0
+  Does f g = (p : ℕ) → od p ≡ true → (f p ≡ g p) × (od (g p) ≡ true)
+
+  -- a walk among the first n of a longer list, with fuel for all that is not settled
+  walk-take : (go back go′ back′ : ℕ → ℕ) → Does go go′ → Does back back′ → (j k p h : ℕ) (c : List ℕ) → n ≤ length c
+      → od p ≡ true → 1 ≤ h → h ≤ 2 → zeros c ≤ j → zeros (take n c) ≤ k
+      → take n (walk j go back p h c) ≡ walk k go′ back′ p h (take n c)
+  unfolding walk
+  walk-take go back go′ back′ dg db zero k p h c l o low high zj zk =
+      let q-lt = od-lt (go′ p) (dg p o .1) in
+      let z = none-zero c (go′ p) zj (omega arith) in
+      let g = getD-take n c (go′ p) 0 q-lt in
+      sym (walk-end k go′ back′ p h (go′ p) (take n c) refl (omega arith))
+  walk-take go back go′ back′ dg db (suc j) zero p h c l o low high zj zk =
+      let q-lt = od-lt (go′ p) (dg p o .1) in
+      let t = length-take-le n c l in
+      let z = none-zero (take n c) (go′ p) zk (omega arith) in
+      let g = getD-take n c (go′ p) 0 q-lt in
+      ap (take n) (walk-end (suc j) go back p h (go′ p) c (sym (dg p o .0)) (omega arith))
+  walk-take go back go′ back′ dg db (suc j) (suc k) p h c l o low high zj zk =
+      let q-lt = od-lt (go′ p) (dg p o .1) in
+      let t = length-take-le n c l in
+      let g = getD-take n c (go′ p) 0 q-lt in
+      let f = dg p o .0 in
+      byEq (getD c (go′ p) 0) 0
+      (λ e.
+      let e′ : getD c (go p) 0 ≡ 0 = rw f e in
+      let z1 = zeros-set c (go′ p) (3 - h) (omega arith) e (omega arith) in
+      let z2 = zeros-set (take n c) (go′ p) (3 - h) (omega arith) (g ∙ e) (omega arith) in
+      let s = take-set-lt n c (go′ p) (3 - h) q-lt in
+      let zk′ : zeros (take n (set c (go′ p) (3 - h))) ≤ k = rw s (omega arith) in
+      ap (take n) (walk-on j go back p h c e′ ∙ ap (λ (q : ℕ). walk j back go q (3 - h) (set c q (3 - h))) f)
+      ∙ walk-take back go back′ go′ db dg j k (go′ p) (3 - h) (set c (go′ p) (3 - h)) (rw (length-set c (go′ p) (3 - h)) l) (dg p o .1) (omega arith) (omega arith) (omega arith) zk′
+      ∙ ap (λ (d : List ℕ). walk k back′ go′ (go′ p) (3 - h) d) s
+      ∙ sym (walk-on k go′ back′ p h (take n c) (g ∙ e)))
+      (λ e.
+      let e′ : getD c (go p) 0 ≢ 0 = rw f e in
+      ap (take n) (walk-off j go back p h c e′) ∙ sym (walk-off k go′ back′ p h (take n c) (omega arith)))
+
+  walked-take : (go back : List ℕ) (go′ back′ : ℕ → ℕ) → Does (lookup go) go′ → Does (lookup back) back′
+      → (p h : ℕ) (c : List ℕ) → n ≤ length c → od p ≡ true → 1 ≤ h → h ≤ 2
+      → take n (walked go back p h c) ≡ walk n go′ back′ p h (take n c)
+  walked-take go back go′ back′ dg db p h c l o low high =
+      walk-take (lookup go) (lookup back) go′ back′ dg db (length c) n p h c l o low high (zeros-le c) (omega (arith, zeros-le (take n c), length-take-le n c l))
+
+-- ---- groups
+module _ (m i o : List ℕ) (i′ o′ : ℕ → ℕ) (di : Does (length m) (odd m) (odd-lt m) (lookup i) i′)
+    (do′ : Does (length m) (odd m) (odd-lt m) (lookup o) o′) where
+  group-take : (p : ℕ) (c : List ℕ) → length m ≤ length c → odd m p ≡ true
+      → take (length m) (groupSettled i o p c) ≡ settleAt i′ o′ m p (take (length m) c)
+  unfolding settleAt
+  group-take p c l e =
+      let p-lt = odd-lt m p e in
+      let g = getD-take (length m) c p 0 p-lt in
+      byEq (getD c p 0) 0
+      (λ z.
+      let c1 : length m ≤ length (set c p tieHalf) = rw (length-set c p tieHalf) l in
+      let c2 : length m ≤ length (walked i o p tieHalf (set c p tieHalf)) = rw (walk-length (length (set c p tieHalf)) (lookup i) (lookup o) p tieHalf (set c p tieHalf)) c1 in
+      rw (eq-eqb (getD c p 0) 0 z, e, g, eq-eqb (getD c p 0) 0 z, settleAt)
+      (walked-take (length m) (odd m) (odd-lt m) o i o′ i′ do′ di p tieHalf (walked i o p tieHalf (set c p tieHalf)) c2 e (omega arith) (omega arith)
+      ∙ ap (λ (d : List ℕ). walk (length m) o′ i′ p tieHalf d) (walked-take (length m) (odd m) (odd-lt m) i o i′ o′ di do′ p tieHalf (set c p tieHalf) c1 e (omega arith) (omega arith)
+      ∙ ap (λ (d : List ℕ). walk (length m) i′ o′ p tieHalf d) (take-set-lt (length m) c p tieHalf p-lt))))
+      (λ z. rw (ne-eqb (getD c p 0) 0 z, e, g, ne-eqb (getD c p 0) 0 z, settleAt))
+
+  group-length : (p : ℕ) (c : List ℕ) → length (groupSettled i o p c) ≡ length c
+  group-length p c =
+      byBool (eqb (getD c p 0) 0)
+      (λ e. rw e (walk-length (length (walked i o p tieHalf (set c p tieHalf))) (lookup o) (lookup i) p tieHalf (walked i o p tieHalf (set c p tieHalf))
+      ∙ walk-length (length (set c p tieHalf)) (lookup i) (lookup o) p tieHalf (set c p tieHalf) ∙ length-set c p tieHalf))
+      (λ e. rw e)
+
+  all-take : (k a : ℕ) (c : List ℕ) → length m ≤ length c
+      → take (length m) (allSettled i o (keep (odd m) (upFrom a k)) c) ≡ settle i′ o′ m (upFrom a k) (take (length m) c)
+  unfolding settleAt
+  all-take zero a c l = refl
+  all-take (suc k) a c l =
+      byBool (odd m a)
+      (λ e. rw e (all-take k (suc a) (groupSettled i o a c) (rw (group-length a c) l) ∙ ap (settle i′ o′ m (upFrom (suc a) k)) (group-take a c l e)))
+      (λ e. rw e (all-take k (suc a) c l ∙ ap (settle i′ o′ m (upFrom (suc a) k)) (sym (off a c e))))
+    where
+      off : (p : ℕ) (c : List ℕ) → odd m p ≡ false → settleAt i′ o′ m p (take (length m) c) ≡ take (length m) c
+      off p c e = rw (e, settleAt)
+
+-- ---- partners
+module _ (n : ℕ) (m : List ℕ) (len : length (take n m) ≡ n) where
+  -- the partner in the list is the partner of the definitions
+  mate-is : (table : List ℕ) → ((p : ℕ) → p < n → lookup table p < 16) → (p : ℕ) → p < n
+      → mateAmong table (oddsBelow n m) p ≡ partner (lookup table) (take n m) p
+  mate-is table low p h =
+      ap (λ (x : ℕ). partnerIn (thoseAt table x (oddsBelow n m)) p) (port-is p h)
+      ∙ ap (λ (l : List ℕ). partnerIn l p)
+      (ap (thoseAt table (lookup table p)) (odds-take n m)
+      ∙ keep-keep (odd (take n m)) (λ q. eqb (portIn table q) (lookup table p)) (upFrom 0 n)
+      ∙ keep-same (λ q. both (odd (take n m) q) (eqb (portIn table q) (lookup table p))) (λ q. both (odd (take n m) q) (eqb (lookup table q) (lookup table p))) 0 n
+      (λ q g. ap (λ (x : ℕ). both (odd (take n m) q) (eqb x (lookup table p))) (port-is q (omega arith)))
+      ∙ ap (λ (j : ℕ). keep (λ q. both (odd (take n m) q) (eqb (lookup table q) (lookup table p))) (upFrom 0 j)) (sym len))
+    where
+      port-is : (q : ℕ) → q < n → portIn table q ≡ lookup table q
+      port-is q g = let l = low q g in omega arith
+
+  does : (table mates : List ℕ) → ((p : ℕ) → p < n → lookup table p < 16) → Every (Mated table mates (oddsBelow n m)) (oddsBelow n m)
+      → Does (length (take n m)) (odd (take n m)) (odd-lt (take n m)) (lookup mates) (partner (lookup table) (take n m))
+  does table mates low al p o =
+      let p-lt : p < n = omega (arith, odd-lt (take n m) p o, len) in
+      let al′ = subst (Every (Mated table mates (oddsBelow n m))) (odds-take n m) al in (
+        every-kept (Mated table mates (oddsBelow n m)) (odd (take n m)) 0 n al′ p (omega arith) (omega arith) o ∙ mate-is table low p p-lt,
+        partner-pairing (lookup table) (take n m) .odds p o,
+      )
+
+take-zeros : (n k : ℕ) → n ≤ k → take {A = ℕ} n (replicate k 0) ≡ replicate n 0
+take-zeros zero k h = refl
+take-zeros (suc n) zero h = absurd (omega arith)
+take-zeros (suc n) (suc k) h = ap (λ (l : List ℕ). 0 ∷ l) (take-zeros n k (omega arith))
+
+-- ---- the half that each count favours
+module _ {n k : ℕ} {m ins outs odds i o c : List ℕ} (t : Sides n ins outs) (w : Wide m) (g : Gathered m n odds k)
+    (li : Linked ins odds k i) (lo : Linked outs odds k o)
+    (s : SettledBy i o odds k (replicate 256 0) c) where
+  favoured-is : take n c ≡ favours (tabled ins outs) (take n m)
+  unfolding favours
+  favoured-is =
+      let len : length (take n m) ≡ n = length-take-le n m (omega (arith, t .most)) in
+      let z : List ℕ = replicate 256 0 in
+      let i′ = partner (lookup ins) (take n m) in
+      let o′ = partner (lookup outs) (take n m) in
+      let di = does n m len ins i (t .low inputs) (subst (λ (l : List ℕ). Every (Mated ins i l) l) (g .same) (li .same)) in
+      let do′ = does n m len outs o (t .low outputs) (subst (λ (l : List ℕ). Every (Mated outs o l) l) (g .same) (lo .same)) in
+      let wz : length (take n m) ≤ length z = omega (arith, t .most, length-replicate {A = ℕ} 256 0) in
+      ap (take n) (s .same)
+      ∙ ap (λ (l : List ℕ). take n (allSettled i o l z)) (g .same ∙ odds-take n m)
+      ∙ ap (λ (j : ℕ). take j (allSettled i o (keep (odd (take n m)) (upFrom 0 j)) z)) (sym len)
+      ∙ all-take (take n m) i o i′ o′ di do′ (length (take n m)) 0 z wz
+      ∙ ap (settle i′ o′ (take n m) (upFrom 0 (length (take n m)))) (take-zeros (length (take n m)) 256 (omega (arith, t .most)))
+
+  pub half-is : {h : ℕ} {half : List ℕ} → HalvedBy h m c n half → Half h n m ins outs half
+  half-is {h} f = record { len = f .len; same = f .same ∙ ap (halfBy h (take n m)) favoured-is }
+
+-- ---- ports that are the same at each position of a matrix
+partner-same : (f g : ℕ → ℕ) (m : List ℕ) → ((p : ℕ) → p < length m → f p ≡ g p) → (p : ℕ) → partner f m p ≡ partner g m p
+partner-same f g m e p =
+    byLt p (length m)
+    (λ h. ap (λ (l : List ℕ). partnerIn l p)
+    (keep-same (λ q. both (odd m q) (eqb (f q) (f p))) (λ q. both (odd m q) (eqb (g q) (g p))) 0 (length m) (λ q k. rw (e q (omega arith), e p h))))
+    (λ h. none-at (oddsAt f m (f p)) p (below f (f p) h) ∙ sym (none-at (oddsAt g m (g p)) p (below g (g p) h)))
+  where
+    below : (f : ℕ → ℕ) (x : ℕ) → length m ≤ p → Every (λ q. q < p) (oddsAt f m x)
+    below f x h =
+        every-map (λ q. (both (odd m q) (eqb (f q) x) ≡ true) × (q < length m)) (λ q. q < p) (λ q k. let a = k .1 in omega arith) (oddsAt f m x)
+        (keep-every (λ q. both (odd m q) (eqb (f q) x)) (length m) 0 (length m) (omega arith))
+
+favours-same : (f g : Side → ℕ → ℕ) (m : List ℕ) → ((s : Side) (p : ℕ) → p < length m → f s p ≡ g s p) → favours f m ≡ favours g m
+unfolding favours
+favours-same f g m e =
+    ap₂ (λ (i o : ℕ → ℕ). settle i o m (upFrom 0 (length m)) (replicate (length m) 0))
+    (fun-ext (partner-same (f inputs) (g inputs) m (e inputs))) (fun-ext (partner-same (f outputs) (g outputs) m (e outputs)))
+
+-- the halves that the tables of a matrix give are the matrix's
+pub half-of : {h ports n : ℕ} {m ins outs half : List ℕ} → Tables ports n ins outs → Wide m → Half h n m ins outs half
+    → take n half ≡ halfOf (portOf ports) h (take n m)
+half-of {h} {ports} {n} {m} {ins} {outs} t w f =
+    let len : length (take n m) ≡ n = length-take-le n m (omega (arith, t .most)) in
+    f .same ∙ ap (halfBy h (take n m)) (favours-same (tabled ins outs) (portOf ports) (take n m) (λ s p l. t .has s p (omega arith)))

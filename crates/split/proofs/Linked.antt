@@ -1,0 +1,244 @@
+-- One more position linked: at its port it is the partner of the one that waits there, or waits itself.
+use Prim.Native.Nat.{ℕ, suc, zero, _+_, _%_, _≤_, _<_}
+use mathlib.Core.Path.{_≡_, refl, sym, ap, _∙_}
+use mathlib.Core.Logic.{_≢_}
+use mathlib.Core.List.{List, [], _∷_, _++_, append-nil}
+use mathlib.Core.Bool.{Bool, true, false, not}
+use native.Mathlib.Omega.{arith}
+use native.Mathlib.Numerals.{add-one}
+use native.Mathlib.Nat.{mod-lt}
+use lib.Dec.{eqb}
+use lib.ListN.{length, getD, set, take, length-set}
+use lib.Seq.{take-suc, getD-set-same, getD-set-other}
+use borrow.Author.Tests.{eqb-true, eq-eqb, ne-eqb}
+use Rattle.model.specs.Words.{if, keep, Every}
+use Rattle.model.specs.Schedule.{partnerIn}
+use Rattle.model.proofs.Cases.{byBool, byEq}
+use Rattle.model.proofs.Partners.{Rising, in-first, in-second, in-rest, rising-weaken, every-map}
+use Rattle.split.specs.Steps.{Wide, lookup, portIn, thoseAt, mateAmong, Linked}
+use Rattle.split.proofs.Lists.{keep-snoc, every-snoc, every-two}
+
+-- ---- rising lists
+rising-snoc : (k : ℕ) (l : List ℕ) (p : ℕ) → Rising k (l ++ (p ∷ [])) → (Rising k l) × (Every (λ r. r < p) l) × (k ≤ p)
+rising-snoc k [] p a = (tt, tt, a .0)
+rising-snoc k (x ∷ l) p a = let r = rising-snoc (suc x) l p (a .1) in ((a .0, r .0), (omega arith, r .1), omega arith)
+
+rising-take : (a j k : ℕ) (l : List ℕ) → j ≤ k → Rising a (take k l) → Rising a (take j l)
+rising-take a zero k l h s = tt
+rising-take a (suc j) zero l h s = absurd (omega arith)
+rising-take a (suc j) (suc k) [] h s = tt
+rising-take a (suc j) (suc k) (x ∷ l) h s = (s .0, rising-take (suc x) j k l (omega arith) (s .1))
+
+rising-keep : (t : ℕ → Bool) (k : ℕ) (l : List ℕ) → Rising k l → Rising k (keep t l)
+rising-keep t k [] a = tt
+rising-keep t k (x ∷ l) a =
+    let r = rising-keep t (suc x) l (a .1) in
+    byBool (t x) (λ e. rw e (a .0, r)) (λ e. rw e (rising-weaken k (suc x) (keep t l) (omega arith) r))
+
+every-keep : (P : ℕ → Type 0) (t : ℕ → Bool) (l : List ℕ) → Every P l → Every (λ r. P r × (t r ≡ true)) (keep t l)
+every-keep P t [] a = tt
+every-keep P t (x ∷ l) a = let r = every-keep P t l (a .1) in byBool (t x) (λ e. rw e ((a .0, e), r)) (λ e. rw e r)
+
+-- ---- the one that is left single
+abbrev pub single : List ℕ → List ℕ
+single [] = []
+single (a ∷ []) = a ∷ []
+single (a ∷ b ∷ l) = single l
+
+no-cons : (a : ℕ) (l : List ℕ) → a ∷ l ≡ [] → ⊥
+no-cons a l e = let z : _≡_ {A = ℕ} 0 1 = cc in omega arith
+
+-- one that is above all has no partner
+pub none-at : (l : List ℕ) (p : ℕ) → Every (λ r. r < p) l → partnerIn l p ≡ p
+none-at [] p a = refl
+none-at (b ∷ []) p a = refl
+none-at (b ∷ d ∷ l) p a = in-rest b d l p (let x = a .0 in omega arith) (let x = a .1 .0 in omega arith) ∙ none-at l p (a .1 .1)
+
+-- none is single: p comes to be
+even-in : (l : List ℕ) (p q : ℕ) → single l ≡ [] → partnerIn (l ++ (p ∷ [])) q ≡ partnerIn l q
+even-in [] p q e = refl
+even-in (a ∷ []) p q e = absurd (no-cons a [] e)
+even-in (a ∷ b ∷ l) p q e = ap (λ (x : ℕ). if (eqb q a) b (if (eqb q b) a x)) (even-in l p q e)
+
+even-single : (l : List ℕ) (p : ℕ) → single l ≡ [] → single (l ++ (p ∷ [])) ≡ p ∷ []
+even-single [] p e = refl
+even-single (a ∷ []) p e = absurd (no-cons a [] e)
+even-single (a ∷ b ∷ l) p e = even-single l p e
+
+-- h is single: it comes to be the partner of p
+module _ (p h : ℕ) where
+  odd-single : (l : List ℕ) → single l ≡ h ∷ [] → single (l ++ (p ∷ [])) ≡ []
+  odd-single [] e = absurd (no-cons h [] (sym e))
+  odd-single (a ∷ []) e = refl
+  odd-single (a ∷ b ∷ l) e = odd-single l e
+
+  single-every : (P : ℕ → Type 0) (l : List ℕ) → single l ≡ h ∷ [] → Every P l → P h
+  single-every P [] e al = absurd (no-cons h [] (sym e))
+  single-every P (a ∷ []) e al = let f : a ≡ h = cc in rw f at (al .0)
+  single-every P (a ∷ b ∷ l) e al = single-every P l e (al .1 .1)
+
+  single-low : (k : ℕ) (l : List ℕ) → single l ≡ h ∷ [] → Rising k l → k ≤ h
+  single-low k [] e s = absurd (no-cons h [] (sym e))
+  single-low k (a ∷ []) e s = let f : a ≡ h = cc in omega arith
+  single-low k (a ∷ b ∷ l) e s = let r = single-low (suc b) l e (s .1 .1) in omega arith
+
+  odd-in : (l : List ℕ) (q : ℕ) → single l ≡ h ∷ [] → q ≢ h → q ≢ p → partnerIn (l ++ (p ∷ [])) q ≡ partnerIn l q
+  odd-in [] q e n m = absurd (no-cons h [] (sym e))
+  odd-in (a ∷ []) q e n m = let f : a ≡ h = cc in in-rest a p [] q (λ g. n (g ∙ f)) m
+  odd-in (a ∷ b ∷ l) q e n m = ap (λ (x : ℕ). if (eqb q a) b (if (eqb q b) a x)) (odd-in l q e n m)
+
+  odd-held : (k : ℕ) (l : List ℕ) → single l ≡ h ∷ [] → Rising k l → partnerIn (l ++ (p ∷ [])) h ≡ p
+  odd-held k [] e s = absurd (no-cons h [] (sym e))
+  odd-held k (a ∷ []) e s = let f : a ≡ h = cc in in-first a p [] h (sym f)
+  odd-held k (a ∷ b ∷ l) e s =
+      let r = single-low (suc b) l e (s .1 .1) in
+      in-rest a b (l ++ (p ∷ [])) h (omega arith) (omega arith) ∙ odd-held (suc b) l e (s .1 .1)
+
+  odd-new : (l : List ℕ) → single l ≡ h ∷ [] → Every (λ r. r < p) l → partnerIn (l ++ (p ∷ [])) p ≡ h
+  odd-new [] e al = absurd (no-cons h [] (sym e))
+  odd-new (a ∷ []) e al = let f : a ≡ h = cc in let x = al .0 in in-second a p [] p (omega arith) refl ∙ f
+  odd-new (a ∷ b ∷ l) e al =
+      let x = al .0 in
+      let y = al .1 .0 in
+      in-rest a b (l ++ (p ∷ [])) p (omega arith) (omega arith) ∙ odd-new l e (al .1 .1)
+
+-- ---- one more position
+abbrev pub Mated : List ℕ → List ℕ → List ℕ → ℕ → Type 0
+Mated table mates l r = lookup mates r ≡ mateAmong table l r
+
+module _ (table l : List ℕ) (p : ℕ) where
+  same-port : thoseAt table (portIn table p) (l ++ (p ∷ [])) ≡ thoseAt table (portIn table p) l ++ (p ∷ [])
+  same-port =
+      keep-snoc (λ r. eqb (portIn table r) (portIn table p)) l p
+      ∙ ap (λ (b : Bool). thoseAt table (portIn table p) l ++ if b (p ∷ []) []) (eq-eqb (portIn table p) (portIn table p) refl)
+
+  other-port : (y : ℕ) → portIn table p ≢ y → thoseAt table y (l ++ (p ∷ [])) ≡ thoseAt table y l
+  other-port y n =
+      keep-snoc (λ r. eqb (portIn table r) y) l p
+      ∙ ap (λ (b : Bool). thoseAt table y l ++ if b (p ∷ []) []) (ne-eqb (portIn table p) y n)
+      ∙ append-nil (thoseAt table y l)
+
+  mate-same : (r : ℕ) → portIn table p ≡ portIn table r
+      → mateAmong table (l ++ (p ∷ [])) r ≡ partnerIn (thoseAt table (portIn table p) l ++ (p ∷ [])) r
+  mate-same r e = ap (λ (y : ℕ). partnerIn (thoseAt table y (l ++ (p ∷ []))) r) (sym e) ∙ ap (λ (k : List ℕ). partnerIn k r) same-port
+
+  -- the partner of r stays, where p leaves it among those of the port of p
+  mate-stays : (r : ℕ)
+      → partnerIn (thoseAt table (portIn table p) l ++ (p ∷ [])) r ≡ partnerIn (thoseAt table (portIn table p) l) r
+      → mateAmong table l r ≡ mateAmong table (l ++ (p ∷ [])) r
+  mate-stays r e =
+      byEq (portIn table p) (portIn table r)
+      (λ f. ap (λ (y : ℕ). partnerIn (thoseAt table y l) r) (sym f) ∙ sym (mate-same r f ∙ e))
+      (λ n. sym (ap (λ (k : List ℕ). partnerIn k r) (other-port (portIn table r) n)))
+
+  module _ (mates : List ℕ) (rising : Rising 0 l) (below : Every (λ r. r < p) l) (p-lt : p < length mates)
+      (mated : Every (Mated table mates l) l) where
+    abbrev here : List ℕ
+    here = thoseAt table (portIn table p) l
+
+    abbrev Here : ℕ → Type 0
+    Here r = (r < p) × (eqb (portIn table r) (portIn table p) ≡ true)
+
+    here-every : Every Here here
+    here-every = every-keep (λ r. r < p) (λ r. eqb (portIn table r) (portIn table p)) l below
+
+    here-below : Every (λ r. r < p) here
+    here-below = every-map Here (λ r. r < p) (λ r a. a .0) here here-every
+
+    -- the mates of those before p, and that of p
+    linked : (new : List ℕ) → ((r : ℕ) → r < p → Mated table mates l r → Mated table new (l ++ (p ∷ [])) r)
+        → Mated table new (l ++ (p ∷ [])) p
+        → Every (Mated table new (l ++ (p ∷ []))) (l ++ (p ∷ []))
+    linked new old own =
+        every-snoc (Mated table new (l ++ (p ∷ []))) l p (every-two (λ r. r < p) (Mated table mates l) (Mated table new (l ++ (p ∷ []))) old l below mated) own
+
+    even-mated : single here ≡ [] → Every (Mated table (set (set mates p p) p p) (l ++ (p ∷ []))) (l ++ (p ∷ []))
+    even-mated e =
+        linked (set (set mates p p) p p)
+        (λ r h m. getD-set-other (set mates p p) p r p 0 (omega arith) ∙ getD-set-other mates p r p 0 (omega arith) ∙ m ∙ mate-stays r (even-in here p r e))
+        (getD-set-same (set mates p p) p p 0 (rw (length-set mates p p) p-lt) ∙ sym (mate-same p refl ∙ even-in here p p e ∙ none-at here p here-below))
+
+    odd-mated : (h : ℕ) → single here ≡ h ∷ [] → Every (Mated table (set (set mates p h) h p) (l ++ (p ∷ []))) (l ++ (p ∷ []))
+    odd-mated h e =
+        linked (set (set mates p h) h p)
+        (λ r g m. byEq r h (λ f. rw f held)
+        (λ n. getD-set-other (set mates p h) h r p 0 n ∙ getD-set-other mates p r h 0 (omega arith) ∙ m ∙ mate-stays r (odd-in p h here r e n (omega arith))))
+        (getD-set-other (set mates p h) h p p 0 (omega (arith, h-is .0)) ∙ getD-set-same mates p h 0 p-lt ∙ sym (mate-same p refl ∙ odd-new p h here e here-below))
+      where
+        h-is : Here h
+        h-is = single-every p h Here here e here-every
+
+        held : Mated table (set (set mates p h) h p) (l ++ (p ∷ [])) h
+        held =
+            getD-set-same (set mates p h) h p 0 (rw (length-set mates p h) (omega (arith, h-is .0)))
+            ∙ sym (mate-same h (sym (eqb-true (portIn table h) (portIn table p) (h-is .1)))
+            ∙ odd-held p h 0 here e (rising-keep (λ r. eqb (portIn table r) (portIn table p)) 0 l rising))
+
+-- ---- the state of the loop
+-- h waits among l, or none does
+abbrev pub Waits : Bool → ℕ → List ℕ → Type 0
+Waits true h l = single l ≡ h ∷ []
+Waits false h l = single l ≡ []
+
+pub record Links (table odds : List ℕ) (i : ℕ) (mates held : List ℕ) (waits : List Bool) : Type 0 where
+  pub len : Wide mates
+  pub helds : length held ≡ 16
+  pub flags : length waits ≡ 16
+  pub mated : Every (Mated table mates (take i odds)) (take i odds)
+  pub ports : (x : ℕ) → x < 16 → Waits (getD waits x false) (getD held x 0) (thoseAt table x (take i odds))
+
+waits-next : (b : Bool) (h : ℕ) (l : List ℕ) (p : ℕ) → Waits b h l → Waits (not b) p (l ++ (p ∷ []))
+waits-next true h l p o = odd-single p h l o
+waits-next false h l p o = even-single l p o
+
+mated-next : (table l : List ℕ) (p : ℕ) (mates : List ℕ) → Rising 0 (l ++ (p ∷ [])) → p < length mates → Every (Mated table mates l) l
+    → (b : Bool) (h q : ℕ) → Waits b h (thoseAt table (portIn table p) l) → q ≡ if b h p
+    → Every (Mated table (set (set mates p q) q p) (l ++ (p ∷ []))) (l ++ (p ∷ []))
+mated-next table l p mates up p-lt mated true h q o e = let s = rising-snoc 0 l p up in rw e (odd-mated table l p mates (s .0) (s .1) p-lt mated h o)
+mated-next table l p mates up p-lt mated false h q o e = let s = rising-snoc 0 l p up in rw e (even-mated table l p mates (s .0) (s .1) p-lt mated o)
+
+module _ (table l : List ℕ) (p : ℕ) (held : List ℕ) (waits : List Bool) (hl : length held ≡ 16) (wl : length waits ≡ 16)
+    (ports : (x : ℕ) → x < 16 → Waits (getD waits x false) (getD held x 0) (thoseAt table x l)) where
+  ports-next : (x : ℕ) → x < 16
+      → Waits (getD (set waits (portIn table p) (not (getD waits (portIn table p) false))) x false) (getD (set held (portIn table p) p) x 0) (thoseAt table x (l ++ (p ∷ [])))
+  ports-next x h =
+      let at = portIn table p in
+      let was = getD waits (portIn table p) false in
+      byEq x (portIn table p)
+      (λ e.
+      let lt : portIn table p < 16 = mod-lt (lookup table p) {m = 16} (omega arith) in
+      rw (e, getD-set-same waits (portIn table p) (not was) false (omega arith), getD-set-same held (portIn table p) p 0 (omega arith), same-port table l p)
+      (waits-next was (getD held (portIn table p) 0) (thoseAt table (portIn table p) l) p (ports (portIn table p) lt)))
+      (λ n.
+      let n′ : portIn table p ≢ x = λ e. n (sym e) in
+      rw (getD-set-other waits (portIn table p) x (not was) false n, getD-set-other held (portIn table p) x p 0 n, other-port table l p x n′) (ports x h))
+
+pub links-start : (table odds mates : List ℕ) → Wide mates → (held : List ℕ) (waits : List Bool) → length held ≡ 16
+    → length waits ≡ 16 → ((x : ℕ) → x < 16 → getD waits x false ≡ false)
+    → Links table odds 0 mates held waits
+links-start table odds mates l held waits a b z = record { len = l; helds = a; flags = b; mated = tt; ports = λ x h. rw (z x h) refl }
+
+pub links-on : {table odds : List ℕ} {i : ℕ} {mates held : List ℕ} {waits : List Bool} {p a x q t k : ℕ}
+    → Links table odds i mates held waits → i < k → k ≤ 256 → Wide odds → Rising 0 (take k odds)
+    → p ≡ getD odds i 0 → a ≡ p → a < 256 → x ≡ getD table a 0 % 16 → q ≡ if (getD waits x false) (getD held x 0) p → t ≡ q
+    → Links table odds (i + 1) (set (set mates a q) t p) (set held x p) (set waits x (not (getD waits x false)))
+links-on {table} {odds} {i} {mates} {held} {waits} {p} {a} {x} {q} {t} {k} s h k-le w up e f a-lt y u v =
+    let g : i < length odds = omega arith in
+    let x′ : x ≡ portIn table p = y ∙ ap (portIn table) f in
+    let l′ : take (i + 1) odds ≡ take i odds ++ (p ∷ []) = rw (add-one, e) (take-suc odds i 0 g) in
+    let u′ : q ≡ if (getD waits (portIn table p) false) (getD held (portIn table p) 0) p = rw x′ at u in
+    let lt : portIn table p < 16 = mod-lt (lookup table p) {m = 16} (omega arith) in
+    let p-lt : p < length mates = omega (arith, s .len) in
+    let up′ = rw l′ at (rising-take 0 (i + 1) k odds (omega arith) up) in
+    record {
+      len = length-set (set mates a q) t p ∙ length-set mates a q ∙ s .len;
+      helds = length-set held x p ∙ s .helds;
+      flags = length-set waits x (not (getD waits x false)) ∙ s .flags;
+      mated = rw (l′, v, f)
+          (mated-next table (take i odds) p mates up′ p-lt (s .mated) (getD waits (portIn table p) false) (getD held (portIn table p) 0) q (s .ports (portIn table p) lt) u′);
+      ports = rw (l′, x′) (ports-next table (take i odds) p held waits (s .helds) (s .flags) (s .ports));
+    }
+
+pub links-end : {table odds : List ℕ} {i k : ℕ} {mates held : List ℕ} {waits : List Bool}
+    → Links table odds i mates held waits → i ≤ k → k ≤ i → Linked table odds k mates
+links-end {table} {odds} {i} {k} {mates} {held} {waits} s a b = let e : k ≡ i = omega arith in record { len = s .len; same = rw e (s .mated) }

@@ -1,0 +1,39 @@
+use Prim.Native.Nat.{_≤_, _-_}
+use mathlib.Core.Path.{refl}
+use mathlib.Core.Bool.{false}
+use borrow.Author.Needs.{needs}
+use native.Mathlib.Omega.{arith}
+use lib.ListN.{getD-replicate}
+use Rattle.split.proofs.Linked.{Links, links-start, links-on, links-end}
+use Rattle.split.proofs.partners.link.Statement.{statement}
+use Rattle.split.proofs.partners.link.Tie as tie
+
+abbrev Inv-loop : tie.InvT-loop
+Inv-loop odds k table mates₀ held₀ waits₀ i₀ mates held waits i = (i ≤ k) × Links table odds i mates held waits
+
+abbrev μ-loop : tie.MeasureT-loop
+μ-loop odds k table mates₀ held₀ waits₀ i₀ mates held waits i = k - i
+
+pub link-spec : {M : Type 1} → statement M
+link-spec =
+    tie.close
+    (tie.spec
+    Inv-loop
+    μ-loop
+    (λ c. (omega arith, links-start _ _ _ (c .pre .2) _ _ refl refl (λ x h. getD-replicate 16 x false false h)))
+    (λ c. search needs)
+    (λ c κs. search needs)
+    (λ c. search needs)
+    (λ c κs. search needs)
+    (λ c. search needs)
+    (λ c. search needs)
+    (λ c κs. search needs)
+    (λ c κs. search needs)
+    (λ c. search needs)
+    (λ c. search needs)
+    (λ c. search needs)
+    (λ c. search needs)
+    (λ c. search needs)
+    (λ c. search needs)
+    (λ c. (omega arith, search (needs, links-on)))
+    (λ c. search (needs, links-end)))

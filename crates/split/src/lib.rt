@@ -1,0 +1,35 @@
+// The split: a block's matrix is shared between its two halves.
+mod groups;
+mod halves;
+mod partners;
+pub mod positions;
+
+use groups::settle;
+use halves::halve;
+use partners::link;
+use positions::gather;
+ghost use Rattle.split.specs.Steps.{Wide, Sides, Half};
+
+// The split knows of ports by the tables alone.
+pub fn split(
+    counts: &[u16; 256],
+    n: usize,
+    ins: &[u8; 256],
+    outs: &[u8; 256],
+    first: &mut [u16; 256],
+    second: &mut [u16; 256],
+)
+    requires { ⌜ Sides n (now ins) (now outs) × Wide (now counts) × Wide (now first) × Wide (now second) ⌝ }
+    ensures { λ _. ⌜ Half 1 n (now (counts .entry)) (now (ins .entry)) (now (outs .entry)) (now (first .exit))
+        × Half 2 n (now (counts .entry)) (now (ins .entry)) (now (outs .entry)) (now (second .exit)) ⌝ }
+{
+    let mut odds = [0u8; 256];
+    let mut in_mates = [0u8; 256];
+    let mut out_mates = [0u8; 256];
+    let mut favoured = [0u8; 256];
+    let k = gather(counts, n, &mut odds);
+    link(&odds, k, ins, &mut in_mates);
+    link(&odds, k, outs, &mut out_mates);
+    settle(&odds, k, &in_mates, &out_mates, &mut favoured);
+    halve(counts, n, &favoured, first, second);
+}
