@@ -12,12 +12,13 @@ use lib.Dec.{ltb}
 use lib.ListN.{length, getD}
 use borrow.Author.Tests.{le-ltb, ltb-true, ltb-false, eq-eqb, ne-eqb, eqb-true, not-false}
 use Rattle.model.specs.Words.{first, Every}
-use Rattle.model.specs.Loads.{pair, output, load}
+use Rattle.model.specs.Loads.{Class, pair, output, Of, load}
 use Rattle.model.specs.Frames.{cells, runOf, Legal, Balanced}
 use Rattle.model.specs.Refusals.{Check, report, levels}
 use Rattle.model.specs.Inspect.{tooLarge, twiceIn, usedTwice, wrongCount, unbalanced, unbalancedNumber, firstAt, unbalancedAt, byteTooLarge, outputTwice, pairCount, unbalancedBlock, inspected}
 use Rattle.model.specs.Build.{buildAccepts, left}
-use Rattle.model.specs.Wire.{Carried, Shape, Accurate}
+use Rattle.model.specs.Wire.{Carried, share, Shape, Accurate}
+use Rattle.model.specs.Queue.{Deep}
 use Rattle.model.proofs.Cases.{byBool, byLt, within-yes}
 use Rattle.model.proofs.Searches.{first-found, first-before, first-none}
 use Rattle.model.proofs.Levels.{levels-power, depth-size, depth-half}
@@ -25,6 +26,7 @@ use Rattle.model.proofs.Blocks.{number-block, block-numbered}
 use Rattle.model.proofs.Inspected.{near-yes, position-of, unbalanced-no, balanced-near}
 use Rattle.model.proofs.Demand2.{WellFormed, accepts-is, build-sound}
 use Rattle.model.proofs.Demand3.{Sound, sound-accurate}
+use Rattle.model.proofs.Queues.{sound-deep}
 
 -- ---- a search that finds nothing, and one that finds a place
 abbrev pub None : (ℕ → Bool) → ℕ → Type 0
@@ -300,11 +302,16 @@ pub record Inspected (f : Carried) : Type 0 where
   pub size : length (f .bytes) ≡ f .call .slots * f .call .ports
   pub clean : inspected (f .call .ports) (f .call .slots) (f .call .matrix) (f .bytes) ≡ 0 ∷ []
 
--- Frames that Inspect calls clean, whoever made them, are accurate end to end, as demand 3 says.
+all-sound : (fs : List Carried) → Every Inspected fs → Every Sound fs
+all-sound [] h = tt
+all-sound (f ∷ fs) h =
+    (clean-sound (f .call .ports) (f .call .slots) (f .call .matrix) (f .bytes) (h .0 .well) (h .0 .size) (h .0 .clean), all-sound fs (h .1))
+
+-- Frames that Inspect calls clean, whoever made them, are accurate end to end, as demand 3 says,
 pub clean-accurate : (ports k : ℕ) (frames : List Carried) → Every Inspected frames → Every (Shape ports (2 ^ k)) frames → Accurate ports k frames
 clean-accurate ports k frames clean shape = sound-accurate ports k frames (all-sound frames clean) shape
-  where
-    all-sound : (fs : List Carried) → Every Inspected fs → Every Sound fs
-    all-sound [] h = tt
-    all-sound (f ∷ fs) h =
-        (clean-sound (f .call .ports) (f .call .slots) (f .call .matrix) (f .bytes) (h .0 .well) (h .0 .size) (h .0 .clean), all-sound fs (h .1))
+
+-- and hold a flow that keeps to its share.
+pub clean-deep : (ports k : ℕ) (frames : List Carried) → Every Inspected frames → Every (Shape ports (2 ^ k)) frames → (c : Class) → Of ports c
+    → Deep c ports k frames (share c 0 frames)
+clean-deep ports k frames clean shape c of = sound-deep ports k frames (all-sound frames clean) shape c of
