@@ -32,7 +32,7 @@ fn load(port: usize, cells: usize) {
 
 // A refusal's number and what it carries; the refusals of a sheet are not among these calls' answers.
 fn refusal(refusal: Refusal) {
-    number(service::number_of(refusal));
+    number(view::number_of(refusal));
     if let Refusal::InputLoad { port, cells } = refusal {
         load(port, cells);
     }
@@ -75,7 +75,7 @@ pub fn view(ports: usize, slots: usize, frame: &[u8], slot: usize) {
     named(b"slot", slot);
     io::write_all(1, b":");
     let mut refused: usize = 99;
-    let part = service::slot_view(ports, slots, frame, slot, &mut refused);
+    let part = view::slot_view(ports, slots, frame, slot, &mut refused);
     number(refused);
     bytes(part);
     io::write_all(1, b"\n");

@@ -220,12 +220,12 @@ pub extern "C" fn frame_builder_slot_view(
     ensures { λ _. ⌜ now (start .exit) ≡ viewStart ports slots (now (frame .entry)) slot ⌝ }
     ensures { λ _. ⌜ now (size .exit) ≡ viewSize ports slots (now (frame .entry)) slot ⌝ }
 {
-    let answer = service::check_frame(ports, slots, frame, slot);
+    let answer = view::check_frame(ports, slots, frame, slot);
     match answer {
         Answer::Refused(refusal) => {
             *start = 0;
             *size = 0;
-            service::number_of(refusal)
+            view::number_of(refusal)
         }
         Answer::Accepted => {
             *start = (slot - 1) * ports;

@@ -11,7 +11,9 @@ use lib.ListN.{getD}
 use lib.Pow.{pow-pos}
 use borrow.Author.Tests.{eqb-false, not-false}
 use Rattle.model.specs.Words.{within, Every}
-use Rattle.model.specs.Refusals.{Check, report, clear, accepted, levels}
+use Rattle.model.specs.Refusals.{Check, report, clear, accepted, refusal, levels}
+use Rattle.model.specs.declared.Refusal.{Refusal}
+use Rattle.model.specs.declared.Refusal.the-variants.{Ports, Slots, MatrixLength, FrameLength, InputLoad, OutputLoad, LineForm, LinePort, LinePair, SheetLength, SlotNumber, PortNumber, RunLength}
 use Rattle.model.proofs.Cases.{byBool, within-true}
 use Rattle.model.proofs.Levels.{levels-most, levels-power}
 
@@ -33,6 +35,22 @@ pub report-refused : (cs : List Check) (asked other : List ℕ) → clear cs ≡
 report-refused [] asked other = λ e. absurd (true≢false e)
 report-refused (c ∷ cs) asked other =
     byBool (c .0) (λ b. rw b (λ e. refl)) (λ b. rw b (λ e. report-refused cs asked other e))
+
+-- a refusal's number is not 0
+pub refusal-number : (x : Refusal) → getD (refusal x) 0 0 ≢ 0
+refusal-number Ports = omega arith
+refusal-number Slots = omega arith
+refusal-number MatrixLength = omega arith
+refusal-number FrameLength = omega arith
+refusal-number (InputLoad port cells) = omega arith
+refusal-number (OutputLoad port cells) = omega arith
+refusal-number (LineForm line) = omega arith
+refusal-number (LinePort line) = omega arith
+refusal-number (LinePair line) = omega arith
+refusal-number SheetLength = omega arith
+refusal-number SlotNumber = omega arith
+refusal-number PortNumber = omega arith
+refusal-number RunLength = omega arith
 
 -- a check whose answer is a refusal's: its number is not 0
 abbrev pub Refuses : Check → Type 0

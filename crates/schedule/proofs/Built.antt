@@ -13,29 +13,12 @@ use Rattle.model.specs.Refusals.{refusal, accepted, answered, levels}
 use Rattle.model.specs.Build.{buildChecks, built, left}
 use Rattle.model.specs.Schedule.{frameOf}
 use Rattle.model.specs.declared.Refusal.{Refusal}
-use Rattle.model.specs.declared.Refusal.the-variants.{Ports, Slots, MatrixLength, FrameLength, InputLoad, OutputLoad, LineForm, LinePort, LinePair, SheetLength, SlotNumber, PortNumber, RunLength}
 use Rattle.model.specs.declared.Answer.{Answer}
 use Rattle.model.specs.declared.Answer.the-variants.{Accepted, Refused}
 use Rattle.model.proofs.Levels.{levels-most}
-use Rattle.model.proofs.Reports.{Refuses, clear-none, clear-some, within-known, slots-known}
+use Rattle.model.proofs.Reports.{Refuses, clear-none, clear-some, within-known, slots-known, refusal-number}
 use Rattle.admission.specs.Overloads.{Size, overloads}
 use Rattle.schedule.specs.Fill.{Fillable}
-
--- a refusal's number is not 0
-refusal-number : (x : Refusal) → getD (refusal x) 0 0 ≢ 0
-refusal-number Ports = omega arith
-refusal-number Slots = omega arith
-refusal-number MatrixLength = omega arith
-refusal-number FrameLength = omega arith
-refusal-number (InputLoad port cells) = omega arith
-refusal-number (OutputLoad port cells) = omega arith
-refusal-number (LineForm line) = omega arith
-refusal-number (LinePort line) = omega arith
-refusal-number (LinePair line) = omega arith
-refusal-number SheetLength = omega arith
-refusal-number SlotNumber = omega arith
-refusal-number PortNumber = omega arith
-refusal-number RunLength = omega arith
 
 -- what each test lets pass
 pub ports-most : (ports most : ℕ) {r : Bool} → r ≡ not (within 1 16 ports) → r ≡ false → 16 ≤ most → ports ≤ most

@@ -1,4 +1,4 @@
--- What the functions of Slot view and Service count rest on.
+-- What the functions of Service count rest on.
 pub mod Checks
 pub mod Whom
 pub mod Counting

@@ -9,7 +9,7 @@ use Rattle.model.specs.Loads.{Class}
 use Rattle.model.specs.Frames.{cells, runOf}
 use Rattle.model.specs.Service.{repeated}
 use Rattle.model.proofs.Runs.{cells-most, run-most, cells-turns}
-use Rattle.service.specs.Asked.{Framed}
+use Rattle.view.specs.Asked.{Framed}
 
 -- the bytes of a run inside a frame
 pub part-run : (ports start len : ℕ) (bytes : List ℕ) → take (start * ports + len * ports - start * ports) (drop (start * ports) bytes) ≡ runOf ports start len bytes

@@ -11,7 +11,7 @@ use Rattle.model.specs.Service.{classOf, portsWithin}
 use Rattle.model.specs.declared.Who.{Who}
 use Rattle.model.specs.declared.Who.the-variants.{Pair, Input, Output}
 use Rattle.model.proofs.Cases.{both-true, within-true}
-use Rattle.service.specs.Asked.{Numbered}
+use Rattle.service.specs.Whom.{Numbered}
 
 -- ---- refusal 12
 module _ (ports : ℕ) {i o : ℕ} (who : Who) (is : who ≡ Pair i o) {a : Bool} (p : a ≡ not (within 1 ports i)) where

@@ -1,2 +1,2 @@
--- What the inner functions of Slot view and Service count promise.
-pub mod Asked
+-- What the inner functions of Service count promise.
+pub mod Whom

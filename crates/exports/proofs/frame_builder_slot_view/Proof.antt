@@ -1,5 +1,5 @@
 use mathlib.Core.Path.{_∙_}
-use Rattle.service.proofs.Checks.{Open, accepted-open, refused-shut, slot-inside, view-start, view-size, view-accepted, no-start, no-size, view-refused}
+use Rattle.view.proofs.Checks.{Open, accepted-open, refused-shut, slot-inside, view-start, view-size, view-accepted, no-start, no-size, view-refused}
 use native.Mathlib.Omega.{arith}
 use borrow.Author.Needs.{needs}
 use Rattle.exports.proofs.frame_builder_slot_view.Statement.{statement}

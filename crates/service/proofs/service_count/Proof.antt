@@ -1,5 +1,6 @@
 use borrow.Author.Needs.{needs}
-use Rattle.service.proofs.Checks.{Open, accepted-open, refused-shut, frame-refused, who-refused, length-refused, run-counted, start-known, length-known}
+use Rattle.view.proofs.Checks.{Open, accepted-open, refused-shut}
+use Rattle.service.proofs.Checks.{frame-refused, who-refused, length-refused, run-counted, start-known, length-known}
 use Rattle.service.proofs.Whom.{who-numbered}
 use Rattle.service.proofs.service_count.Statement.{statement}
 use Rattle.service.proofs.service_count.Tie as tie

@@ -6,8 +6,6 @@ use lib.ListN.{length, getD}
 use Rattle.model.specs.Refusals.{report, accepted, refusal}
 use Rattle.model.specs.Service.{viewChecks}
 use Rattle.model.specs.declared.Refusal.{Refusal}
-use Rattle.model.specs.declared.Who.{Who}
-use Rattle.model.specs.declared.Who.the-variants.{Pair, Input, Output}
 
 -- The answer of Slot view's checks, which are also the first four of Service count.
 unfoldable pub checked : ℕ → ℕ → List ℕ → ℕ → List ℕ
@@ -16,12 +14,6 @@ checked ports slots bytes slot = report (viewChecks ports slots bytes slot) acce
 -- A refusal's number.
 abbrev pub number : Refusal → ℕ
 number r = getD (refusal r) 0 0
-
--- The ports of whom a count is for are numbered from 1.
-abbrev pub Numbered : Who → Type 0
-Numbered (Pair i o) = (1 ≤ i) × (1 ≤ o)
-Numbered (Input i) = 1 ≤ i
-Numbered (Output o) = 1 ≤ o
 
 -- A frame of so many slots, as it stands where refusals 1, 2 and 4 do not hold.
 pub record Framed (ports slots : ℕ) (bytes : List ℕ) : Type 0 where

@@ -1,8 +1,8 @@
 use borrow.Author.Needs.{needs}
 use Rattle.model.proofs.Reports.{within-known, slots-known}
-use Rattle.service.proofs.Checks.{ports-refused, slots-refused, size-refused, slot-refused, none-refused}
-use Rattle.service.proofs.check_frame.Statement.{statement}
-use Rattle.service.proofs.check_frame.Tie as tie
+use Rattle.view.proofs.Checks.{ports-refused, slots-refused, size-refused, slot-refused, none-refused}
+use Rattle.view.proofs.check_frame.Statement.{statement}
+use Rattle.view.proofs.check_frame.Tie as tie
 
 bad-length-requires : tie.Need-bad-length-requires
 bad-length-requires c κs =

@@ -1,9 +1,9 @@
 use mathlib.Core.Path.{_∙_}
 use native.Mathlib.Omega.{arith}
 use borrow.Author.Needs.{needs}
-use Rattle.service.proofs.Checks.{Open, accepted-open, refused-shut, slot-inside, begins, view-of, view-start, view-accepted, no-view, no-start, view-refused}
-use Rattle.service.proofs.slot_view.Statement.{statement}
-use Rattle.service.proofs.slot_view.Tie as tie
+use Rattle.view.proofs.Checks.{Open, accepted-open, refused-shut, slot-inside, begins, view-of, view-start, view-accepted, no-view, no-start, view-refused}
+use Rattle.view.proofs.slot_view.Statement.{statement}
+use Rattle.view.proofs.slot_view.Tie as tie
 
 opened : (c : tie.After-enum-told) → let a = c .before .before .before .before .args in Open (a .ports) (a .slots) (a .frame .now) (a .slot)
 opened c = accepted-open (c .before .before .check-frame .ensures) (c .enum-told .given .1)

@@ -1,0 +1,2 @@
+-- What the functions of Slot view promise.
+pub mod Asked

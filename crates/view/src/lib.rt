@@ -1,0 +1,75 @@
+// Slot view: a slot's own part of the caller's frame.
+ghost use mathlib.Core.Path.{_≡_};
+ghost use denote.Ref.{ptr};
+ghost use Rattle.model.specs.Refusals.{answered};
+ghost use Rattle.model.specs.Service.{viewNumber, viewStart, viewed};
+ghost use Rattle.view.specs.Asked.{checked, number, onward};
+use model::Answer;
+use model::Refusal;
+
+// Slot view's checks, 1, 2, 4, 11; Service count begins with the same.
+pub fn check_frame(ports: usize, slots: usize, frame: &[u8], slot: usize) -> Answer
+    ensures { λ r. ⌜ answered r ≡ checked ports slots (now (frame .entry)) slot ⌝ }
+{
+    if admission::outside(16, ports) {
+        return Answer::Refused(Refusal::Ports);
+    }
+    if admission::bad_slots(slots) {
+        return Answer::Refused(Refusal::Slots);
+    }
+    if admission::bad_length(frame.len(), slots, ports) {
+        return Answer::Refused(Refusal::FrameLength);
+    }
+    if admission::outside(slots, slot) {
+        return Answer::Refused(Refusal::SlotNumber);
+    }
+    Answer::Accepted
+}
+
+// The number of a refusal in document 01.
+pub fn number_of(refusal: Refusal) -> usize
+    ensures { λ r. ⌜ r ≡ number refusal ⌝ }
+{
+    match refusal {
+        Refusal::Ports => 1,
+        Refusal::Slots => 2,
+        Refusal::MatrixLength => 3,
+        Refusal::FrameLength => 4,
+        Refusal::InputLoad { port: _, cells: _ } => 5,
+        Refusal::OutputLoad { port: _, cells: _ } => 6,
+        Refusal::LineForm { line: _ } => 7,
+        Refusal::LinePort { line: _ } => 8,
+        Refusal::LinePair { line: _ } => 9,
+        Refusal::SheetLength => 10,
+        Refusal::SlotNumber => 11,
+        Refusal::PortNumber => 12,
+        Refusal::RunLength => 13,
+    }
+}
+
+// Slot view: the slot's part of the caller's frame itself, and an empty part on refusal.
+pub fn slot_view<'a>(
+    ports: usize,
+    slots: usize,
+    frame: &'a [u8],
+    slot: usize,
+    refused: &mut usize,
+) -> &'a [u8]
+    ensures { λ r. ⌜ now r ≡ viewed ports slots (now (frame .entry)) slot ⌝ }
+    ensures { λ r. ⌜ ptr r ≡ onward (ptr (frame .entry)) (viewStart ports slots (now (frame .entry)) slot) ⌝ }
+    ensures { λ r. ⌜ now (refused .exit) ≡ viewNumber ports slots (now (frame .entry)) slot ⌝ }
+{
+    let answer = check_frame(ports, slots, frame, slot);
+    match answer {
+        Answer::Refused(refusal) => {
+            *refused = number_of(refusal);
+            &frame[0..0]
+        }
+        Answer::Accepted => {
+            *refused = 0;
+            let start = (slot - 1) * ports;
+            let end = start + ports;
+            &frame[start..end]
+        }
+    }
+}
