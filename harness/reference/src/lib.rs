@@ -6,6 +6,7 @@ mod admission;
 mod build;
 mod inspect;
 mod query;
+pub mod queue;
 mod refusal;
 mod sheet;
 pub mod wire;

@@ -14,7 +14,7 @@ pub struct Frame {
 
 impl Frame {
     /// The load of the class in this frame.
-    fn load_of(&self, class: Class) -> u64 {
+    pub(crate) fn load_of(&self, class: Class) -> u64 {
         match class {
             Class::Pair { input, output } => {
                 u64::from(self.matrix[place_of(self.ports, input, output)])
@@ -51,7 +51,7 @@ pub fn chain_length(chain: &[Frame]) -> usize {
 }
 
 /// The slots of a run with the frame each lies in.
-fn slots_of(chain: &[Frame], run: Run) -> impl Iterator<Item = (&Frame, &[u8])> {
+pub(crate) fn slots_of(chain: &[Frame], run: Run) -> impl Iterator<Item = (&Frame, &[u8])> {
     chain
         .iter()
         .flat_map(|frame| frame.each_slot().map(move |slot| (frame, slot)))

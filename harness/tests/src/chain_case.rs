@@ -6,6 +6,7 @@ use reference::wire::Frame;
 
 use crate::build_case::{build_and_compare, check_shares, lend_bytes, wire_frame};
 use crate::hits::Hits;
+use crate::queue_case::check_queues;
 use crate::verdict::Verdict;
 
 loads::kinds! {
@@ -40,7 +41,8 @@ pub fn check_chain(
         let frame = wire_frame(last, buffer.part());
         chain.extend(std::iter::repeat_n(frame, times));
     }
-    check_shares(&chain, 8, random, hits)
+    check_shares(&chain, 8, random, hits)?;
+    check_queues(&chain, 8, random, hits)
 }
 
 /// The one shape of all the frames a chain carries.

@@ -78,7 +78,7 @@ fn refusal_names(call: &str, numbers: &[u64]) -> Vec<String> {
 }
 
 /// What the chains of calls must have come upon.
-const CHAIN_EVENTS: [&str; 7] = [
+const CHAIN_EVENTS: [&str; 8] = [
     "chain call accepted",
     "chain call refused",
     "chain call refused before any accepted",
@@ -86,4 +86,5 @@ const CHAIN_EVENTS: [&str; 7] = [
     "chain frame carried again after a refusal",
     "chain other shape accepted and not carried",
     "chain bound exactly reached",
+    "queue as deep after a slot as is allowed",
 ];

@@ -13,6 +13,7 @@ mod inspect_case;
 mod kind;
 mod lent;
 mod query_case;
+mod queue_case;
 mod runner;
 mod sheet_case;
 mod verdict;
