@@ -32,7 +32,8 @@ fn load(port: usize, cells: usize) {
 
 // A refusal's number and what it carries; the refusals of a sheet are not among these calls' answers.
 fn refusal(refusal: Refusal) {
-    number(view::number_of(refusal));
+    let n = numbers::of_refusal(refusal);
+    number(n.number);
     if let Refusal::InputLoad { port, cells } = refusal {
         load(port, cells);
     }

@@ -1,6 +1,6 @@
 -- Writing piece by piece.
 use Prim.Native.Nat.{ℕ, suc, _+_, _-_, _*_, _/_, _%_, _≤_, _<_}
-use mathlib.Core.Path.{_≡_, refl, sym, ap, _∙_}
+use mathlib.Core.Path.{_≡_, refl, sym, ap, subst, _∙_}
 use mathlib.Core.List.{List, [], _∷_, _++_, append-assoc, append-nil}
 use mathlib.Core.Bool.{Bool, true, false}
 use native.Mathlib.Omega.{arith}
@@ -11,13 +11,15 @@ use lib.ListN.{length, getD, set, take, drop, length-append, length-take, length
 use lib.Seq.{sets, length-sets, set-out, drop-cons, drop-drop}
 use mir.Syntax.{w64}
 use mir.Val.{Fits}
-use borrow.Author.Tests.{eq-eqb, ne-eqb, eqb-true, le-leb, lt-leb, leb-true}
+use borrow.Author.Tests.{eq-eqb, ne-eqb, eqb-true, le-leb, lt-leb, leb-true, lt-ltb, le-ltb}
 use Rattle.model.specs.Words.{if, both}
 use Rattle.model.specs.Sheet.{text, decimal, printCells, printSlots, printFrame, printRefusal}
 use Rattle.model.specs.Refusals.{refusal}
 use Rattle.model.specs.declared.Refusal.{Refusal}
 use Rattle.model.proofs.Cases.{both-true, both-yes}
 use Rattle.model.proofs.Sheets.{decimal-one, decimal-go, decimal-most}
+use Rattle.numbers.specs.Numbers.{Three}
+use Rattle.numbers.proofs.Valued.{valued-is}
 use Rattle.printing.specs.Printing.{Printed, PrintedIn, Prints, Sized, ofSize, frameBytes, wordThen, cellOf, slotLine}
 
 -- ---- one piece behind another
@@ -144,9 +146,24 @@ load-printed out number port cells mid at′ mid2 at2 mid3 at3 new next x y z u 
     (piece (text " (port ") port (text ") (cells " ++ (decimal cells ++ text "))\n"))
     (prints-as out 0 b mid at′ long short e (piece (text "(refused ") number long (prints-all out 0 b) x)) y) z) u)
 
-pub refusal-printed : (out : List ℕ) (r r′ : Refusal) (new : List ℕ) (next : ℕ) → r ≡ r′ → Printed out 0 (printRefusal (refusal r′)) new next
-    → Printed out 0 (printRefusal (refusal r)) new next
-refusal-printed out r r′ new next e x = rw e x
+-- the list of a refusal, by its number
+module _ (out : List ℕ) (r : Refusal) (n first second : ℕ) (new : List ℕ) (next : ℕ) (t : Three (refusal r) n first second) where
+  abbrev Is : List ℕ → Type 0
+  Is l = Printed out 0 (printRefusal l) new next
+
+  pub low-plain : n < 5 → Is (n ∷ []) → Is (refusal r)
+  low-plain a x = subst Is (valued-is r t) (rw (lt-ltb n 5 a) x)
+
+  module _ (a : 5 ≤ n) where
+    pub with-load : n < 7 → Is (n ∷ first ∷ second ∷ []) → Is (refusal r)
+    with-load b x = subst Is (valued-is r t) (rw (le-ltb n 5 a, lt-ltb n 7 b) x)
+
+    module _ (b : 7 ≤ n) where
+      pub with-line : n < 10 → Is (n ∷ first ∷ []) → Is (refusal r)
+      with-line c x = subst Is (valued-is r t) (rw (le-ltb n 5 a, le-ltb n 7 b, lt-ltb n 10 c) x)
+
+      pub high-plain : 10 ≤ n → Is (n ∷ []) → Is (refusal r)
+      high-plain c x = subst Is (valued-is r t) (rw (le-ltb n 5 a, le-ltb n 7 b, le-ltb n 10 c) x)
 
 -- ---- a slot
 pub cell-none : (out : List ℕ) (at i b : ℕ) → b ≡ 0 → PrintedIn 44 out at (cellOf i b) out at

@@ -94,21 +94,17 @@ fn put_load(out: &mut [u8], number: usize, port: usize, cells: usize) -> usize
 pub fn put_refusal(out: &mut [u8], r: Refusal) -> usize
     ensures { λ n. ⌜ Printed (now (out .entry)) 0 (printRefusal (refusal r)) (now (out .exit)) n ⌝ }
 {
-    match r {
-        Refusal::Ports => return put_plain(out, 1),
-        Refusal::Slots => return put_plain(out, 2),
-        Refusal::MatrixLength => return put_plain(out, 3),
-        Refusal::FrameLength => return put_plain(out, 4),
-        Refusal::InputLoad { port, cells } => return put_load(out, 5, port, cells),
-        Refusal::OutputLoad { port, cells } => return put_load(out, 6, port, cells),
-        Refusal::LineForm { line } => return put_line(out, 7, line),
-        Refusal::LinePort { line } => return put_line(out, 8, line),
-        Refusal::LinePair { line } => return put_line(out, 9, line),
-        Refusal::SheetLength => return put_plain(out, 10),
-        Refusal::SlotNumber => return put_plain(out, 11),
-        Refusal::PortNumber => return put_plain(out, 12),
-        Refusal::RunLength => return put_plain(out, 13),
+    let n = numbers::of_refusal(r);
+    if n.number < 5 {
+        return put_plain(out, n.number);
     }
+    if n.number < 7 {
+        return put_load(out, n.number, n.first, n.second);
+    }
+    if n.number < 10 {
+        return put_line(out, n.number, n.first);
+    }
+    put_plain(out, n.number)
 }
 
 // Writes what an input sends in a slot: nothing where it is idle.

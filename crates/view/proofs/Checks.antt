@@ -16,7 +16,7 @@ use Rattle.model.specs.declared.Answer.the-variants.{Accepted, Refused}
 use Rattle.model.specs.declared.Refusal.{Refusal}
 use Rattle.model.proofs.Cases.{both-true}
 use Rattle.model.proofs.Reports.{report-clear, clear-none, clear-some, within-known, slots-known, refusal-number}
-use Rattle.view.specs.Asked.{checked, number, Framed, onward}
+use Rattle.view.specs.Asked.{checked, Framed, onward}
 
 -- ---- the answers in their order
 module _ (ports slots : ℕ) (bytes : List ℕ) (slot : ℕ) where
@@ -135,6 +135,6 @@ module _ (ports slots : ℕ) (bytes : List ℕ) (slot : ℕ) (r : Refusal) (s : 
   pub no-size : 0 ≡ viewSize ports slots bytes slot
   no-size = rw (s .some)
 
-  pub view-refused : number r ≡ viewNumber ports slots bytes slot
+  pub view-refused : getD (refusal r) 0 0 ≡ viewNumber ports slots bytes slot
   unfolding checked
   view-refused = ap (λ l. getD l 0 0) (s .same)

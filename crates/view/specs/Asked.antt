@@ -2,18 +2,13 @@
 use Prim.Native.Nat.{ℕ, _+_, _*_, _≤_}
 use mathlib.Core.Path.{_≡_}
 use mathlib.Core.List.{List}
-use lib.ListN.{length, getD}
-use Rattle.model.specs.Refusals.{report, accepted, refusal}
+use lib.ListN.{length}
+use Rattle.model.specs.Refusals.{report, accepted}
 use Rattle.model.specs.Service.{viewChecks}
-use Rattle.model.specs.declared.Refusal.{Refusal}
 
 -- The answer of Slot view's checks, which are also the first four of Service count.
 unfoldable pub checked : ℕ → ℕ → List ℕ → ℕ → List ℕ
 checked ports slots bytes slot = report (viewChecks ports slots bytes slot) accepted
-
--- A refusal's number.
-abbrev pub number : Refusal → ℕ
-number r = getD (refusal r) 0 0
 
 -- A frame of so many slots, as it stands where refusals 1, 2 and 4 do not hold.
 pub record Framed (ports slots : ℕ) (bytes : List ℕ) : Type 0 where

@@ -3,7 +3,7 @@ ghost use mathlib.Core.Path.{_≡_};
 ghost use denote.Ref.{ptr};
 ghost use Rattle.model.specs.Refusals.{answered};
 ghost use Rattle.model.specs.Service.{viewNumber, viewStart, viewed};
-ghost use Rattle.view.specs.Asked.{checked, number, onward};
+ghost use Rattle.view.specs.Asked.{checked, onward};
 use model::Answer;
 use model::Refusal;
 
@@ -26,27 +26,6 @@ pub fn check_frame(ports: usize, slots: usize, frame: &[u8], slot: usize) -> Ans
     Answer::Accepted
 }
 
-// The number of a refusal in document 01.
-pub fn number_of(refusal: Refusal) -> usize
-    ensures { λ r. ⌜ r ≡ number refusal ⌝ }
-{
-    match refusal {
-        Refusal::Ports => 1,
-        Refusal::Slots => 2,
-        Refusal::MatrixLength => 3,
-        Refusal::FrameLength => 4,
-        Refusal::InputLoad { port: _, cells: _ } => 5,
-        Refusal::OutputLoad { port: _, cells: _ } => 6,
-        Refusal::LineForm { line: _ } => 7,
-        Refusal::LinePort { line: _ } => 8,
-        Refusal::LinePair { line: _ } => 9,
-        Refusal::SheetLength => 10,
-        Refusal::SlotNumber => 11,
-        Refusal::PortNumber => 12,
-        Refusal::RunLength => 13,
-    }
-}
-
 // Slot view: the slot's part of the caller's frame itself, and an empty part on refusal.
 pub fn slot_view<'a>(
     ports: usize,
@@ -62,7 +41,8 @@ pub fn slot_view<'a>(
     let answer = check_frame(ports, slots, frame, slot);
     match answer {
         Answer::Refused(refusal) => {
-            *refused = number_of(refusal);
+            let n = numbers::of_refusal(refusal);
+            *refused = n.number;
             &frame[0..0]
         }
         Answer::Accepted => {

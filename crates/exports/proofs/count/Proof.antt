@@ -1,4 +1,4 @@
-use Rattle.exports.proofs.Threes.{two-of}
+use Rattle.numbers.proofs.Threes.{two-of}
 use borrow.Author.Needs.{needs}
 use Rattle.exports.proofs.count.Statement.{statement}
 use Rattle.exports.proofs.count.Tie as tie

@@ -1,4 +1,4 @@
-use Rattle.exports.proofs.Threes.{three-of}
+use Rattle.numbers.proofs.Threes.{three-of}
 use borrow.Author.Needs.{needs}
 use Rattle.exports.proofs.frame_builder_build.Statement.{statement}
 use Rattle.exports.proofs.frame_builder_build.Tie as tie

@@ -2,7 +2,7 @@
 use Prim.Native.Nat.{ℕ}
 use mathlib.Core.Path.{_≡_, subst}
 use mathlib.Core.List.{List}
-use Rattle.exports.specs.Numbers.{Two, Three}
+use Rattle.numbers.specs.Numbers.{Two, Three}
 
 pub three-of : {a b : List ℕ} {number first second : ℕ} → Three a number first second → a ≡ b → Three b number first second
 three-of {number = n} {first = f} {second = s} t e = subst (λ (l : List ℕ). Three l n f s) e t

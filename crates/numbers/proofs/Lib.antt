@@ -1,0 +1,3 @@
+-- Laws of the numbers of an answer.
+pub mod Threes
+pub mod Valued

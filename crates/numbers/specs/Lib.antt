@@ -1,0 +1,2 @@
+-- An answer's numbers, one by one.
+pub mod Numbers
