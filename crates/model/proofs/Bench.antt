@@ -11,7 +11,7 @@ use Rattle.model.specs.Refusals.{admitted}
 use Rattle.model.specs.Schedule.{walk, settleAt, favours, slotOf, frameOf}
 use Rattle.model.specs.Build.{buildChecks, built, left}
 use Rattle.model.specs.Service.{service, repeated}
-use Rattle.model.specs.Sheet.{text, digits, portsLine, slotsLine, pairLine, lines, numbersFrom, readPairs, readSheet, printSlots, response}
+use Rattle.model.specs.Sheet.{text, digits, portsLine, slotsLine, pairLine, lines, numbersFrom, readPairs, loads, readSheet, printSlots, response}
 use Rattle.model.specs.declared.Who.the-variants.{Pair}
 
 -- What the definitions give, and what document 01 says.
@@ -34,10 +34,14 @@ turnedAway ports slots matrix refusal =
       says = refusal ++ (refusal ++ buffer);
     }
 
-table7 : List ℕ
+-- one cell from each port to its own number
+abbrev own : List ℕ
+own = 1 ∷ 0 ∷ 0 ∷ 0 ∷ 0 ∷ 1 ∷ 0 ∷ 0 ∷ 0 ∷ 0 ∷ 1 ∷ 0 ∷ 0 ∷ 0 ∷ 0 ∷ 1 ∷ []
+
+abbrev table7 : List ℕ
 table7 = 2 ∷ 2 ∷ 0 ∷ 0 ∷ 0 ∷ 0 ∷ 0 ∷ 0 ∷ 0 ∷ 0 ∷ 0 ∷ 0 ∷ 1 ∷ 1 ∷ 0 ∷ 2 ∷ []
 
-table7Frame : List ℕ
+abbrev table7Frame : List ℕ
 table7Frame = 1 ∷ 0 ∷ 0 ∷ 4 ∷ 2 ∷ 0 ∷ 0 ∷ 1 ∷ 1 ∷ 0 ∷ 0 ∷ 2 ∷ 2 ∷ 0 ∷ 0 ∷ 4 ∷ []
 
 sheet : List ℕ
@@ -53,7 +57,7 @@ cases =
     frame 1 1 (1 ∷ []) (1 ∷ [])
     ∷ frame 1 4 (3 ∷ []) (1 ∷ 1 ∷ 1 ∷ 0 ∷ [])
     ∷ frame 2 2 (1 ∷ 1 ∷ 1 ∷ 1 ∷ []) (1 ∷ 2 ∷ 2 ∷ 1 ∷ [])
-    ∷ frame 4 4 (1 ∷ 0 ∷ 0 ∷ 0 ∷ 0 ∷ 1 ∷ 0 ∷ 0 ∷ 0 ∷ 0 ∷ 1 ∷ 0 ∷ 0 ∷ 0 ∷ 0 ∷ 1 ∷ []) (1 ∷ 2 ∷ 3 ∷ 4 ∷ replicate 12 0)
+    ∷ frame 4 4 own (1 ∷ 2 ∷ 3 ∷ 4 ∷ replicate 12 0)
     ∷ frame 4 4 table7 table7Frame
     ∷ record { gives = response sheet; says = printed }
     ∷ turnedAway 2 4 (3 ∷ 2 ∷ 0 ∷ 0 ∷ []) (5 ∷ 1 ∷ 5 ∷ [])
@@ -63,6 +67,27 @@ cases =
     ∷ record { gives = service 4 4 table7Frame (Pair 4 4) 4 2; says = 0 ∷ 2 ∷ [] }
     ∷ []
 
+-- ---- the frames of the loads, and what the sheet comes to
+table7-framed : frameOf 4 2 table7 ≡ table7Frame
+unfolding walk settleAt favours slotOf frameOf
+table7-framed = refl
+
+own-framed : frameOf 4 2 own ≡ 1 ∷ 2 ∷ 3 ∷ 4 ∷ replicate 12 0
+unfolding walk settleAt favours slotOf frameOf
+own-framed = refl
+
+small-framed : (frameOf 1 0 (1 ∷ []) ≡ 1 ∷ []) × (frameOf 1 2 (3 ∷ []) ≡ 1 ∷ 1 ∷ 1 ∷ 0 ∷ []) × (frameOf 2 1 (1 ∷ 1 ∷ 1 ∷ 1 ∷ []) ≡ 1 ∷ 2 ∷ 2 ∷ 1 ∷ [])
+unfolding walk settleAt favours slotOf frameOf
+small-framed = (refl, refl, refl)
+
+sheet-asks : readSheet sheet ≡ loads 4 4 table7
+unfolding sheet sumTo load digits portsLine slotsLine pairLine lines numbersFrom readPairs readSheet
+sheet-asks = refl
+
+sheet-printed : response sheet ≡ printed
+unfolding printed digits printSlots response
+sheet-printed = rw (sheet-asks, table7-framed)
+
 pub bench : map (λ c. c .gives) cases ≡ map (λ c. c .says) cases
-unfolding cases frame turnedAway table7 table7Frame sheet printed sumTo load cells runOf admitted buildChecks walk settleAt favours slotOf frameOf service repeated digits portsLine slotsLine pairLine lines numbersFrom readPairs readSheet printSlots response
-bench = refl
+unfolding cases frame turnedAway sumTo load cells runOf admitted buildChecks service repeated
+bench = rw (small-framed .0, small-framed .1, small-framed .2, own-framed, table7-framed, sheet-printed)
