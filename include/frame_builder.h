@@ -36,6 +36,10 @@ extern "C" {
 #define FRAME_BUILDER_FRAME_LENGTH 4  /* frame length not slots x ports */
 #define FRAME_BUILDER_INPUT_LOAD 5    /* an input's load is above slots: the lowest such input, its load */
 #define FRAME_BUILDER_OUTPUT_LOAD 6   /* an output's load is above slots: the lowest such output, its load */
+#define FRAME_BUILDER_LINE_FORM 7     /* of the sheet program only, as are 8 to 10: a line breaks the form */
+#define FRAME_BUILDER_LINE_PORT 8     /* a pair line names a port outside 1 to ports */
+#define FRAME_BUILDER_LINE_PAIR 9     /* a pair line names a pair named on an earlier line */
+#define FRAME_BUILDER_SHEET_LENGTH 10 /* the sheet is longer than 16,384 bytes */
 #define FRAME_BUILDER_SLOT_NUMBER 11  /* slot or start outside 1 to slots */
 #define FRAME_BUILDER_PORT_NUMBER 12  /* port outside 1 to ports */
 #define FRAME_BUILDER_RUN_LENGTH 13   /* run length above 1,000,000 */
