@@ -1,0 +1,16 @@
+use Rattle.model.specs.Refusals.{answered}
+use Rattle.numbers.proofs.Threes.{told, passed}
+use borrow.Author.Needs.{needs}
+use Rattle.numbers.proofs.of_answer.Statement.{statement}
+use Rattle.numbers.proofs.of_answer.Tie as tie
+
+pub of-answer-spec : {M : Type 1} → statement M
+of-answer-spec =
+    tie.close
+    (tie.spec
+    (λ c. search needs)
+    (λ c κs. search needs)
+    (λ c. search needs)
+    (λ c κs. search needs)
+    (λ c. told answered _ _ (c .before .enum-told .given .1) (c .three .ensures))
+    (λ c. passed answered _ _ (c .before .before .answer .given .1) (c .of-refusal .ensures)))
