@@ -5,8 +5,9 @@ use Rattle.exports.proofs.frame_builder_build.Tie as tie
 
 pub frame-builder-build-spec : {M : Type 1} → statement M
 frame-builder-build-spec =
-    tie.close (tie.spec
+    tie.close
+    (tie.spec
     (λ c κs. search needs)
     (λ c κs. search needs)
     (λ c. search needs)
-    (λ c. (search (needs, three-of), search needs)))
+    (λ c. (three-of (c .of-answer .ensures) (c .before .before .before .build .ensures .0), c .before .before .before .build .ensures .1)))

@@ -1,0 +1,10 @@
+use borrow.Author.Needs.{needs}
+use Rattle.exports.proofs.frame_builder_count_input.Statement.{statement}
+use Rattle.exports.proofs.frame_builder_count_input.Tie as tie
+
+pub frame-builder-count-input-spec : {M : Type 1} → statement M
+frame-builder-count-input-spec =
+    tie.close
+    (tie.spec
+    (λ c κs. search needs)
+    (λ c. c .count .ensures))
