@@ -17,7 +17,8 @@ use Rattle.model.specs.Inspect.{firstPlace, tooLarge, usedTwice, wrongCount, ou
 use Rattle.model.proofs.Searches.{first-before}
 use Rattle.model.proofs.Levels.{levels-power, levels-most}
 use Rattle.model.proofs.Reports.{within-known}
-use Rattle.inspection.specs.Tally.{Readable, Lent, faults}
+use Rattle.tally.specs.Tally.{Readable}
+use Rattle.inspection.specs.Faults.{Lent, faults}
 
 -- ---- one fault that is a place
 module _ (number width n q : ℕ) (wrong : ℕ → Bool) (e : q ≡ first wrong 0 n) (cs : List Check) (asked : List ℕ) where

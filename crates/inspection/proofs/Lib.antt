@@ -1,3 +1,3 @@
-pub mod Tallies
+-- What the functions of Inspect rest on.
 pub mod Found
 pub mod Faults

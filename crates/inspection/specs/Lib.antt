@@ -1,1 +1,2 @@
-pub mod Tally
+-- What the inner functions of Inspect promise.
+pub mod Faults

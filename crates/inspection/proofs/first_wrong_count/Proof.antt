@@ -3,7 +3,7 @@ use lib.ListN.{length}
 use Rattle.model.specs.Frames.{runOf}
 use Rattle.model.specs.Inspect.{wrongCount}
 use Rattle.model.proofs.Searches.{Passed, passed-start}
-use Rattle.inspection.specs.Tally.{Tally}
+use Rattle.tally.specs.Tally.{Tally}
 use Rattle.inspection.proofs.Found.{count-on, count-found, position-low, position-done}
 use borrow.Author.Needs.{needs}
 use Rattle.inspection.proofs.first_wrong_count.Statement.{statement}

@@ -2,7 +2,7 @@ use Prim.Native.Nat.{_-_}
 use Rattle.model.specs.Frames.{runOf}
 use Rattle.model.specs.Inspect.{twiceIn}
 use Rattle.model.proofs.Searches.{Passed, passed-start, passed-done}
-use Rattle.inspection.specs.Tally.{Tally}
+use Rattle.tally.specs.Tally.{Tally}
 use Rattle.inspection.proofs.Found.{twice-on, twice-found}
 use borrow.Author.Needs.{needs}
 use Rattle.inspection.proofs.lowest_twice.Statement.{statement}

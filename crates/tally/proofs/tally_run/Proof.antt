@@ -1,11 +1,11 @@
 use Prim.Native.Nat.{_≤_, _-_}
 use Rattle.model.specs.Frames.{runOf}
-use Rattle.inspection.specs.Tally.{Tally}
-use Rattle.inspection.proofs.Tallies.{tally-start, tally-on, tally-end, tally-room, part-ends, part-readable, from-fits, end-fits}
+use Rattle.tally.specs.Tally.{Tally}
+use Rattle.tally.proofs.Tallies.{tally-start, tally-on, tally-end, tally-room, part-ends, part-readable, from-fits, end-fits}
 use borrow.Author.Needs.{needs}
 use native.Mathlib.Omega.{arith}
-use Rattle.inspection.proofs.tally_run.Statement.{statement}
-use Rattle.inspection.proofs.tally_run.Tie as tie
+use Rattle.tally.proofs.tally_run.Statement.{statement}
+use Rattle.tally.proofs.tally_run.Tie as tie
 
 abbrev Inv-loop : tie.InvT-loop
 Inv-loop ports slots frame start len tally₀ t₀ tally t = (t ≤ len) × Tally ports (runOf ports start t frame) tally

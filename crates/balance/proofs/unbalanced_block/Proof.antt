@@ -1,8 +1,8 @@
 use Prim.Native.Nat.{_-_}
-use Rattle.inspection.proofs.Found.{Depths, depths-start, depths-on, depths-found, depths-none, blocks-room, size-fits, count-fits, start-fits, number-fits}
+use Rattle.balance.proofs.Blocks.{Depths, depths-start, depths-on, depths-found, depths-none, blocks-room, size-fits, count-fits, start-fits, number-fits}
 use borrow.Author.Needs.{needs}
-use Rattle.inspection.proofs.unbalanced_block.Statement.{statement}
-use Rattle.inspection.proofs.unbalanced_block.Tie as tie
+use Rattle.balance.proofs.unbalanced_block.Statement.{statement}
+use Rattle.balance.proofs.unbalanced_block.Tie as tie
 
 abbrev Inv-loop : tie.InvT-loop
 Inv-loop ports slots depths frame depth₀ count₀ half₀ depth count half = Depths ports slots depths frame depth count half

@@ -1,10 +1,10 @@
 use Prim.Native.Nat.{_-_}
 use Rattle.model.specs.Inspect.{unbalancedNumber}
 use Rattle.model.proofs.Searches.{Passed, passed-start, passed-done}
-use Rattle.inspection.proofs.Found.{block-ends, half-fits, block-fits, number-on, number-found}
+use Rattle.balance.proofs.Blocks.{block-ends, half-fits, block-fits, number-on, number-found}
 use borrow.Author.Needs.{needs}
-use Rattle.inspection.proofs.first_unbalanced.Statement.{statement}
-use Rattle.inspection.proofs.first_unbalanced.Tie as tie
+use Rattle.balance.proofs.first_unbalanced.Statement.{statement}
+use Rattle.balance.proofs.first_unbalanced.Tie as tie
 
 abbrev Inv-loop : tie.InvT-loop
 Inv-loop ports slots frame half count b₀ b = Passed (unbalancedNumber ports frame half) 0 count b

@@ -1,11 +1,11 @@
 use Prim.Native.Nat.{_≤_, _-_}
 use lib.ListN.{length}
-use Rattle.inspection.specs.Tally.{Adds, partly}
-use Rattle.inspection.proofs.Tallies.{slot-start, slot-on, slot-end, slot-room, byte-most, input-most}
+use Rattle.tally.specs.Tally.{Adds, partly}
+use Rattle.tally.proofs.Tallies.{slot-start, slot-on, slot-end, slot-room, byte-most, input-most}
 use borrow.Author.Needs.{needs}
 use native.Mathlib.Omega.{arith}
-use Rattle.inspection.proofs.add_slot.Statement.{statement}
-use Rattle.inspection.proofs.add_slot.Tie as tie
+use Rattle.tally.proofs.add_slot.Statement.{statement}
+use Rattle.tally.proofs.add_slot.Tie as tie
 
 abbrev Inv-loop : tie.InvT-loop
 Inv-loop ports slot tally₀ i₀ tally i = (i ≤ length slot) × Adds ports i (partly slot i) tally₀ tally

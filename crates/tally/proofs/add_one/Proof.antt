@@ -1,7 +1,7 @@
-use Rattle.inspection.proofs.Tallies.{one-fits}
+use Rattle.tally.proofs.Tallies.{one-fits}
 use borrow.Author.Needs.{needs}
-use Rattle.inspection.proofs.add_one.Statement.{statement}
-use Rattle.inspection.proofs.add_one.Tie as tie
+use Rattle.tally.proofs.add_one.Statement.{statement}
+use Rattle.tally.proofs.add_one.Tie as tie
 
 pub add-one-spec : {M : Type 1} → statement M
 add-one-spec =

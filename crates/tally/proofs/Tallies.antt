@@ -21,7 +21,7 @@ use Rattle.model.proofs.Sums.{sum-none, sum-more}
 use Rattle.model.proofs.Splits.{is-yes, is-no}
 use Rattle.model.proofs.Settled.{zero-at}
 use Rattle.model.proofs.Cells.{cells-slot, cells-none, cells-run, run-none, run-length}
-use Rattle.inspection.specs.Tally.{place, Switch, Readable, Room, Adds, ofByte, partly, ofSlot, Tally}
+use Rattle.tally.specs.Tally.{place, Switch, Readable, Room, Adds, ofByte, partly, ofSlot, Tally}
 
 -- ---- places
 pub pair-place : {ports i o : ℕ} → Switch ports → i < ports → o < ports → i * ports + o < 256

@@ -1,7 +1,7 @@
-use Rattle.inspection.proofs.Tallies.{adds-idle, adds-cell, row-fits, pair-low, pair-fits, input-low, output-low, room-less, room-one, room-two}
+use Rattle.tally.proofs.Tallies.{adds-idle, adds-cell, row-fits, pair-low, pair-fits, input-low, output-low, room-less, room-one, room-two}
 use borrow.Author.Needs.{needs}
-use Rattle.inspection.proofs.add_byte.Statement.{statement}
-use Rattle.inspection.proofs.add_byte.Tie as tie
+use Rattle.tally.proofs.add_byte.Statement.{statement}
+use Rattle.tally.proofs.add_byte.Tie as tie
 
 pub add-byte-spec : {M : Type 1} → statement M
 add-byte-spec =

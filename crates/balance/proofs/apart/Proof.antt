@@ -1,7 +1,7 @@
-use Rattle.inspection.proofs.Found.{apart-over, apart-under, apart-near}
+use Rattle.balance.proofs.Blocks.{apart-over, apart-under, apart-near}
 use borrow.Author.Needs.{needs}
-use Rattle.inspection.proofs.apart.Statement.{statement}
-use Rattle.inspection.proofs.apart.Tie as tie
+use Rattle.balance.proofs.apart.Statement.{statement}
+use Rattle.balance.proofs.apart.Tie as tie
 
 pub apart-spec : {M : Type 1} → statement M
 apart-spec =

@@ -1,11 +1,11 @@
 use Prim.Native.Nat.{_+_, _-_}
 use mathlib.Core.Path.{_≡_, refl}
 use Rattle.model.proofs.Searches.{Passed, passed-start, passed-end}
-use Rattle.inspection.specs.Tally.{far}
-use Rattle.inspection.proofs.Found.{far-on, far-found}
+use Rattle.balance.specs.Balance.{far}
+use Rattle.balance.proofs.Blocks.{far-on, far-found}
 use borrow.Author.Needs.{needs}
-use Rattle.inspection.proofs.first_far.Statement.{statement}
-use Rattle.inspection.proofs.first_far.Tie as tie
+use Rattle.balance.proofs.first_far.Statement.{statement}
+use Rattle.balance.proofs.first_far.Tie as tie
 
 abbrev Inv-loop : tie.InvT-loop
 Inv-loop a b from count end x₀ x = (end ≡ from + count) × Passed (far a b) from count x

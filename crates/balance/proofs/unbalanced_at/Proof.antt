@@ -1,7 +1,7 @@
-use Rattle.inspection.proofs.Found.{square-fits, square-most, pair-far, input-far, output-far, none-far}
+use Rattle.balance.proofs.Blocks.{square-fits, square-most, pair-far, input-far, output-far, none-far}
 use borrow.Author.Needs.{needs}
-use Rattle.inspection.proofs.unbalanced_at.Statement.{statement}
-use Rattle.inspection.proofs.unbalanced_at.Tie as tie
+use Rattle.balance.proofs.unbalanced_at.Statement.{statement}
+use Rattle.balance.proofs.unbalanced_at.Tie as tie
 
 pub unbalanced-at-spec : {M : Type 1} → statement M
 unbalanced-at-spec =

@@ -1,14 +1,11 @@
 -- What the code counts: a tally has a number for each pair, input and output, at a place of its own.
 use Prim.Native.Nat.{ℕ, _+_, _*_, _≤_, _<_}
 use mathlib.Core.Path.{_≡_}
-use mathlib.Core.List.{List, [], _∷_}
-use mathlib.Core.Bool.{Bool, not}
+use mathlib.Core.List.{List}
 use lib.ListN.{length, getD}
-use Rattle.model.specs.Words.{bit, near, sumTo}
+use Rattle.model.specs.Words.{bit, sumTo}
 use Rattle.model.specs.Loads.{Class, pair, input, output, Of}
 use Rattle.model.specs.Frames.{counts, cells}
-use Rattle.model.specs.Refusals.{levels, report}
-use Rattle.model.specs.Inspect.{byteTooLarge, outputTwice, pairCount, unbalancedBlock}
 
 -- The pairs stand in matrix order, then the sixteen inputs, then the sixteen outputs.
 abbrev pub place : ℕ → Class → ℕ
@@ -54,25 +51,3 @@ pub record Tally (ports : ℕ) (bytes tally : List ℕ) : Type 0 where
   pub size : length tally ≡ 288
   pub each : (c : Class) → Of ports c → getD tally (place ports c) 0 ≡ cells c ports bytes
   pub bound : (x : ℕ) → getD tally x 0 ≤ length bytes
-
--- At place x two tallies differ by more than 1.
-unfoldable pub far : List ℕ → List ℕ → ℕ → Bool
-far a b x = not (near 1 (getD a x 0) (getD b x 0))
-
--- What Inspect was given has its sizes: none of the refusals holds.
-pub record Lent (ports slots : ℕ) (matrix bytes : List ℕ) : Type 0 where
-  pub switch : Switch ports
-  pub power : levels slots < 11
-  pub square : length matrix ≡ ports * ports
-  pub size : length bytes ≡ slots * ports
-
--- The faults of Inspect, in their order.
-abbrev pub faults : ℕ → ℕ → List ℕ → List ℕ → List ℕ
-faults ports slots matrix bytes =
-    report (
-    byteTooLarge ports slots bytes
-    ∷ outputTwice ports slots bytes
-    ∷ pairCount ports matrix bytes
-    ∷ unbalancedBlock ports slots bytes
-    ∷ []
-    ) (0 ∷ [])

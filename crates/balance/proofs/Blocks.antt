@@ -1,0 +1,182 @@
+-- Blocks of the code's search, step by step.
+use Prim.Native.Nat.{ℕ, suc, _+_, _-_, _*_, _/_, _%_, _^_, _≤_, _<_}
+use mathlib.Core.Path.{_≡_, refl, sym, ap, _∙_}
+use mathlib.Core.List.{List, [], _∷_}
+use mathlib.Core.Bool.{Bool, true, false, not}
+use native.Mathlib.Omega.{arith}
+use lib.Arith.{digits-lt}
+use lib.Pow.{pow-pos, shr-shr}
+use lib.ListN.{getD}
+use native.Mathlib.Nat.{div-add-mod', mul-le-mul-right, mul-le-mul, pow-le-pow-right}
+use native.Mathlib.Numerals.{add-one}
+use mir.Syntax.{w64}
+use mir.Val.{Fits}
+use borrow.Author.Tests.{lt-ltb, le-ltb, lt-leb, le-leb, not-true, not-false}
+use Rattle.model.specs.Words.{first, near}
+use Rattle.model.specs.Loads.{Class, pair, input, output, Of}
+use Rattle.model.specs.Frames.{cells, runOf}
+use Rattle.model.specs.Refusals.{levels, report}
+use Rattle.model.specs.Inspect.{unbalanced, unbalancedNumber, firstAt, unbalancedAt, unbalancedBlock}
+use Rattle.model.proofs.Searches.{Passed, passed-start, passed-on, passed-found, passed-done, first-low, first-found, first-before}
+use Rattle.model.proofs.Levels.{levels-power, depth-half, depth-fill}
+use Rattle.model.proofs.OneFrame.{double}
+use Rattle.model.proofs.Inspected.{position-of, unbalanced-yes, unbalanced-no}
+use Rattle.tally.specs.Tally.{place, Switch, Readable, Tally}
+use Rattle.balance.specs.Balance.{far}
+
+-- ---- counts that differ by more than 1
+module _ (a b : ℕ) where
+  pub apart-over : b + 1 < a → true ≡ not (near 1 a b)
+  apart-over h = rw (lt-leb a (b + 1) h)
+
+  pub apart-under : a ≤ b + 1 → a + 1 < b → true ≡ not (near 1 a b)
+  apart-under l h = rw (le-leb a (b + 1) l, lt-leb b (a + 1) h)
+
+  pub apart-near : a ≤ b + 1 → b ≤ a + 1 → false ≡ not (near 1 a b)
+  apart-near l h = rw (le-leb a (b + 1) l, le-leb b (a + 1) h)
+
+-- ---- places where two tallies differ by more than 1
+module _ (a b : List ℕ) (from count x u v : ℕ) (r : Bool) where
+  pub far-on : Passed (far a b) from count x → x < from + count → u ≡ getD a x 0 → v ≡ getD b x 0 → r ≡ not (near 1 u v) → r ≡ false → Passed (far a b) from count (x + 1)
+  unfolding far
+  far-on p h e f g k = passed-on p h (rw (sym e, sym f) (sym g ∙ k))
+
+  pub far-found : Passed (far a b) from count x → x < from + count → u ≡ getD a x 0 → v ≡ getD b x 0 → r ≡ not (near 1 u v) → r ≡ true → x ≡ first (far a b) from count
+  unfolding far
+  far-found p h e f g k = passed-found p h (rw (sym e, sym f) (sym g ∙ k))
+
+-- ---- blocks
+module _ (ports slots half count b : ℕ) (frame : List ℕ) (r : Readable ports slots frame) (room : count * (2 * half) ≤ slots) (l : b < count) where
+  pub block-ends : b * (2 * half) + half + half ≤ slots
+  block-ends = let k = mul-le-mul-right {m = suc b} {n = count} (2 * half) l in omega arith
+
+  pub half-fits : Fits w64 (2 * half)
+  half-fits = record { fits = (let k = block-ends in let m = r .slots-most in omega arith) }
+
+  pub block-fits : Fits w64 (b * (2 * half))
+  block-fits = record { fits = (let k = block-ends in let m = r .slots-most in omega arith) }
+
+module _ (ports half count b : ℕ) (frame : List ℕ) (u : Bool) where
+  pub number-on : Passed (unbalancedNumber ports frame half) 0 count b → b < count → u ≡ unbalanced ports frame (b * (2 * half)) half → u ≡ false
+      → Passed (unbalancedNumber ports frame half) 0 count (b + 1)
+  unfolding unbalancedNumber
+  number-on p h e f = passed-on p (omega arith) (sym e ∙ f)
+
+  pub number-found : Passed (unbalancedNumber ports frame half) 0 count b → b < count → u ≡ unbalanced ports frame (b * (2 * half)) half → u ≡ true
+      → b ≡ first (unbalancedNumber ports frame half) 0 count
+  unfolding unbalancedNumber
+  number-found p h e f = passed-found p (omega arith) (sym e ∙ f)
+
+-- ---- one block: where the tallies of its halves are apart, its classes are
+module _ (ports start half : ℕ) (frame a b : List ℕ) (ya : Tally ports (runOf ports start half frame) a) (yb : Tally ports (runOf ports (start + half) half frame) b) where
+  far-class : (c : Class) → Of ports c → far a b (place ports c) ≡ not (near 1 (cells c ports (runOf ports start half frame)) (cells c ports (runOf ports (start + half) half frame)))
+  unfolding far
+  far-class c of = rw (ya .each c of, yb .each c of)
+
+  class-far : (c : Class) → Of ports c → far a b (place ports c) ≡ true → true ≡ unbalanced ports frame start half
+  class-far c of e = sym (unbalanced-yes ports frame start half c of (not-true _ (sym (far-class c of) ∙ e)))
+
+  pub pair-far : (x : ℕ) → x ≡ first (far a b) 0 (ports * ports) → x < ports * ports → true ≡ unbalanced ports frame start half
+  pair-far x e h =
+      let f = first-found (far a b) (ports * ports) 0 (omega arith) in
+      let d = div-add-mod' x ports in
+      class-far (pair (x / ports) (x % ports)) (position-of ports (λ c. true) x h) (ap (far a b) (d ∙ e) ∙ f)
+
+  pub input-far : (x : ℕ) → x ≡ first (far a b) 256 ports → x < 256 + ports → true ≡ unbalanced ports frame start half
+  input-far x e h =
+      let f = first-found (far a b) ports 256 (omega arith) in
+      let l = first-low (far a b) ports 256 in
+      let i = x - 256 in
+      let d : 256 + i ≡ x = omega arith in
+      class-far (input i) (omega arith) (ap (far a b) (d ∙ e) ∙ f)
+
+  pub output-far : (x : ℕ) → x ≡ first (far a b) 272 ports → x < 272 + ports → true ≡ unbalanced ports frame start half
+  output-far x e h =
+      let f = first-found (far a b) ports 272 (omega arith) in
+      let l = first-low (far a b) ports 272 in
+      let i = x - 272 in
+      let d : 272 + i ≡ x = omega arith in
+      class-far (output i) (omega arith) (ap (far a b) (d ∙ e) ∙ f)
+
+  pub none-far : (x y z : ℕ) → x ≡ first (far a b) 0 (ports * ports) → y ≡ first (far a b) 256 ports → z ≡ first (far a b) 272 ports
+      → ports * ports ≤ x → 256 + ports ≤ y → 272 + ports ≤ z → false ≡ unbalanced ports frame start half
+  none-far x y z ex ey ez hx hy hz = sym (unbalanced-no ports frame start half (λ c of. not-false _ (sym (far-class c of) ∙ near-at c of)))
+    where
+      near-at : (c : Class) → Of ports c → far a b (place ports c) ≡ false
+      near-at (pair i o) of = first-before (far a b) (ports * ports) 0 (i * ports + o) (omega arith) (omega (arith, digits-lt {q = i} {m = ports} {r = o} {c = ports} (of .0) (of .1)))
+      near-at (input i) of = first-before (far a b) ports 256 (256 + i) (omega arith) (omega arith)
+      near-at (output o) of = first-before (far a b) ports 272 (272 + o) (omega arith) (omega arith)
+
+pub square-fits : {ports : ℕ} → Switch ports → Fits w64 (ports * ports)
+square-fits {ports} s = record { fits = (let k : ports * ports ≤ 16 * 16 = mul-le-mul (s .high) (s .high) in omega arith) }
+
+pub square-most : {ports : ℕ} → Switch ports → 0 + ports * ports ≤ 288
+square-most {ports} s = let k : ports * ports ≤ 16 * 16 = mul-le-mul (s .high) (s .high) in omega arith
+
+-- ---- depths
+pub record Depths (ports slots k : ℕ) (frame : List ℕ) (t count half : ℕ) : Type 0 where
+  pub most : t ≤ k
+  pub number : count ≡ 2 ^ t
+  pub size : half ≡ slots / 2 ^ suc t
+  pub passed : Passed (unbalancedAt ports slots frame) 0 k t
+
+pub depths-start : (ports slots k : ℕ) (frame : List ℕ) → Depths ports slots k frame 0 1 (slots / 2)
+depths-start ports slots k frame = record { most = omega arith; number = refl; size = refl; passed = passed-start (unbalancedAt ports slots frame) 0 k }
+
+module _ (ports slots k t count half : ℕ) (frame : List ℕ) (e : k ≡ levels slots) (l : k < 11) (d : Depths ports slots k frame t count half) (h : t < k) where
+  power : slots ≡ 2 ^ k
+  power = rw e (levels-power slots (omega arith))
+
+  pub blocks-room : count * (2 * half) ≤ slots
+  blocks-room =
+      let a = depth-half k t h in
+      let b = depth-fill k t (omega arith) in
+      let c : 2 * half ≡ 2 ^ k / 2 ^ t = ap (λ z. 2 * z) (d .size ∙ ap (λ z. z / 2 ^ suc t) power) ∙ a in
+      omega (arith, ap (λ z. z * (2 * half)) (d .number), ap (λ z. 2 ^ t * z) c, power)
+
+  slots-low : slots ≤ 1024
+  slots-low = rw power (pow-le-pow-right (omega arith) {j = 10} (omega arith))
+
+  pub size-fits : Fits w64 (2 * half)
+  size-fits = record { fits = (let r = blocks-room in let q = slots-low in let n = d .number in let o = pow-pos t in let w = mul-le-mul-right {m = 1} {n = count} (2 * half) (omega arith) in omega arith) }
+
+  pub count-fits : Fits w64 (2 * count)
+  count-fits = record { fits = (let n = d .number in let w : 2 ^ t ≤ 2 ^ 10 = pow-le-pow-right (omega arith) {j = 10} (omega arith) in omega arith) }
+
+  module _ (b : ℕ) (f : b ≡ first (unbalancedNumber ports frame half) 0 count) where
+    at-depth : b ≡ firstAt ports slots frame t
+    at-depth = f ∙ ap (λ z. first (unbalancedNumber ports frame z) 0 count) (d .size) ∙ ap (λ z. first (unbalancedNumber ports frame (slots / 2 ^ suc t)) 0 z) (d .number)
+
+    pub depths-on : count ≤ b → Depths ports slots k frame (t + 1) (2 * count) (half / 2)
+    unfolding unbalancedAt
+    depths-on g =
+        record {
+          most = omega arith;
+          number = ap (λ z. 2 * z) (d .number) ∙ sym (ap (λ z. 2 ^ z) (add-one t) ∙ double t);
+          size = ap (λ z. z / 2) (d .size) ∙ shr-shr slots (suc t) 1 ∙ ap (λ z. slots / 2 ^ z) (omega arith);
+          passed = passed-on (d .passed) (omega arith) (le-ltb (firstAt ports slots frame t) (2 ^ t) (omega (arith, at-depth, d .number)));
+        }
+
+    found-at : b < count → t ≡ first (unbalancedAt ports slots frame) 0 k
+    unfolding unbalancedAt
+    found-at g = passed-found (d .passed) (omega arith) (lt-ltb (firstAt ports slots frame t) (2 ^ t) (omega (arith, at-depth, d .number)))
+
+    pub depths-found : b < count → 104 ∷ (b * (2 * half) + 1) ∷ (2 * half) ∷ [] ≡ report (unbalancedBlock ports slots frame ∷ []) (0 ∷ [])
+    depths-found g =
+        let a = found-at g in
+        let s : 2 * half ≡ slots / 2 ^ t = ap (λ z. 2 * z) (d .size ∙ ap (λ z. z / 2 ^ suc t) power) ∙ depth-half k t h ∙ ap (λ z. z / 2 ^ t) (sym power) in
+        let m : first (unbalancedAt ports slots frame) 0 (levels slots) ≡ t = ap (λ z. first (unbalancedAt ports slots frame) 0 z) (sym e) ∙ sym a in
+        rw (m, lt-ltb t (levels slots) (omega arith), ← s, ← at-depth, add-one)
+
+    pub start-fits : b < count → Fits w64 (b * (2 * half))
+    start-fits g = record { fits = (let r = blocks-room in let q = slots-low in let w = mul-le-mul-right {m = b} {n = count} (2 * half) (omega arith) in omega arith) }
+
+    pub number-fits : b < count → Fits w64 (b * (2 * half) + 1)
+    number-fits g = record { fits = (let r = blocks-room in let q = slots-low in let w = mul-le-mul-right {m = b} {n = count} (2 * half) (omega arith) in omega arith) }
+
+pub depths-none : (ports slots k t count half : ℕ) (frame : List ℕ) → k ≡ levels slots → Depths ports slots k frame t count half → k ≤ t → 0 ∷ [] ≡ report (unbalancedBlock ports slots frame ∷ []) (0 ∷ [])
+depths-none ports slots k t count half frame e d h =
+    let a = passed-done (d .passed) h in
+    let l = d .most in
+    let m : first (unbalancedAt ports slots frame) 0 (levels slots) ≡ t = ap (λ z. first (unbalancedAt ports slots frame) 0 z) (sym e) ∙ sym a in
+    rw (m, le-ltb t (levels slots) (omega arith))

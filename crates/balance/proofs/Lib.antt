@@ -1,0 +1,2 @@
+-- What the functions of the balance rest on.
+pub mod Blocks

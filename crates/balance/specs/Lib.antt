@@ -1,0 +1,2 @@
+-- What the functions of the balance promise.
+pub mod Balance

@@ -1,0 +1,2 @@
+-- What the functions of a tally promise.
+pub mod Tally

@@ -1,0 +1,69 @@
+// Tallies: the cells of each pair, input and output in a run of slots.
+ghost use mathlib.Core.Path.{_≡_};
+ghost use Prim.Native.Nat.{_+_, _≤_, _<_};
+ghost use lib.ListN.{getD, set, replicate};
+ghost use Rattle.model.specs.Frames.{runOf};
+ghost use Rattle.tally.specs.Tally.{Switch, Readable, Room, Adds, ofByte, ofSlot, Tally};
+
+// A byte as a number.
+pub fn wide(byte: u8) -> usize
+    ensures { λ r. ⌜ r ≡ byte ⌝ }
+{
+    byte as usize
+}
+
+// Counts one more at a place of a tally.
+fn add_one(tally: &mut [u16; 288], x: usize)
+    requires { ⌜ (x < 288) × Room 65534 (now tally) ⌝ }
+    ensures { λ _. ⌜ now (tally .exit) ≡ set (now (tally .entry)) x (getD (now (tally .entry)) x 0 + 1) ⌝ }
+{
+    tally[x] = tally[x] + 1;
+}
+
+// Counts a byte of an input: for its pair, its input and its output, if it is not 0.
+fn add_byte(ports: usize, input: usize, byte: usize, tally: &mut [u16; 288])
+    requires { ⌜ Switch ports × (input < ports) × (byte ≤ ports) × Room 65532 (now tally) ⌝ }
+    ensures { λ _. ⌜ Adds ports 1 (ofByte input byte) (now (tally .entry)) (now (tally .exit)) ⌝ }
+{
+    if byte == 0 {
+        return;
+    }
+    let output = byte - 1;
+    add_one(tally, input * ports + output);
+    add_one(tally, 256 + input);
+    add_one(tally, 272 + output);
+}
+
+// Counts a slot.
+fn add_slot(ports: usize, slot: &[u8], tally: &mut [u16; 288])
+    requires { ⌜ Readable ports 1 (now slot) × Room 65000 (now tally) ⌝ }
+    ensures { λ _. ⌜ Adds ports ports (ofSlot ports (now (slot .entry))) (now (tally .entry)) (now (tally .exit)) ⌝ }
+{
+    let mut i: usize = 0;
+    while i < slot.len() {
+        let byte = wide(slot[i]);
+        add_byte(ports, i, byte, tally);
+        i += 1;
+    }
+}
+
+// Counts a run of slots inside the frame, from an empty tally.
+pub fn tally_run(
+    ports: usize,
+    slots: usize,
+    frame: &[u8],
+    start: usize,
+    len: usize,
+    tally: &mut [u16; 288],
+)
+    requires { ⌜ Readable ports slots (now frame) × (start + len ≤ slots) × (now tally ≡ replicate 288 0) ⌝ }
+    ensures { λ _. ⌜ Tally ports (runOf ports start len (now (frame .entry))) (now (tally .exit)) ⌝ }
+{
+    let mut t: usize = 0;
+    while t < len {
+        let from = (start + t) * ports;
+        let end = from + ports;
+        add_slot(ports, &frame[from..end], tally);
+        t += 1;
+    }
+}
