@@ -18,7 +18,7 @@ use Rattle.model.specs.Refusals.{Check, report, levels}
 use Rattle.model.specs.Inspect.{tooLarge, twiceIn, usedTwice, wrongCount, unbalanced, unbalancedNumber, firstAt, unbalancedAt, byteTooLarge, outputTwice, pairCount, unbalancedBlock, inspected}
 use Rattle.model.specs.Build.{buildAccepts, left}
 use Rattle.model.specs.Wire.{Carried, share, Shape, Accurate}
-use Rattle.model.specs.Queue.{Deep}
+use Rattle.model.specs.Queue.{HeldOn}
 use Rattle.model.proofs.Cases.{byBool, byLt, within-yes}
 use Rattle.model.proofs.Searches.{first-found, first-before, first-none}
 use Rattle.model.proofs.Levels.{levels-power, depth-size, depth-half}
@@ -26,7 +26,7 @@ use Rattle.model.proofs.Blocks.{number-block, block-numbered}
 use Rattle.model.proofs.Inspected.{near-yes, position-of, unbalanced-no, balanced-near}
 use Rattle.model.proofs.Demand2.{WellFormed, accepts-is, build-sound}
 use Rattle.model.proofs.Demand3.{Sound, sound-accurate}
-use Rattle.model.proofs.Queues.{sound-deep}
+use Rattle.model.proofs.Queues.{sound-held}
 
 -- ---- a search that finds nothing, and one that finds a place
 abbrev pub None : (ℕ → Bool) → ℕ → Type 0
@@ -312,6 +312,6 @@ pub clean-accurate : (ports k : ℕ) (frames : List Carried) → Every Inspected
 clean-accurate ports k frames clean shape = sound-accurate ports k frames (all-sound frames clean) shape
 
 -- and hold a flow that keeps to its share.
-pub clean-deep : (ports k : ℕ) (frames : List Carried) → Every Inspected frames → Every (Shape ports (2 ^ k)) frames → (c : Class) → Of ports c
-    → Deep c ports k frames (share c 0 frames)
-clean-deep ports k frames clean shape c of = sound-deep ports k frames (all-sound frames clean) shape c of
+pub clean-held : (ports k : ℕ) (frames : List Carried) → Every Inspected frames → Every (Shape ports (2 ^ k)) frames → (c : Class) → Of ports c
+    → HeldOn c ports k frames (share c 0 frames)
+clean-held ports k frames clean shape c of = sound-held ports k frames (all-sound frames clean) shape c of

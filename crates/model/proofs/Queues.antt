@@ -10,7 +10,7 @@ use Rattle.model.specs.Words.{sumTo, Every}
 use Rattle.model.specs.Loads.{Class, Of, load}
 use Rattle.model.specs.Frames.{cells, runOf}
 use Rattle.model.specs.Wire.{Call, Carried, none, chain, wire, inside, share, Shape}
-use Rattle.model.specs.Queue.{waiting, scheduledOn, arrived, Paced, Held, Deep, Buffers, BuffersAtSeams}
+use Rattle.model.specs.Queue.{waiting, scheduledOn, arrived, Paced, Held, HeldOn, Buffers, BuffersAtSeams}
 use Rattle.model.proofs.Sums.{sum-more}
 use Rattle.model.proofs.Cells.{cells-none, cells-run, run-none}
 use Rattle.model.proofs.Demand3.{Sound, Good, good-of, wire-length, share-split, run-accurate, chain-sound}
@@ -130,25 +130,25 @@ module _ (c : Class) (ports k : ℕ) (of : Of ports c) (fs : List Carried) (good
           shares,
         )
 
-  pub deep : Deep c ports k fs (share c 0 fs)
-  deep a arrive paced t h =
+  pub chain-held : HeldOn c ports k fs (share c 0 fs)
+  chain-held a arrive paced t h =
       let s = since arrive (scheduledOn c ports fs) in
       record { after = after a arrive paced (suc t) (s (suc t)) (omega arith); before = before a arrive paced t (s t) h }
 
 -- Frames that are legal and balanced, whoever made them, hold a flow that keeps to its share,
-pub sound-deep : (ports k : ℕ) (fs : List Carried) → Every Sound fs → Every (Shape ports (2 ^ k)) fs → (c : Class) → Of ports c
-    → Deep c ports k fs (share c 0 fs)
-sound-deep ports k fs sound shape c of = deep c ports k of fs (good-of ports (2 ^ k) fs sound shape)
+pub sound-held : (ports k : ℕ) (fs : List Carried) → Every Sound fs → Every (Shape ports (2 ^ k)) fs → (c : Class) → Of ports c
+    → HeldOn c ports k fs (share c 0 fs)
+sound-held ports k fs sound shape c of = chain-held c ports k of fs (good-of ports (2 ^ k) fs sound shape)
 
 -- and one whose load is the same in each of them.
 pub sound-steady : (ports k : ℕ) (fs : List Carried) → Every Sound fs → Every (Shape ports (2 ^ k)) fs → (c : Class) → Of ports c
-    → (m : ℕ) → Every (λ f. load c ports (f .call .matrix) ≡ m) fs → Deep c ports k fs (λ start len. len * m)
+    → (m : ℕ) → Every (λ f. load c ports (f .call .matrix) ≡ m) fs → HeldOn c ports k fs (λ start len. len * m)
 sound-steady ports k fs sound shape c of m same a arrive paced t h =
     let is : (start len : ℕ) → start + len ≤ length fs * 2 ^ k → share c 0 fs start len ≡ len * m
     = λ start len fits.
     let e : inside 0 (0 + length fs * 2 ^ k) start len ≡ len = omega arith in
     omega (arith, share-steady c ports (2 ^ k) m fs shape same 0 start len, ap (λ z. m * z) e) in
-    let law = sound-deep ports k fs sound shape c of a arrive (λ start len fits. omega (arith, paced start len fits, is start len fits)) t h in
+    let law = sound-held ports k fs sound shape c of a arrive (λ start len fits. omega (arith, paced start len fits, is start len fits)) t h in
     record { after = law .after; before = omega (arith, law .before, is t 1 (omega arith)) }
 
 -- How deep a buffer to order, where the flow's load is the same in every frame, and where it changes at seams.
@@ -156,4 +156,4 @@ pub buffers : Buffers
 buffers buffer calls ports k = sound-steady ports k (chain none buffer calls) (chain-sound none buffer calls tt)
 
 pub buffers-at-seams : BuffersAtSeams
-buffers-at-seams buffer calls ports k = sound-deep ports k (chain none buffer calls) (chain-sound none buffer calls tt)
+buffers-at-seams buffer calls ports k = sound-held ports k (chain none buffer calls) (chain-sound none buffer calls tt)

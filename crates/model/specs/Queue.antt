@@ -34,8 +34,8 @@ pub record Held (k a : ℕ) (shareOf : ℕ → ℕ → ℕ) (arrive scheduled : 
   pub before : 3 * 2 ^ k * (waiting arrive scheduled t + arrive t) ≤ 3 * 2 ^ k * a + (2 * k + 1) * 2 ^ k + 3 * shareOf t 1
 
 -- A flow that is paced by its share is held, in every slot of the chain.
-abbrev pub Deep : Class → ℕ → ℕ → List Carried → (ℕ → ℕ → ℕ) → Type 0
-Deep c ports k frames shareOf =
+abbrev pub HeldOn : Class → ℕ → ℕ → List Carried → (ℕ → ℕ → ℕ) → Type 0
+HeldOn c ports k frames shareOf =
     (a : ℕ) (arrive : ℕ → ℕ) → Paced k a (length frames * 2 ^ k) shareOf arrive → (t : ℕ) → t < length frames * 2 ^ k
     → Held k a shareOf arrive (scheduledOn c ports frames) t
 
@@ -45,10 +45,10 @@ abbrev pub Buffers : Type 0
 Buffers =
     (buffer : List ℕ) (calls : List Call) (ports k : ℕ) → Every (Shape ports (2 ^ k)) (chain none buffer calls)
     → (c : Class) → Of ports c → (m : ℕ) → Every (λ f. load c ports (f .call .matrix) ≡ m) (chain none buffer calls)
-    → Deep c ports k (chain none buffer calls) (λ start len. len * m)
+    → HeldOn c ports k (chain none buffer calls) (λ start len. len * m)
 
 -- The same where the flow's load changes at a seam: its share is then demand 3's, each slot counted with its own frame's load.
 abbrev pub BuffersAtSeams : Type 0
 BuffersAtSeams =
     (buffer : List ℕ) (calls : List Call) (ports k : ℕ) → Every (Shape ports (2 ^ k)) (chain none buffer calls)
-    → (c : Class) → Of ports c → Deep c ports k (chain none buffer calls) (share c 0 (chain none buffer calls))
+    → (c : Class) → Of ports c → HeldOn c ports k (chain none buffer calls) (share c 0 (chain none buffer calls))
