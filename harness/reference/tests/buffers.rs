@@ -1,4 +1,4 @@
-//! The table of docs/BUFFERS.md, held to its formula, and the seam at which its bound is reached.
+//! The table of docs/BUFFERS.md, held to its formula; the seam at which its bound is reached, and a frame that breaks it.
 
 use reference::queue::{depth_on, Source};
 use reference::wire::Frame;
@@ -68,4 +68,18 @@ fn seam() {
     };
     let depth = depth_on(&chain, class, Source { from: 1, ahead: 1 });
     assert_eq!(depth.after, 0, "two cells wait, as the bound allows");
+}
+
+#[test]
+fn a_bunched_frame_stands_too_deep() {
+    let bytes = [[1; 8], [0; 8]].concat();
+    let frame = Frame {
+        ports: 1,
+        slots: 16,
+        matrix: vec![8],
+        bytes,
+    };
+    let class = Class::Input { port: 1 };
+    let depth = depth_on(&[frame], class, Source { from: 8, ahead: 1 });
+    assert!(depth.after > 0 && depth.before > 0, "{depth:?}");
 }
