@@ -44,7 +44,7 @@ fn block(
 }
 
 // Loads are not looked at: the rules give bytes for any counts, and Build turns an overload away before.
-pub fn fill(ports: usize, slots: usize, matrix: &[u16], frame: &mut [u8])
+fn fill(ports: usize, slots: usize, matrix: &[u16], frame: &mut [u8])
     requires { ⌜ Fillable ports slots (now matrix) (now frame) ⌝ }
     ensures { λ _. ⌜ now (frame .exit) ≡ frameOf ports (levels slots) (now (matrix .entry)) ⌝ }
 {
