@@ -6,15 +6,23 @@
 #define PORTS 4
 #define SLOTS 4
 
-static const uint16_t matrix[PORTS * PORTS] = {2, 2, 0, 0, 0, 0, 0, 0, 0, 0, 0, 0, 1, 1, 0, 2};
+/* Prints an answer: its text and, of a refusal or a fault, its number and its two values. */
+static void print_answer(const char *call, size_t answer, size_t first, size_t second)
+{
+    printf("%s: %s", call, frame_builder_text(answer));
+    if (answer != FRAME_BUILDER_ACCEPTED)
+        printf(" (%zu: %zu, %zu)", answer, first, second);
+    printf("\n");
+}
 
 /* Prints each slot's part of the frame. */
 static void print_slots(const uint8_t *frame, size_t length)
 {
     for (size_t slot = 1; slot <= SLOTS; slot++) {
         size_t start, size;
-        size_t refused = frame_builder_slot_view(PORTS, SLOTS, frame, length, slot, &start, &size);
-        printf("slot %zu (%zu):", slot, refused);
+        if (frame_builder_slot_view(PORTS, SLOTS, frame, length, slot, &start, &size) != FRAME_BUILDER_ACCEPTED)
+            return;
+        printf("slot %zu:", slot);
         for (size_t byte = 0; byte < size; byte++)
             printf(" %u", frame[start + byte]);
         printf("\n");
@@ -23,17 +31,27 @@ static void print_slots(const uint8_t *frame, size_t length)
 
 int main(void)
 {
+    uint16_t matrix[PORTS * PORTS] = {2, 2, 0, 0, 0, 0, 0, 0, 0, 0, 0, 0, 1, 1, 0, 2};
     uint8_t frame[SLOTS * PORTS];
     size_t first, second, cells;
+
     size_t answer = frame_builder_build(PORTS, SLOTS, matrix, PORTS * PORTS, frame, sizeof frame, &first, &second);
-    printf("build %zu %zu %zu\n", answer, first, second);
+    print_answer("build", answer, first, second);
+    if (answer != FRAME_BUILDER_ACCEPTED)
+        return 1;
     print_slots(frame, sizeof frame);
+
     answer = frame_builder_inspect(PORTS, SLOTS, matrix, PORTS * PORTS, frame, sizeof frame, &first, &second);
-    printf("inspect %zu %zu %zu\n", answer, first, second);
+    print_answer("inspect", answer, first, second);
     answer = frame_builder_count_pair(PORTS, SLOTS, frame, sizeof frame, 4, 4, 4, 2, &cells);
-    printf("count of pair (4, 4), 2 slots from 4: %zu %zu\n", answer, cells);
+    if (answer == FRAME_BUILDER_ACCEPTED)
+        printf("pair (4, 4), 2 slots from slot 4: %zu cells\n", cells);
+
+    matrix[0]++;
+    answer = frame_builder_build(PORTS, SLOTS, matrix, PORTS * PORTS, frame, sizeof frame, &first, &second);
+    print_answer("build with one cell more", answer, first, second);
     frame[0] = 9;
     answer = frame_builder_inspect(PORTS, SLOTS, matrix, PORTS * PORTS, frame, sizeof frame, &first, &second);
-    printf("inspect after damage %zu %zu %zu\n", answer, first, second);
+    print_answer("inspect after damage", answer, first, second);
     return 0;
 }

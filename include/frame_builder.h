@@ -1,73 +1,197 @@
-/* The frame builder of a sixteen-port cell switch: the proved calls, for C and C++.
+/* The frame builder of a sixteen-port cell switch: the proved calls, for C99 and C++11, on x86-64 Linux.
  *
- * Link with target/staticlib/libexports.a, which `rt staticlib exports` writes.
+ * Link with target/staticlib/libexports.a, which `rt staticlib exports` proves and writes. examples/table7.c shows how the calls are used.
  *
- * Ports and slots are numbered from 1. A load matrix has one 16-bit cell count per pair, row by row: all outputs of input 1, then of
- * input 2, and so on. A frame is slots x ports bytes, slot 1 first; within a slot there is one byte per input: the output it sends to, or
- * 0 for idle.
+ * WORDS. Ports and slots are numbered from 1, inputs and outputs separately. A load matrix has one 16-bit cell count per pair, row by row:
+ * all outputs of input 1, then of input 2, and so on. The load of a port is the sum of its row or column. A frame is slots x ports bytes,
+ * slot 1 first; within a slot there is one byte per input: the output it sends to, or 0 for idle. A slice is a pointer and the number of
+ * its elements, two arguments side by side. A lent number is what a pointer to one size_t points to: *first, *second, *start, *size, *cells.
  *
- * Every call takes any numbers and any lengths. It returns 0, or the number of a refusal or a fault; what that carries is written to
- * *first and *second, 0 where there is nothing. A refusal writes nothing else: the frame keeps its bytes.
+ * ANSWERS. Every call takes any numbers and slices of any length, and returns 0, the number of a refusal or, from Inspect, of a fault. It
+ * tries them in the order of its table below and returns the first whose condition holds. It writes its lent numbers whatever it answers:
+ * the values of the answer, and 0 where the answer has none. No call writes to a matrix. No call but Build writes to a frame: an accepted
+ * Build writes every byte of it, a refused one none. All this is proved.
  *
- * A pointer must point to as many elements as its length says; it is not read where the length is 0, but must not be null.
+ * POINTERS. The caller sees to it that
+ * - a slice's pointer points to as many elements as its length says, and a lent number's to one;
+ * - each is aligned as C asks of its type;
+ * - what a call writes overlaps nothing else lent in the same call. So *first and *second are two numbers even where neither is looked at,
+ *   and Build's frame has no byte of the matrix. What a call only reads may overlap: the matrix and Inspect's frame;
+ * - no pointer is null, but for that of a slice of length 0: nothing is read or written there, and the call is refused, since neither a
+ *   matrix nor a frame of any switch is empty.
+ * What a call writes needs no value before. No call keeps a pointer.
+ *
+ * THREADS, SIGNALS, STACK. A call keeps no state, allocates nothing, makes no system call and leaves errno alone. Any number of calls may
+ * run at once, in threads and in signal handlers, as long as what one of them writes is not used by another meanwhile. A call's time is
+ * bounded by its arguments; it waits for nothing. It takes FRAME_BUILDER_STACK_BYTES of stack at most. This paragraph is no part of the
+ * proofs; harness/c/test holds the archive to it.
  */
 #ifndef FRAME_BUILDER_H
 #define FRAME_BUILDER_H
 
+#if !defined(__x86_64__) || !defined(__linux__) || defined(__ILP32__)
+#error "frame_builder.h: the archive is for x86-64 Linux with 64-bit pointers (System V calling convention), and for no other platform"
+#endif
+
 #include <stddef.h>
 #include <stdint.h>
+
+/* The version of the project. It stands in this line alone; whatever else says the version reads it from here. */
+#define FRAME_BUILDER_VERSION "1.0.0"
+
+/* Limits. */
+#define FRAME_BUILDER_MAX_PORTS 16
+#define FRAME_BUILDER_MAX_SLOTS 1024
+#define FRAME_BUILDER_MAX_FRAME_BYTES 16384
+#define FRAME_BUILDER_MAX_PAIR_CELLS 65535
+#define FRAME_BUILDER_MAX_RUN_SLOTS 1000000
+
+/* The most stack that a call takes, its arguments and its return address included. Build takes most of it, the other calls below 2,048. A
+ * thread of PTHREAD_STACK_MIN, 16,384 bytes, has too little for Build. */
+#define FRAME_BUILDER_STACK_BYTES 20480
+
+/* Answers. What each means is its text in frame_builder_text; what it carries is in the tables of the calls. */
+#define FRAME_BUILDER_ACCEPTED 0
+#define FRAME_BUILDER_CLEAN 0 /* Inspect's word for it */
+
+#define FRAME_BUILDER_REFUSED_PORTS 1
+#define FRAME_BUILDER_REFUSED_SLOTS 2
+#define FRAME_BUILDER_REFUSED_MATRIX_LENGTH 3
+#define FRAME_BUILDER_REFUSED_FRAME_LENGTH 4
+#define FRAME_BUILDER_REFUSED_INPUT_LOAD 5
+#define FRAME_BUILDER_REFUSED_OUTPUT_LOAD 6
+#define FRAME_BUILDER_REFUSED_LINE_FORM 7 /* 7 to 10 are the sheet program's; no call returns them */
+#define FRAME_BUILDER_REFUSED_LINE_PORT 8
+#define FRAME_BUILDER_REFUSED_LINE_PAIR 9
+#define FRAME_BUILDER_REFUSED_SHEET_LENGTH 10
+#define FRAME_BUILDER_REFUSED_SLOT_NUMBER 11
+#define FRAME_BUILDER_REFUSED_PORT_NUMBER 12
+#define FRAME_BUILDER_REFUSED_RUN_LENGTH 13
+
+#define FRAME_BUILDER_FAULT_BYTE_TOO_LARGE 101
+#define FRAME_BUILDER_FAULT_OUTPUT_TWICE 102
+#define FRAME_BUILDER_FAULT_PAIR_COUNT 103
+#define FRAME_BUILDER_FAULT_UNBALANCED_BLOCK 104
+
+/* What an answer means, for a message; a fixed text for a number that is no answer. Never null. */
+static inline const char *frame_builder_text(size_t number)
+{
+    switch (number) {
+    case FRAME_BUILDER_ACCEPTED:
+        return "accepted";
+    case FRAME_BUILDER_REFUSED_PORTS:
+        return "ports are not 1 to 16";
+    case FRAME_BUILDER_REFUSED_SLOTS:
+        return "slots are not a power of two from 1 to 1,024";
+    case FRAME_BUILDER_REFUSED_MATRIX_LENGTH:
+        return "the matrix length is not ports x ports";
+    case FRAME_BUILDER_REFUSED_FRAME_LENGTH:
+        return "the frame length is not slots x ports";
+    case FRAME_BUILDER_REFUSED_INPUT_LOAD:
+        return "an input's load is above slots";
+    case FRAME_BUILDER_REFUSED_OUTPUT_LOAD:
+        return "an output's load is above slots";
+    case FRAME_BUILDER_REFUSED_LINE_FORM:
+        return "a line of the sheet breaks the form";
+    case FRAME_BUILDER_REFUSED_LINE_PORT:
+        return "a pair line of the sheet names a port outside 1 to ports";
+    case FRAME_BUILDER_REFUSED_LINE_PAIR:
+        return "a pair line of the sheet names a pair that an earlier line names";
+    case FRAME_BUILDER_REFUSED_SHEET_LENGTH:
+        return "the sheet is longer than 16,384 bytes";
+    case FRAME_BUILDER_REFUSED_SLOT_NUMBER:
+        return "the slot or the start is outside 1 to slots";
+    case FRAME_BUILDER_REFUSED_PORT_NUMBER:
+        return "the port is outside 1 to ports";
+    case FRAME_BUILDER_REFUSED_RUN_LENGTH:
+        return "the run is longer than 1,000,000 slots";
+    case FRAME_BUILDER_FAULT_BYTE_TOO_LARGE:
+        return "a byte of the frame is above ports";
+    case FRAME_BUILDER_FAULT_OUTPUT_TWICE:
+        return "an output is used twice in a slot";
+    case FRAME_BUILDER_FAULT_PAIR_COUNT:
+        return "a pair is in the wrong number of slots";
+    case FRAME_BUILDER_FAULT_UNBALANCED_BLOCK:
+        return "a block of slots is unbalanced";
+    default:
+        return "not a number of the frame builder";
+    }
+}
 
 #ifdef __cplusplus
 extern "C" {
 #endif
 
-/* Limits. */
-#define FRAME_BUILDER_MOST_PORTS 16
-#define FRAME_BUILDER_MOST_SLOTS 1024
-#define FRAME_BUILDER_MOST_FRAME 16384
-#define FRAME_BUILDER_MOST_CELLS 65535
-#define FRAME_BUILDER_MOST_RUN 1000000
+/* In the tables FRAME_BUILDER_ is left out before each name. */
 
-/* Refusals, and what each carries. */
-#define FRAME_BUILDER_ACCEPTED 0
-#define FRAME_BUILDER_PORTS 1         /* ports not 1 to 16 */
-#define FRAME_BUILDER_SLOTS 2         /* slots not a power of two from 1 to 1,024 */
-#define FRAME_BUILDER_MATRIX_LENGTH 3 /* matrix length not ports x ports */
-#define FRAME_BUILDER_FRAME_LENGTH 4  /* frame length not slots x ports */
-#define FRAME_BUILDER_INPUT_LOAD 5    /* an input's load is above slots: the lowest such input, its load */
-#define FRAME_BUILDER_OUTPUT_LOAD 6   /* an output's load is above slots: the lowest such output, its load */
-#define FRAME_BUILDER_LINE_FORM 7     /* of the sheet program only, as are 8 to 10: a line breaks the form */
-#define FRAME_BUILDER_LINE_PORT 8     /* a pair line names a port outside 1 to ports */
-#define FRAME_BUILDER_LINE_PAIR 9     /* a pair line names a pair named on an earlier line */
-#define FRAME_BUILDER_SHEET_LENGTH 10 /* the sheet is longer than 16,384 bytes */
-#define FRAME_BUILDER_SLOT_NUMBER 11  /* slot or start outside 1 to slots */
-#define FRAME_BUILDER_PORT_NUMBER 12  /* port outside 1 to ports */
-#define FRAME_BUILDER_RUN_LENGTH 13   /* run length above 1,000,000 */
-
-/* What Inspect finds, and what each carries. */
-#define FRAME_BUILDER_CLEAN 0
-#define FRAME_BUILDER_BYTE_TOO_LARGE 101   /* a byte above ports: slot, input */
-#define FRAME_BUILDER_OUTPUT_TWICE 102     /* an output used twice in a slot: slot, output */
-#define FRAME_BUILDER_PAIR_COUNT 103       /* a pair in the wrong number of slots: input, output */
-#define FRAME_BUILDER_UNBALANCED_BLOCK 104 /* an unbalanced block: its first slot, its size */
-
-/* Admit: whether the load would be built. Refusals 1, 2, 3, 5, 6. */
+/* Admit: whether Build would accept the load.
+ *
+ *     answer                  *first                   *second
+ *     ACCEPTED                0                        0
+ *     REFUSED_PORTS           0                        0
+ *     REFUSED_SLOTS           0                        0
+ *     REFUSED_MATRIX_LENGTH   0                        0
+ *     REFUSED_INPUT_LOAD      the lowest such input    its load, slots + 1 to 1,048,560
+ *     REFUSED_OUTPUT_LOAD     the lowest such output   its load, slots + 1 to 1,048,560
+ */
 size_t frame_builder_admit(size_t ports, size_t slots, const uint16_t *matrix, size_t matrix_length, size_t *first, size_t *second);
 
-/* Build: fills the frame. Refusals 1, 2, 3, 4, 5, 6. */
+/* Build: fills the frame, every byte of it.
+ *
+ *     answer                  *first                   *second                             frame
+ *     ACCEPTED                0                        0                                   the frame of the load
+ *     REFUSED_PORTS           0                        0                                   as it was
+ *     REFUSED_SLOTS           0                        0                                   as it was
+ *     REFUSED_MATRIX_LENGTH   0                        0                                   as it was
+ *     REFUSED_FRAME_LENGTH    0                        0                                   as it was
+ *     REFUSED_INPUT_LOAD      the lowest such input    its load, slots + 1 to 1,048,560    as it was
+ *     REFUSED_OUTPUT_LOAD     the lowest such output   its load, slots + 1 to 1,048,560    as it was
+ */
 size_t frame_builder_build(size_t ports, size_t slots, const uint16_t *matrix, size_t matrix_length, uint8_t *frame,
                            size_t frame_length, size_t *first, size_t *second);
 
-/* Inspect: a frame from anywhere is clean, or has a first fault. Refusals 1, 2, 3, 4. */
+/* Inspect: whether a frame from anywhere is one of the load, balanced over the slots; if not, its first fault. Each kind of fault is
+ * looked for in the whole frame before the next kind.
+ *
+ *     answer                  *first                   *second
+ *     CLEAN                   0                        0
+ *     REFUSED_PORTS           0                        0
+ *     REFUSED_SLOTS           0                        0
+ *     REFUSED_MATRIX_LENGTH   0                        0
+ *     REFUSED_FRAME_LENGTH    0                        0
+ *     FAULT_BYTE_TOO_LARGE    the slot                 the input                           the lowest such slot, then input
+ *     FAULT_OUTPUT_TWICE      the slot                 the output                          the lowest such slot, then output
+ *     FAULT_PAIR_COUNT        the input                the output                          the first such pair in matrix order
+ *     FAULT_UNBALANCED_BLOCK  the block's first slot   its size in slots                   the largest such block, then the earliest
+ */
 size_t frame_builder_inspect(size_t ports, size_t slots, const uint16_t *matrix, size_t matrix_length, const uint8_t *frame,
                              size_t frame_length, size_t *first, size_t *second);
 
-/* Slot view: the slot's part of the frame begins at frame + *start and has *size bytes; none on refusal. Refusals 1, 2, 4, 11. */
+/* Slot view: which part of the caller's frame is the slot. It begins at frame + *start and has *size bytes.
+ *
+ *     answer                  *start                   *size
+ *     ACCEPTED                (slot - 1) x ports       ports
+ *     REFUSED_PORTS           0                        0
+ *     REFUSED_SLOTS           0                        0
+ *     REFUSED_FRAME_LENGTH    0                        0
+ *     REFUSED_SLOT_NUMBER     0                        0
+ */
 size_t frame_builder_slot_view(size_t ports, size_t slots, const uint8_t *frame, size_t frame_length, size_t slot, size_t *start,
                                size_t *size);
 
-/* Service count: the cells of a pair, an input or an output in a run of the repeating frame, `length` slots from `start` on.
- * Refusals 1, 2, 4, 11, 12, 13. */
+/* Service count: the cells of a pair, of an input or of an output in a run of the frame, `length` slots from slot `start` on; after the
+ * last slot comes slot 1 again. The frame may have any bytes. A pair's cells are the bytes of its input that are its output, an input's
+ * are its bytes that are not 0, an output's are all bytes that are it.
+ *
+ *     answer                  *cells
+ *     ACCEPTED                the cells, 0 to 16,000,000
+ *     REFUSED_PORTS           0
+ *     REFUSED_SLOTS           0
+ *     REFUSED_FRAME_LENGTH    0
+ *     REFUSED_SLOT_NUMBER     0                        the start
+ *     REFUSED_PORT_NUMBER     0                        the input or the output
+ *     REFUSED_RUN_LENGTH      0
+ */
 size_t frame_builder_count_pair(size_t ports, size_t slots, const uint8_t *frame, size_t frame_length, size_t input, size_t output,
                                 size_t start, size_t length, size_t *cells);
 size_t frame_builder_count_input(size_t ports, size_t slots, const uint8_t *frame, size_t frame_length, size_t input, size_t start,

@@ -4,23 +4,37 @@ use frame_builder::{Fault, Refusal};
 
 const HEADER: &str = include_str!("../../../include/frame_builder.h");
 
-/// The number that the header defines for a name.
-fn defined(name: &str) -> Option<usize> {
+/// What the header defines a name as.
+fn text_of(name: &str) -> Option<&str> {
     let mut lines = HEADER.lines().map(str::split_whitespace);
     lines.find_map(|mut words| {
         let named = words.next() == Some("#define")
             && words.next()?.strip_prefix("FRAME_BUILDER_") == Some(name);
-        words.next().filter(|_| named)?.parse().ok()
+        words.next().filter(|_| named)
     })
+}
+
+/// The number that the header defines for a name.
+fn defined(name: &str) -> Option<usize> {
+    text_of(name)?.parse().ok()
+}
+
+#[test]
+fn version() {
+    let quoted = text_of("VERSION").expect("the header has the version");
+    let version = quoted.strip_prefix('"').and_then(|v| v.strip_suffix('"'));
+    let numbers = version.expect("the version is a text").split('.');
+    let numbers: Result<Vec<u32>, _> = numbers.map(str::parse).collect();
+    assert_eq!(numbers.map(|numbers| numbers.len()), Ok(3));
 }
 
 #[test]
 fn limits() {
-    assert_eq!(defined("MOST_PORTS"), Some(frame_builder::MOST_PORTS));
-    assert_eq!(defined("MOST_SLOTS"), Some(frame_builder::MOST_SLOTS));
-    assert_eq!(defined("MOST_FRAME"), Some(frame_builder::MOST_FRAME));
-    assert_eq!(defined("MOST_CELLS"), Some(frame_builder::MOST_CELLS));
-    assert_eq!(defined("MOST_RUN"), Some(frame_builder::MOST_RUN));
+    assert_eq!(defined("MAX_PORTS"), Some(frame_builder::MOST_PORTS));
+    assert_eq!(defined("MAX_SLOTS"), Some(frame_builder::MOST_SLOTS));
+    assert_eq!(defined("MAX_FRAME_BYTES"), Some(frame_builder::MOST_FRAME));
+    assert_eq!(defined("MAX_PAIR_CELLS"), Some(frame_builder::MOST_CELLS));
+    assert_eq!(defined("MAX_RUN_SLOTS"), Some(frame_builder::MOST_RUN));
 }
 
 #[test]
@@ -38,8 +52,17 @@ fn refusals() {
         ("RUN_LENGTH", Refusal::RunLength),
     ];
     for (name, refusal) in refusals {
-        assert_eq!(defined(name), Some(refusal.number()), "{name}");
+        let defined = defined(&format!("REFUSED_{name}"));
+        assert_eq!(defined, Some(refusal.number()), "{name}");
     }
+}
+
+#[test]
+fn refusals_of_the_sheet_program() {
+    assert_eq!(defined("REFUSED_LINE_FORM"), Some(7));
+    assert_eq!(defined("REFUSED_LINE_PORT"), Some(8));
+    assert_eq!(defined("REFUSED_LINE_PAIR"), Some(9));
+    assert_eq!(defined("REFUSED_SHEET_LENGTH"), Some(10));
 }
 
 #[test]
@@ -52,6 +75,7 @@ fn faults() {
         ("UNBALANCED_BLOCK", Fault::UnbalancedBlock { slot, size }),
     ];
     for (name, fault) in faults {
-        assert_eq!(defined(name), Some(fault.number()), "{name}");
+        let defined = defined(&format!("FAULT_{name}"));
+        assert_eq!(defined, Some(fault.number()), "{name}");
     }
 }
