@@ -1,30 +1,31 @@
 /* The frame builder of a sixteen-port cell switch: the proved calls, for C99 and C++11, on x86-64 Linux.
  *
- * Link with target/staticlib/libexports.a, which `rt staticlib exports` proves and writes. examples/table7.c shows how the calls are used.
+ * Link with target/staticlib/libexports.a, which `rt staticlib exports` proves and writes; of the C library it needs memcpy and memset.
+ * examples/table7.c shows how the calls are used.
  *
  * WORDS. Ports and slots are numbered from 1, inputs and outputs separately. A load matrix has one 16-bit cell count per pair, row by row:
  * all outputs of input 1, then of input 2, and so on. The load of a port is the sum of its row or column. A frame is slots x ports bytes,
- * slot 1 first; within a slot there is one byte per input: the output it sends to, or 0 for idle. A slice is a pointer and the number of
- * its elements, two arguments side by side. A lent number is what a pointer to one size_t points to: *first, *second, *start, *size, *cells.
+ * slot 1 first; within a slot there is one byte per input: the output it sends to, or 0 for idle. A slice is a matrix or a frame as a call
+ * is lent it: a pointer, and the number of elements. A lent number is a size_t that a call is lent to write to: *first, *second, *start,
+ * *size, *cells.
  *
- * ANSWERS. Every call takes any numbers and slices of any length, and returns 0, the number of a refusal or, from Inspect, of a fault. It
- * tries them in the order of its table below and returns the first whose condition holds. It writes its lent numbers whatever it answers:
- * the values of the answer, and 0 where the answer has none. No call writes to a matrix. No call but Build writes to a frame: an accepted
- * Build writes every byte of it, a refused one none. All this is proved.
+ * ANSWERS. Every call takes any numbers and slices of any length. It tries its refusals, and Inspect then its faults, in the order of its
+ * table below, and returns the number of the first whose condition holds, or 0 if none does. It writes its lent numbers whatever it
+ * answers: the values of the answer, and 0 where the answer has none. No matrix is ever written, and no frame but Build's: an accepted
+ * Build leaves the load's frame there, every byte of it, and a refused one leaves every byte as it was. All this is proved.
  *
  * POINTERS. The caller sees to it that
  * - a slice's pointer points to as many elements as its length says, and a lent number's to one;
  * - each is aligned as C asks of its type;
  * - what a call writes overlaps nothing else lent in the same call. So *first and *second are two numbers even where neither is looked at,
- *   and Build's frame has no byte of the matrix. What a call only reads may overlap: the matrix and Inspect's frame;
- * - no pointer is null, but for that of a slice of length 0: nothing is read or written there, and the call is refused, since neither a
+ *   and Build's frame has no byte of the matrix. What is only read may overlap, as a matrix and Inspect's frame;
+ * - no pointer is null, but for that of a slice of length 0. Nothing is read or written there, and the call is refused, since neither a
  *   matrix nor a frame of any switch is empty.
  * What a call writes needs no value before. No call keeps a pointer.
  *
- * THREADS, SIGNALS, STACK. A call keeps no state, allocates nothing, makes no system call and leaves errno alone. Any number of calls may
- * run at once, in threads and in signal handlers, as long as what one of them writes is not used by another meanwhile. A call's time is
- * bounded by its arguments; it waits for nothing. It takes FRAME_BUILDER_STACK_BYTES of stack at most. This paragraph is no part of the
- * proofs; harness/c/test holds the archive to it.
+ * THREADS, SIGNALS, STACK. A call keeps no state, allocates nothing, makes no system call, waits for nothing and leaves errno alone. Any
+ * number of calls may run at once, in threads and in signal handlers, as long as nobody else uses meanwhile what one of them writes. A call
+ * takes FRAME_BUILDER_STACK_BYTES of stack at most. This paragraph is no part of the proofs; harness/c/test holds the archive to it.
  */
 #ifndef FRAME_BUILDER_H
 #define FRAME_BUILDER_H
@@ -46,13 +47,13 @@
 #define FRAME_BUILDER_MAX_PAIR_CELLS 65535
 #define FRAME_BUILDER_MAX_RUN_SLOTS 1000000
 
-/* The most stack that a call takes, its arguments and its return address included. Build takes most of it, the other calls below 2,048. A
- * thread of PTHREAD_STACK_MIN, 16,384 bytes, has too little for Build. */
+/* The most stack that a call takes, its arguments and its return address included. Build takes most of it, any other call less than 2,048
+ * bytes. A thread of PTHREAD_STACK_MIN and a signal stack of SIGSTKSZ may be too small for Build. */
 #define FRAME_BUILDER_STACK_BYTES 20480
 
 /* Answers. What each means is its text in frame_builder_text; what it carries is in the tables of the calls. */
 #define FRAME_BUILDER_ACCEPTED 0
-#define FRAME_BUILDER_CLEAN 0 /* Inspect's word for it */
+#define FRAME_BUILDER_CLEAN 0 /* Inspect's name for it */
 
 #define FRAME_BUILDER_REFUSED_PORTS 1
 #define FRAME_BUILDER_REFUSED_SLOTS 2
@@ -124,7 +125,7 @@ extern "C" {
 
 /* In the tables FRAME_BUILDER_ is left out before each name. */
 
-/* Admit: whether Build would accept the load.
+/* Admit: whether Build would accept the load, with a frame of its length.
  *
  *     answer                  *first                   *second
  *     ACCEPTED                0                        0
@@ -150,10 +151,11 @@ size_t frame_builder_admit(size_t ports, size_t slots, const uint16_t *matrix, s
 size_t frame_builder_build(size_t ports, size_t slots, const uint16_t *matrix, size_t matrix_length, uint8_t *frame,
                            size_t frame_length, size_t *first, size_t *second);
 
-/* Inspect: whether a frame from anywhere is one of the load, balanced over the slots; if not, its first fault. Each kind of fault is
- * looked for in the whole frame before the next kind.
+/* Inspect: whether a frame from anywhere is legal for the load and balanced; if not, its first fault. Each kind of fault is looked for in
+ * the whole frame before the next kind. A block is the whole frame, or either half of a block of 2 or more slots; it is unbalanced where
+ * its halves differ by more than one cell of some pair, input or output.
  *
- *     answer                  *first                   *second
+ *     answer                  *first                   *second                             which, of several
  *     CLEAN                   0                        0
  *     REFUSED_PORTS           0                        0
  *     REFUSED_SLOTS           0                        0
@@ -181,15 +183,16 @@ size_t frame_builder_slot_view(size_t ports, size_t slots, const uint8_t *frame,
 
 /* Service count: the cells of a pair, of an input or of an output in a run of the frame, `length` slots from slot `start` on; after the
  * last slot comes slot 1 again. The frame may have any bytes. A pair's cells are the bytes of its input that are its output, an input's
- * are its bytes that are not 0, an output's are all bytes that are it.
+ * are its bytes that are not 0, an output's are all bytes that are it. REFUSED_SLOT_NUMBER is about the start, REFUSED_PORT_NUMBER about
+ * the input and the output.
  *
  *     answer                  *cells
  *     ACCEPTED                the cells, 0 to 16,000,000
  *     REFUSED_PORTS           0
  *     REFUSED_SLOTS           0
  *     REFUSED_FRAME_LENGTH    0
- *     REFUSED_SLOT_NUMBER     0                        the start
- *     REFUSED_PORT_NUMBER     0                        the input or the output
+ *     REFUSED_SLOT_NUMBER     0
+ *     REFUSED_PORT_NUMBER     0
  *     REFUSED_RUN_LENGTH      0
  */
 size_t frame_builder_count_pair(size_t ports, size_t slots, const uint8_t *frame, size_t frame_length, size_t input, size_t output,
