@@ -13,9 +13,22 @@ fn run(command: &mut Command) {
     assert!(output.status.success(), "{command:?} failed:\n{printed}");
 }
 
+/// The harness tests the library of its own checkout, and no installed one.
+fn check_library(top: &Path) {
+    let include = env::var_os("DEP_FRAME_BUILDER_INCLUDE").expect("crate frame_builder names it");
+    let include = PathBuf::from(include);
+    let own = top.join("include");
+    let same = include.canonicalize().ok() == own.canonicalize().ok();
+    let advice = "run cargo in harness/, or set FRAME_BUILDER_NO_PKG_CONFIG=1";
+    assert!(
+        same,
+        "the library of {include:?} is not tested here: {advice}"
+    );
+}
+
 /// Compiles C sources of this harness over the static library; the program's path goes to a variable.
 fn compile(top: &Path, sources: &[&str], options: &[&str], variable: &str) {
-    let archive = env::var_os("DEP_EXPORTS_ARCHIVE").expect("crate frame_builder names it");
+    let archive = env::var_os("DEP_FRAME_BUILDER_ARCHIVE").expect("crate frame_builder names it");
     let folder = PathBuf::from(env::var_os("OUT_DIR").expect("cargo names it"));
     let program = folder.join(variable.to_lowercase());
     let sources = sources.iter().map(|name| top.join("harness/c").join(name));
@@ -32,6 +45,7 @@ fn main() {
     for watched in ["crates", "crates.txt", "include", "harness/c"] {
         println!("cargo:rerun-if-changed={}", top.join(watched).display());
     }
+    check_library(&top);
     run(Command::new("rt")
         .args(["check", "frame"])
         .current_dir(&top));

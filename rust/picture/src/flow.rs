@@ -1,6 +1,7 @@
 //! A pair, an input or an output, and how far it is ahead of its share along a frame.
 
 use crate::frame::Frame;
+use crate::request::ADVICE;
 
 /// Which cells are looked at.
 #[derive(Debug, Clone, Copy, PartialEq, Eq)]
@@ -47,7 +48,8 @@ impl Flow {
         };
         for (name, port) in [("input", input), ("output", output)] {
             if port < 1 || port > ports {
-                return Err(format!("{name} {port}: the frame has ports 1 to {ports}"));
+                let there = format!("the frame has ports 1 to {ports}");
+                return Err(format!("{name} {port}: {there}; {ADVICE}"));
             }
         }
         Ok(())
@@ -175,7 +177,10 @@ mod tests {
             (Flow::Output(17), "output 17"),
         ] {
             let what = Course::of(&frame, flow).unwrap_err();
-            assert_eq!(what, format!("{part}: the frame has ports 1 to 4"));
+            assert_eq!(
+                what,
+                format!("{part}: the frame has ports 1 to 4; {ADVICE}")
+            );
         }
     }
 

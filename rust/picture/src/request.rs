@@ -14,7 +14,8 @@ picture: draws what ./frame prints, as an SVG file on standard output
   ./picture --help                           prints this
 
 Ahead of its share: after t slots, the cells so far less t x m / 2^k, where m is the cells in the whole frame of 2^k slots. The
-line is level from a slot's end to the next one's. On either side of it is the bound of demand 3, (2k + 1)/3 cells.
+line is level from a slot's end to the next one's. On either side of it is the bound, (2k + 1)/3 cells: no flow of a frame that
+./frame prints is farther ahead of its share, or behind, in any run of slots.
 
 Examples:
 
@@ -24,6 +25,9 @@ Examples:
 A refused sheet, a text of another form, a port that the frame does not have, or an unknown word is an error: a line on standard
 error, exit code 2, nothing on standard output.
 ";
+
+/// The end of each sentence about a wrong use.
+pub const ADVICE: &str = "./picture --help says more";
 
 /// A picture that is asked for.
 #[derive(Debug, Clone, Copy, PartialEq, Eq)]
@@ -41,22 +45,32 @@ impl Request {
             ["flow", input, output] => Flow::Pair(port(input)?, port(output)?),
             ["input", input] => Flow::Input(port(input)?),
             ["output", output] => Flow::Output(port(output)?),
-            _ => return Err(unknown(&words)),
+            _ => return Err(format!("{}; {ADVICE}", what_is_wrong(&words))),
         };
         Ok(Request::Flow(flow))
     }
 }
 
-fn unknown(words: &[&str]) -> String {
-    let advice = "./picture --help says what there is";
-    if words.is_empty() {
-        return format!("which picture? {advice}");
-    }
-    format!("{:?} is no picture; {advice}", words.join(" "))
+/// Why words that are no request are none.
+fn what_is_wrong(words: &[&str]) -> String {
+    let (form, wrong) = match words {
+        [] => return "which picture? frame, flow, input or output".to_string(),
+        ["flow"] => ("flow I O", "an input and an output are missing"),
+        ["flow", _] => ("flow I O", "an output is missing"),
+        ["input"] => ("input I", "an input is missing"),
+        ["output"] => ("output O", "an output is missing"),
+        ["frame", ..] => ("frame", "there are words too many"),
+        ["flow", ..] => ("flow I O", "there are words too many"),
+        ["input", ..] => ("input I", "there are words too many"),
+        ["output", ..] => ("output O", "there are words too many"),
+        _ => return format!("{:?} is no picture", words.join(" ")),
+    };
+    format!("{wrong}: ./picture {form}")
 }
 
 fn port(word: &str) -> Result<usize, String> {
-    number(word).ok_or_else(|| format!("{word:?} is no port; ports are 1, 2, 3, .."))
+    let why = || format!("{word:?} is no port; ports are 1, 2, 3, ..; {ADVICE}");
+    number(word).ok_or_else(why)
 }
 
 #[cfg(test)]
@@ -81,9 +95,22 @@ mod tests {
         for (line, part) in [
             ("", "which picture?"),
             ("frames", "\"frames\" is no picture"),
-            ("frame 1", "\"frame 1\" is no picture"),
-            ("flow 1", "\"flow 1\" is no picture"),
-            ("flow 1 2 3", "\"flow 1 2 3\" is no picture"),
+            ("frame 1", "there are words too many: ./picture frame;"),
+            (
+                "flow",
+                "an input and an output are missing: ./picture flow I O;",
+            ),
+            ("flow 1", "an output is missing: ./picture flow I O;"),
+            (
+                "flow 1 2 3",
+                "there are words too many: ./picture flow I O;",
+            ),
+            ("input", "an input is missing: ./picture input I;"),
+            ("output", "an output is missing: ./picture output O;"),
+            (
+                "output 1 2",
+                "there are words too many: ./picture output O;",
+            ),
             ("flow 1 x", "\"x\" is no port"),
             ("input -1", "\"-1\" is no port"),
             ("output 01", "\"01\" is no port"),
@@ -91,6 +118,7 @@ mod tests {
         ] {
             let what = read(line).expect_err(line);
             assert!(what.contains(part), "{line}: {what}");
+            assert!(what.ends_with("; ./picture --help says more"), "{what}");
         }
     }
 }

@@ -2,10 +2,10 @@
 
 #![forbid(unsafe_code)]
 
-use std::io::{self, Read, Write};
+use std::io::{self, IsTerminal, Read, Write};
 use std::process::ExitCode;
 
-use picture::{draw, Request, HELP, LONGEST_TEXT};
+use picture::{draw, Request, ADVICE, HELP, LONGEST_TEXT};
 
 fn main() -> ExitCode {
     let words: Vec<String> = std::env::args_os()
@@ -34,7 +34,12 @@ fn answer(words: &[String]) -> Result<(), String> {
 /// Standard input, up to a byte more than a frame's text can have.
 fn read() -> Result<Vec<u8>, String> {
     let mut text = Vec::new();
-    io::stdin()
+    let input = io::stdin();
+    if input.is_terminal() {
+        let why = "what ./frame prints is wanted on standard input";
+        return Err(format!("{why}; {ADVICE}"));
+    }
+    input
         .take(LONGEST_TEXT as u64 + 1)
         .read_to_end(&mut text)
         .map_err(|error| format!("standard input: {error}"))?;

@@ -27,6 +27,7 @@ fn refuses(line: &str, input: &[u8], part: &str) {
     assert_eq!(output.status.code(), Some(2), "{line}: {what}");
     assert!(output.stdout.is_empty(), "{line}: {what}");
     assert!(what.starts_with("picture: "), "{line}: {what}");
+    assert!(what.contains(" --help says "), "{line}: {what}");
     assert!(what.contains(part), "{line}: {what}");
     assert_eq!(what.lines().count(), 1, "{line}: {what}");
 }
@@ -55,6 +56,7 @@ fn help_goes_to_standard_output() {
 fn refusals_go_to_standard_error() {
     let table7 = TABLE7.as_bytes();
     refuses("", table7, "which picture?");
+    refuses("flow", table7, "an input and an output are missing");
     refuses("films", table7, "\"films\" is no picture");
     refuses("--help frame", table7, "\"--help frame\" is no picture");
     refuses("flow 4 x", table7, "\"x\" is no port");
@@ -68,4 +70,6 @@ fn refusals_go_to_standard_error() {
     refuses("frame", b"", "line 1: the text ends before the frame does");
     refuses("frame", &table7[..60], "line 3: ");
     refuses("frame", &[0xff; 1_000_000], "line 1: ");
+    let sheet = b"(ports 4)\n(slots 4)\n";
+    refuses("frame", sheet, "(frame (ports P) (slots N)) expected");
 }

@@ -1,5 +1,11 @@
 //! The proved frame builder of a sixteen-port cell switch.
 //!
+//! Sound and picture houses reserve so many cells per frame from an input to an output of a cell switch. The frame builder lays the
+//! reserved cells into a frame of slots, so evenly that a line card's few cells of buffer never overrun. It is written in Rattle and
+//! every answer of it is proved; this crate has its calls on slices, and needs no other crate.
+//!
+//! # Words, units, numbers
+//!
 //! A switch has 1 to 16 **ports**. Each port is an *input*, where cells come in, and an *output*, where they leave; both are
 //! numbered from 1. Time is cut into **slots**, also numbered from 1: in one slot an input sends at most one cell, and an output
 //! takes at most one.
@@ -14,16 +20,27 @@
 //! A frame is **balanced** if the cells of every pair, input and output are spread evenly: a frame of two or more slots has two
 //! halves, which differ by at most one cell, each half is split again, and so on down to the slots.
 //!
-//! Every call takes any numbers and slices of any length, and none panics. One that cannot be answered is turned away with a
-//! [`Refusal`], and what it was lent is as it was.
+//! # Calls
 //!
-//! | call | what it does |
+//! | call | what it does | refusals |
+//! |---|---|---|
+//! | [`admit`] | says whether a load would be built | 1, 2, 3, 5, 6 |
+//! | [`build`] | fills a frame | 1, 2, 3, 4, 5, 6 |
+//! | [`inspect`] | looks over a frame that came from anywhere | 1, 2, 3, 4 |
+//! | [`slot_view`] | shows a slot's part of a frame | 1, 2, 4, 11 |
+//! | [`service_count`] | counts the cells that a pair, an input or an output gets in a run of slots | 1, 2, 4, 11, 12, 13 |
+//!
+//! Every call takes any numbers and slices of any length, and none panics. One that cannot be answered is turned away with a
+//! [`Refusal`], the first in the table's order that holds. **A refusal leaves everything as it was**: above all, a refused [`build`]
+//! leaves every byte of the frame, so that the switch can go on with it.
+//!
+//! | limit | |
 //! |---|---|
-//! | [`admit`] | says whether a load would be built |
-//! | [`build`] | fills a frame |
-//! | [`inspect`] | looks over a frame that came from anywhere |
-//! | [`slot_view`] | shows a slot's part of a frame |
-//! | [`service_count`] | counts the cells that a pair, an input or an output gets in a run of slots |
+//! | ports | 1 to 16, [`MAX_PORTS`] |
+//! | slots of a frame | a power of two from 1 to 1,024, [`MAX_SLOTS`] |
+//! | bytes of a frame | slots × ports, up to 16,384, [`MAX_FRAME_BYTES`] |
+//! | cells of a pair in the matrix | 0 to 65,535, [`MAX_PAIR_CELLS`] |
+//! | slots of a run | 0 to 1,000,000, [`MAX_RUN_SLOTS`] |
 //!
 //! # Example
 //!
@@ -61,15 +78,34 @@
 //! assert_eq!(service_count(ports, slots, &frame, pair, 4, 2)?, 2);
 //!
 //! // Five cells from input 3 do not fit four slots, and the frame stays as it is.
+//! let before = frame;
 //! let mut overloaded = matrix;
 //! overloaded[8] = 5;
 //! let refusal = Refusal::InputLoad { port: 3, cells: 5 };
 //! assert_eq!(build(ports, slots, &overloaded, &mut frame), Err(refusal));
 //! assert_eq!(refusal.number(), 5);
-//! assert_eq!(refusal.to_string(), "input 3 has 5 cells, more than slots");
+//! assert_eq!(refusal.to_string(), "input 3 is asked for 5 cells, more than the frame has slots");
+//! assert_eq!(frame, before);
 //! # Ok(())
 //! # }
 //! ```
+//!
+//! # Where the library comes from
+//!
+//! The calls are in a static library for x86-64 Linux, which the crate's build script looks for in this order:
+//!
+//! 1. The folder that the environment variable `FRAME_BUILDER_PREFIX` names, where `./install --prefix DIR` in a checkout of the
+//!    frame builder has put it: `DIR/lib/libframe_builder.a` and `DIR/include/frame_builder.h`.
+//! 2. pkg-config, for the package `frame_builder`. `PKG_CONFIG` names another command; where that is not installed, or
+//!    `FRAME_BUILDER_NO_PKG_CONFIG` or `FRAME_BUILDER_SOURCE` is set, this way is skipped.
+//! 3. `rt staticlib exports`, which proves it and writes it, in the checkout that `FRAME_BUILDER_SOURCE` names, or in the one that
+//!    the crate stands in. It needs the Rattle kit.
+//!
+//! A variable that is set and leads to no library is an error, as is an installed one that is not whole: nothing else is taken in its
+//! place. An empty variable is as one that is not set. Where no way leads to a library, the error says why each of them did not.
+//!
+//! A crate that depends on this one directly has in its own build script `DEP_FRAME_BUILDER_ARCHIVE`, the archive,
+//! `DEP_FRAME_BUILDER_INCLUDE`, the folder of the C header, and `DEP_FRAME_BUILDER_VERSION`.
 
 #![deny(unsafe_code)]
 #![warn(missing_docs)]
@@ -79,40 +115,34 @@ mod exported;
 mod inspection;
 mod numbers;
 mod refusal;
+mod who;
 
 pub use inspection::{Fault, Inspection};
 pub use refusal::Refusal;
+pub use who::Who;
+
+/// The version of the library that is linked, as its header or pkg-config has it.
+///
+/// ```
+/// println!("frame builder {}", frame_builder::VERSION);
+/// # assert!(!frame_builder::VERSION.is_empty());
+/// ```
+pub const VERSION: &str = env!("FRAME_BUILDER_VERSION");
 
 /// The most ports of a switch.
-pub const MOST_PORTS: usize = 16;
+pub const MAX_PORTS: usize = 16;
 
 /// The most slots of a frame.
-pub const MOST_SLOTS: usize = 1_024;
+pub const MAX_SLOTS: usize = 1_024;
 
 /// The most bytes of a frame.
-pub const MOST_FRAME: usize = MOST_SLOTS * MOST_PORTS;
+pub const MAX_FRAME_BYTES: usize = MAX_SLOTS * MAX_PORTS;
 
 /// The most cells that a matrix can ask for a pair.
-pub const MOST_CELLS: usize = 65_535;
+pub const MAX_PAIR_CELLS: usize = 65_535;
 
 /// The most slots of a run that [`service_count`] counts.
-pub const MOST_RUN: usize = 1_000_000;
-
-/// Whose cells [`service_count`] counts.
-#[derive(Clone, Copy, Debug, PartialEq, Eq, Hash)]
-pub enum Who {
-    /// The cells from one input to one output.
-    Pair {
-        /// The input they come from.
-        input: usize,
-        /// The output they go to.
-        output: usize,
-    },
-    /// All cells from this input.
-    Input(usize),
-    /// All cells to this output.
-    Output(usize),
-}
+pub const MAX_RUN_SLOTS: usize = 1_000_000;
 
 /// Says whether a load would be built.
 ///
@@ -177,7 +207,7 @@ pub fn inspect(
     }
 }
 
-/// The slot's part of the frame: the bytes themselves, not a copy.
+/// The slot's part of the frame, one byte per input: the bytes themselves, not a copy.
 ///
 /// # Errors
 ///
@@ -202,6 +232,9 @@ pub fn slot_view(ports: usize, slots: usize, frame: &[u8], slot: usize) -> Resul
 
 /// Counts the cells of a pair, an input or an output in a run of the repeating frame, `length` slots from slot `start` on.
 ///
+/// The frame may have any bytes: for a pair, those of the input that are the output's number are counted, for an input, its bytes
+/// that are not 0, for an output, all bytes that are its number. After the last slot comes slot 1 again.
+///
 /// # Errors
 ///
 /// Refusals 1, 2, 4, 11, 12 and 13, the first of them that holds.
@@ -209,9 +242,15 @@ pub fn slot_view(ports: usize, slots: usize, frame: &[u8], slot: usize) -> Resul
 /// ```
 /// use frame_builder::{service_count, Refusal, Who};
 ///
+/// // In slot 1 input 1 sends to output 1 and input 2 to output 2, in slot 2 input 2 to output 1.
 /// let frame = [1, 2, 0, 1];
+/// // Slots 2, 1, 2.
+/// let pair = Who::Pair { input: 2, output: 1 };
+/// assert_eq!(service_count(2, 2, &frame, pair, 2, 3), Ok(2));
+/// assert_eq!(service_count(2, 2, &frame, Who::Input(1), 2, 3), Ok(1));
 /// assert_eq!(service_count(2, 2, &frame, Who::Output(1), 2, 3), Ok(3));
 /// assert_eq!(service_count(2, 2, &frame, Who::Input(3), 2, 3), Err(Refusal::PortNumber));
+/// assert_eq!(service_count(2, 2, &frame, Who::Input(1), 1, 1_000_001), Err(Refusal::RunLength));
 /// ```
 pub fn service_count(
     ports: usize,
@@ -224,3 +263,8 @@ pub fn service_count(
     let given = exported::service_count(ports, slots, frame, who, start, length);
     given.answer().map(|()| given.first)
 }
+
+/// The example of the README is run too.
+#[cfg(doctest)]
+#[doc = include_str!("../README.md")]
+struct Readme;

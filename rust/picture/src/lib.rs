@@ -18,7 +18,7 @@ pub use chart::draw_flow;
 pub use flow::{Course, Flow};
 pub use frame::{Fault, Frame, LONGEST_TEXT};
 pub use grid::draw_frame;
-pub use request::{Request, HELP};
+pub use request::{Request, ADVICE, HELP};
 
 /// The picture that is asked for of the text that the sheet program printed.
 pub fn draw(picture: &Request, text: &[u8]) -> Result<String, String> {

@@ -2,6 +2,8 @@
 
 use std::fmt;
 
+use crate::request::ADVICE;
+
 const MOST_PORTS: usize = 16;
 const MOST_SLOTS: usize = 1_024;
 
@@ -15,16 +17,26 @@ pub struct Frame {
     bytes: Vec<u8>,
 }
 
-/// What is wrong with a text, and on which line.
+/// Why a text is no frame's.
 #[derive(Debug, PartialEq, Eq)]
-pub struct Fault {
-    pub line: usize,
-    pub what: String,
+pub enum Fault {
+    /// It is the refusal of a sheet.
+    Refused(String),
+    /// What is wrong with it, and on which line.
+    Form { line: usize, what: String },
 }
 
 impl fmt::Display for Fault {
     fn fmt(&self, out: &mut fmt::Formatter) -> fmt::Result {
-        write!(out, "line {}: {}", self.line, self.what)
+        match self {
+            Fault::Refused(line) => {
+                write!(
+                    out,
+                    "the sheet was refused: {line}; ./frame --help says why"
+                )
+            }
+            Fault::Form { line, what } => write!(out, "line {line}: {what}; {ADVICE}"),
+        }
     }
 }
 
@@ -35,7 +47,11 @@ impl Frame {
             return Err(fault(1, "the text is longer than that of any frame"));
         }
         let mut lines = text.split_inclusive(|&byte| byte == b'\n');
-        let (ports, slots) = on_line(1, line_of(lines.next()).and_then(read_head))?;
+        let head = on_line(1, line_of(lines.next()))?;
+        if head.starts_with("(refused ") {
+            return Err(Fault::Refused(shown(head)));
+        }
+        let (ports, slots) = on_line(1, read_head(head))?;
         let mut bytes = Vec::with_capacity(ports * slots);
         for slot in 1..=slots {
             let row = line_of(lines.next()).and_then(|line| read_slot(line, slot, ports));
@@ -63,11 +79,11 @@ impl Frame {
 
 fn fault(line: usize, what: &str) -> Fault {
     let what = what.to_string();
-    Fault { line, what }
+    Fault::Form { line, what }
 }
 
 fn on_line<T>(line: usize, read: Result<T, String>) -> Result<T, Fault> {
-    read.map_err(|what| Fault { line, what })
+    read.map_err(|what| Fault::Form { line, what })
 }
 
 /// A line without its line feed.
@@ -79,9 +95,6 @@ fn line_of(bytes: Option<&[u8]>) -> Result<&str, String> {
 
 /// The ports and slots of a frame's first line.
 fn read_head(line: &str) -> Result<(usize, usize), String> {
-    if line.starts_with("(refused ") {
-        return Err(format!("the sheet was refused: {}", shown(line)));
-    }
     let numbers = line
         .strip_prefix("(frame (ports ")
         .and_then(|rest| rest.strip_suffix("))"))
@@ -171,9 +184,15 @@ mod tests {
 
     const TABLE7: &str = include_str!("../../../examples/table7.answer");
 
+    fn form(fault: Fault) -> (usize, String) {
+        match fault {
+            Fault::Form { line, what } => (line, what),
+            refused => panic!("{refused}"),
+        }
+    }
+
     fn what_of(text: &str) -> (usize, String) {
-        let fault = Frame::read(text.as_bytes()).expect_err(text);
-        (fault.line, fault.what)
+        form(Frame::read(text.as_bytes()).expect_err(text))
     }
 
     #[test]
@@ -193,11 +212,10 @@ mod tests {
 
     #[test]
     fn a_refused_sheet_is_named() {
-        let (line, what) = what_of("(refused 5 (port 1) (cells 5))\n");
-        assert_eq!(line, 1);
+        let fault = Frame::read(b"(refused 5 (port 1) (cells 5))\n").unwrap_err();
         assert_eq!(
-            what,
-            "the sheet was refused: \"(refused 5 (port 1) (cells 5))\""
+            fault.to_string(),
+            "the sheet was refused: \"(refused 5 (port 1) (cells 5))\"; ./frame --help says why"
         );
     }
 
@@ -249,9 +267,10 @@ mod tests {
     #[test]
     fn bytes_that_are_no_text_are_a_fault() {
         let fault = Frame::read(b"\xff\xfe\n").unwrap_err();
-        assert_eq!(fault.to_string(), "line 1: not text");
+        assert_eq!(fault.to_string(), format!("line 1: not text; {ADVICE}"));
         let long = vec![b'('; LONGEST_TEXT + 1];
-        assert!(Frame::read(&long).unwrap_err().what.contains("longer"));
+        let (_, what) = form(Frame::read(&long).unwrap_err());
+        assert!(what.contains("longer"));
     }
 
     #[test]
@@ -260,8 +279,8 @@ mod tests {
         for length in 0..whole.len() {
             let beginning = &whole[..length];
             let line_feeds = beginning.iter().filter(|&&byte| byte == b'\n').count();
-            let fault = Frame::read(beginning).unwrap_err();
-            assert_eq!(fault.line, line_feeds + 1);
+            let (line, _) = form(Frame::read(beginning).unwrap_err());
+            assert_eq!(line, line_feeds + 1);
         }
     }
 

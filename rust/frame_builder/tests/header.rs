@@ -1,11 +1,11 @@
-//! The crate and the C header name the same numbers.
+//! The crate and the C header of the library that it is linked with name the same numbers.
 
-use frame_builder::{Fault, Refusal};
+use frame_builder::{Fault, Inspection, Refusal};
 
-const HEADER: &str = include_str!("../../../include/frame_builder.h");
+const HEADER: &str = include_str!(env!("FRAME_BUILDER_HEADER"));
 
-/// What the header defines a name as.
-fn text_of(name: &str) -> Option<&str> {
+/// What the header defines for a name.
+fn text(name: &str) -> Option<&'static str> {
     let mut lines = HEADER.lines().map(str::split_whitespace);
     lines.find_map(|mut words| {
         let named = words.next() == Some("#define")
@@ -14,27 +14,29 @@ fn text_of(name: &str) -> Option<&str> {
     })
 }
 
-/// The number that the header defines for a name.
-fn defined(name: &str) -> Option<usize> {
-    text_of(name)?.parse().ok()
+fn number(name: &str) -> Option<usize> {
+    text(name)?.parse().ok()
 }
 
 #[test]
 fn version() {
-    let quoted = text_of("VERSION").expect("the header has the version");
-    let version = quoted.strip_prefix('"').and_then(|v| v.strip_suffix('"'));
-    let numbers = version.expect("the version is a text").split('.');
-    let numbers: Result<Vec<u32>, _> = numbers.map(str::parse).collect();
-    assert_eq!(numbers.map(|numbers| numbers.len()), Ok(3));
+    let quoted = format!("\"{}\"", frame_builder::VERSION);
+    assert_eq!(text("VERSION"), Some(quoted.as_str()));
 }
 
 #[test]
 fn limits() {
-    assert_eq!(defined("MAX_PORTS"), Some(frame_builder::MOST_PORTS));
-    assert_eq!(defined("MAX_SLOTS"), Some(frame_builder::MOST_SLOTS));
-    assert_eq!(defined("MAX_FRAME_BYTES"), Some(frame_builder::MOST_FRAME));
-    assert_eq!(defined("MAX_PAIR_CELLS"), Some(frame_builder::MOST_CELLS));
-    assert_eq!(defined("MAX_RUN_SLOTS"), Some(frame_builder::MOST_RUN));
+    assert_eq!(number("MAX_PORTS"), Some(frame_builder::MAX_PORTS));
+    assert_eq!(number("MAX_SLOTS"), Some(frame_builder::MAX_SLOTS));
+    assert_eq!(
+        number("MAX_FRAME_BYTES"),
+        Some(frame_builder::MAX_FRAME_BYTES)
+    );
+    assert_eq!(
+        number("MAX_PAIR_CELLS"),
+        Some(frame_builder::MAX_PAIR_CELLS)
+    );
+    assert_eq!(number("MAX_RUN_SLOTS"), Some(frame_builder::MAX_RUN_SLOTS));
 }
 
 #[test]
@@ -52,17 +54,17 @@ fn refusals() {
         ("RUN_LENGTH", Refusal::RunLength),
     ];
     for (name, refusal) in refusals {
-        let defined = defined(&format!("REFUSED_{name}"));
+        let defined = number(&format!("REFUSED_{name}"));
         assert_eq!(defined, Some(refusal.number()), "{name}");
     }
 }
 
 #[test]
 fn refusals_of_the_sheet_program() {
-    assert_eq!(defined("REFUSED_LINE_FORM"), Some(7));
-    assert_eq!(defined("REFUSED_LINE_PORT"), Some(8));
-    assert_eq!(defined("REFUSED_LINE_PAIR"), Some(9));
-    assert_eq!(defined("REFUSED_SHEET_LENGTH"), Some(10));
+    assert_eq!(number("REFUSED_LINE_FORM"), Some(7));
+    assert_eq!(number("REFUSED_LINE_PORT"), Some(8));
+    assert_eq!(number("REFUSED_LINE_PAIR"), Some(9));
+    assert_eq!(number("REFUSED_SHEET_LENGTH"), Some(10));
 }
 
 #[test]
@@ -75,7 +77,9 @@ fn faults() {
         ("UNBALANCED_BLOCK", Fault::UnbalancedBlock { slot, size }),
     ];
     for (name, fault) in faults {
-        let defined = defined(&format!("FAULT_{name}"));
+        let defined = number(&format!("FAULT_{name}"));
         assert_eq!(defined, Some(fault.number()), "{name}");
+        assert_eq!(Inspection::Faulty(fault).number(), fault.number());
     }
+    assert_eq!(number("CLEAN"), Some(Inspection::Clean.number()));
 }

@@ -61,7 +61,7 @@ impl Plot {
     }
 }
 
-/// Three times the bound of demand 3, in cells.
+/// Three times the bound of any run of a built frame, in cells.
 fn thirds(course: &Course) -> i64 {
     2 * course.halvings() + 1
 }
@@ -108,7 +108,7 @@ fn subtitle(course: &Course) -> String {
 fn draw_legend(page: &mut Page, course: &Course) {
     let base = 80.0;
     let so_far = "cells so far \u{2212} t \u{d7} m / 2^k, after t slots";
-    let bound = "bound of demand 3: \u{b1}(2k + 1)/3 cells";
+    let bound = "bound: \u{b1}(2k + 1)/3 cells";
     let entries = [
         (MARGIN, LINE, so_far),
         (340.0, DASHES, bound),
@@ -188,7 +188,7 @@ fn draw_bound(page: &mut Page, plot: &Plot, (sign, thirds): (&str, i64)) {
     let y = plot.y(cells);
     draw_level(page, y, DASHES);
     let base = if thirds > 0 { y - 7.0 } else { y + 17.0 };
-    let words = format!("bound of demand 3: {sign}(2k + 1)/3 cells = {value}");
+    let words = format!("bound: {sign}(2k + 1)/3 cells = {value}");
     let attributes = "text-anchor=\"end\" fill=\"#b71c1c\"";
     page.text((RIGHT - 6.0, base), attributes, &words);
 }
@@ -250,8 +250,8 @@ mod tests {
         for words in [
             "<title>Pair (4, 4): m = 2 cells in a frame of 2^k = 4 slots (k = 2)</title>",
             "at most +0.5 (after slot 1), at least \u{2212}0.5 (after slot 3)<",
-            "bound of demand 3: +(2k + 1)/3 cells = +5/3 \u{2248} +1.667<",
-            "bound of demand 3: \u{2212}(2k + 1)/3 cells = \u{2212}5/3 \u{2248} \u{2212}1.667<",
+            "bound: +(2k + 1)/3 cells = +5/3 \u{2248} +1.667<",
+            "bound: \u{2212}(2k + 1)/3 cells = \u{2212}5/3 \u{2248} \u{2212}1.667<",
         ] {
             assert!(drawn.contains(words), "{words}");
         }
@@ -263,7 +263,7 @@ mod tests {
     fn a_whole_bound_is_a_whole_number() {
         let text = "(frame (ports 1) (slots 2))\n(slot 1 (1 1))\n(slot 2)\n";
         let drawn = draw_flow(&course(text, Flow::Pair(1, 1)));
-        assert!(drawn.contains("bound of demand 3: +(2k + 1)/3 cells = +1<"));
+        assert!(drawn.contains("bound: +(2k + 1)/3 cells = +1<"));
     }
 
     #[test]

@@ -1,0 +1,93 @@
+//! Why a call is turned away.
+
+use std::error::Error;
+use std::fmt;
+
+/// Why a call was turned away.
+///
+/// Where several reasons hold, the one with the lowest number is given. As text it is a sentence for whoever caused it:
+///
+/// ```
+/// let refusal = frame_builder::Refusal::InputLoad { port: 3, cells: 70 };
+/// assert_eq!(refusal.to_string(), "input 3 is asked for 70 cells, more than the frame has slots");
+/// ```
+#[derive(Clone, Copy, Debug, PartialEq, Eq, Hash)]
+pub enum Refusal {
+    /// 1, caused by whoever sets up the rack: ports are not 1 to [`MAX_PORTS`](crate::MAX_PORTS).
+    Ports,
+    /// 2, caused by whoever sets up the rack: slots are not a power of two from 1 to [`MAX_SLOTS`](crate::MAX_SLOTS).
+    Slots,
+    /// 3, caused by the calling program: the matrix does not have ports × ports counts.
+    MatrixLength,
+    /// 4, caused by the calling program: the frame does not have slots × ports bytes.
+    FrameLength,
+    /// 5, caused by the house that reserves: an input is asked for more cells than the frame has slots.
+    InputLoad {
+        /// The lowest such input.
+        port: usize,
+        /// All the cells that it is asked for.
+        cells: usize,
+    },
+    /// 6, caused by the house that reserves: no input, but an output is asked for more cells than the frame has slots.
+    OutputLoad {
+        /// The lowest such output.
+        port: usize,
+        /// All the cells that it is asked for.
+        cells: usize,
+    },
+    /// 11, caused by whoever asks about a frame: a slot, or the start of a run, is not 1 to slots.
+    SlotNumber,
+    /// 12, caused by whoever asks about a frame: a port is not 1 to ports.
+    PortNumber,
+    /// 13, caused by whoever asks about a frame: a run is longer than [`MAX_RUN_SLOTS`](crate::MAX_RUN_SLOTS) slots.
+    RunLength,
+}
+
+impl Refusal {
+    /// The number that the refusal goes by in every interface of the frame builder.
+    ///
+    /// ```
+    /// assert_eq!(frame_builder::Refusal::FrameLength.number(), 4);
+    /// ```
+    pub const fn number(self) -> usize {
+        match self {
+            Refusal::Ports => 1,
+            Refusal::Slots => 2,
+            Refusal::MatrixLength => 3,
+            Refusal::FrameLength => 4,
+            Refusal::InputLoad { .. } => 5,
+            Refusal::OutputLoad { .. } => 6,
+            Refusal::SlotNumber => 11,
+            Refusal::PortNumber => 12,
+            Refusal::RunLength => 13,
+        }
+    }
+}
+
+impl fmt::Display for Refusal {
+    fn fmt(&self, to: &mut fmt::Formatter<'_>) -> fmt::Result {
+        let above = "more than the frame has slots";
+        match self {
+            Refusal::Ports => write!(to, "the number of ports is not 1 to 16"),
+            Refusal::Slots => {
+                write!(
+                    to,
+                    "the number of slots is not a power of two from 1 to 1,024"
+                )
+            }
+            Refusal::MatrixLength => write!(to, "the matrix's length is not ports × ports"),
+            Refusal::FrameLength => write!(to, "the frame's length is not slots × ports"),
+            Refusal::InputLoad { port, cells } => {
+                write!(to, "input {port} is asked for {cells} cells, {above}")
+            }
+            Refusal::OutputLoad { port, cells } => {
+                write!(to, "output {port} is asked for {cells} cells, {above}")
+            }
+            Refusal::SlotNumber => write!(to, "the slot or start is outside 1 to slots"),
+            Refusal::PortNumber => write!(to, "a port is outside 1 to ports"),
+            Refusal::RunLength => write!(to, "the run is longer than 1,000,000 slots"),
+        }
+    }
+}
+
+impl Error for Refusal {}
