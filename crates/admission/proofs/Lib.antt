@@ -1,4 +1,5 @@
--- What the loops of Admit keep.
+-- What the tests and the loops of Admit rest on.
+pub mod Lengths
 pub mod Searching
 pub mod Adding
 pub mod Deciding

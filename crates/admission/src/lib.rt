@@ -11,9 +11,6 @@ ghost use Rattle.admission.specs.Overloads.{Size, LoadsOf, Lowest, overl
 use model::Answer;
 use model::Refusal;
 
-// What the sum of a row or a column is held in: sixteen counts of 16 bits need 20.
-type Load = u32;
-
 // Not one of 1, 2, .., most: refusals 1, 11 and 12.
 pub fn outside(most: usize, n: usize) -> bool
     ensures { λ r. ⌜ r ≡ not (within 1 most n) ⌝ }
@@ -47,30 +44,21 @@ pub fn bad_slots(slots: usize) -> bool
     levels_of(slots) == 11
 }
 
-// Refusals 3 and 4: a length that is not so many rows of so many columns.
+// Refusals 3 and 4: a length that is not so many rows of so many columns. It is divided, for a product could be too large.
 pub fn bad_length(length: usize, rows: usize, columns: usize) -> bool
-    requires { ⌜ (rows ≤ 1024) × (columns ≤ 16) ⌝ }
     ensures { λ r. ⌜ r ≡ not (eqb length (rows * columns)) ⌝ }
 {
-    length != rows * columns
+    if columns == 0 {
+        return length != 0;
+    }
+    if length % columns != 0 {
+        return true;
+    }
+    length / columns != rows
 }
 
-// A count at the width of a sum.
-fn wide(count: u16) -> Load
-    ensures { λ r. ⌜ (r ≡ count) × (r ≤ 65535) ⌝ }
-{
-    count as Load
-}
-
-// A sum at the width of slots.
-fn cells_of(load: Load) -> usize
-    ensures { λ r. ⌜ r ≡ load ⌝ }
-{
-    load as usize
-}
-
-// Adds a count to the load of a port; the bound is that of 256 counts.
-fn add_to(loads: &mut [Load; 16], port: usize, count: Load)
+// Adds a count to the load of a port: sixteen counts of 16 bits need 20; the bound is that of 256 counts.
+fn add_to(loads: &mut [usize; 16], port: usize, count: usize)
     requires { ⌜ (port < 16) × (length (now loads) ≡ 16) × (getD (now loads) port 0 + count ≤ 16776960) ⌝ }
     ensures { λ _. ⌜ now (loads .exit) ≡ set (now (loads .entry)) port (getD (now (loads .entry)) port 0 + count) ⌝ }
 {
@@ -78,14 +66,14 @@ fn add_to(loads: &mut [Load; 16], port: usize, count: Load)
 }
 
 // Adds each count to the load of its input and to that of its output, in one pass.
-fn add_loads(ports: usize, matrix: &[u16], inputs: &mut [Load; 16], outputs: &mut [Load; 16])
+fn add_loads(ports: usize, matrix: &[u16], inputs: &mut [usize; 16], outputs: &mut [usize; 16])
     requires { ⌜ Size ports (now matrix) ⌝ }
     requires { ⌜ (now inputs ≡ replicate 16 0) × (now outputs ≡ replicate 16 0) ⌝ }
     ensures { λ _. ⌜ LoadsOf input ports (now (matrix .entry)) (now (inputs .exit)) × LoadsOf output ports (now (matrix .entry)) (now (outputs .exit)) ⌝ }
 {
     let mut p: usize = 0;
     while p < matrix.len() {
-        let count = wide(matrix[p]);
+        let count = widths::count(matrix[p]);
         add_to(inputs, p / ports, count);
         add_to(outputs, p % ports, count);
         p += 1;
@@ -93,14 +81,14 @@ fn add_loads(ports: usize, matrix: &[u16], inputs: &mut [Load; 16], outputs: &mu
 }
 
 // The lowest port whose load is above slots; ports where there is none.
-fn lowest_above(ports: usize, slots: usize, loads: &[Load; 16]) -> usize
+fn lowest_above(ports: usize, slots: usize, loads: &[usize; 16]) -> usize
     requires { ⌜ (ports ≤ 16) × (length (now loads) ≡ 16) ⌝ }
     ensures { λ r. ⌜ Lowest ports slots (now (loads .entry)) r ⌝ }
 {
     let mut left = ports;
     while 0 < left {
         let x = ports - left;
-        if slots < cells_of(loads[x]) {
+        if slots < loads[x] {
             return x;
         }
         left -= 1;
@@ -113,21 +101,21 @@ pub fn overload(ports: usize, slots: usize, matrix: &[u16]) -> Answer
     requires { ⌜ Size ports (now matrix) ⌝ }
     ensures { λ r. ⌜ answered r ≡ overloads ports slots (now (matrix .entry)) ⌝ }
 {
-    let mut inputs: [Load; 16] = [0; 16];
-    let mut outputs: [Load; 16] = [0; 16];
+    let mut inputs: [usize; 16] = [0; 16];
+    let mut outputs: [usize; 16] = [0; 16];
     add_loads(ports, matrix, &mut inputs, &mut outputs);
     let i = lowest_above(ports, slots, &inputs);
     if i < ports {
         return Answer::Refused(Refusal::InputLoad {
             port: i + 1,
-            cells: cells_of(inputs[i]),
+            cells: inputs[i],
         });
     }
     let o = lowest_above(ports, slots, &outputs);
     if o < ports {
         return Answer::Refused(Refusal::OutputLoad {
             port: o + 1,
-            cells: cells_of(outputs[o]),
+            cells: outputs[o],
         });
     }
     Answer::Accepted

@@ -12,13 +12,6 @@ ghost use Rattle.balance.specs.Balance.{far};
 use model::Inspection;
 use tally::tally_run;
 
-// A count of a pair at the width of a tally's.
-fn cells_of(tally: u16) -> usize
-    ensures { λ r. ⌜ (r ≡ tally) × (r ≤ 65535) ⌝ }
-{
-    tally as usize
-}
-
 // Two counts differ by more than 1.
 fn apart(a: usize, b: usize) -> bool
     requires { ⌜ (a ≤ 65535) × (b ≤ 65535) ⌝ }
@@ -41,7 +34,7 @@ fn first_far(a: &[u16; 288], b: &[u16; 288], from: usize, count: usize) -> usize
     let end = from + count;
     let mut x = from;
     while x < end {
-        if apart(cells_of(a[x]), cells_of(b[x])) {
+        if apart(widths::count(a[x]), widths::count(b[x])) {
             return x;
         }
         x += 1;

@@ -55,16 +55,11 @@ pub fn admit(ports: usize, slots: usize, matrix: &[u16]) {
     io::write_all(1, b"\n");
 }
 
-// A byte as a number.
-fn wide(byte: u8) -> usize {
-    byte as usize
-}
-
 // Each byte of a part.
 fn bytes(part: &[u8]) {
     let mut q: usize = 0;
     while q < part.len() {
-        number(wide(part[q]));
+        number(widths::byte(part[q]));
         q += 1;
     }
 }

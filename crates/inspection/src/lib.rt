@@ -11,7 +11,6 @@ use balance::unbalanced_block;
 use model::Inspection;
 use model::Refusal;
 use tally::tally_run;
-use tally::wide;
 
 // The place of the first byte above ports; the frame's length where there is none.
 fn first_too_large(ports: usize, frame: &[u8]) -> usize
@@ -19,7 +18,7 @@ fn first_too_large(ports: usize, frame: &[u8]) -> usize
 {
     let mut q: usize = 0;
     while q < frame.len() {
-        if ports < wide(frame[q]) {
+        if ports < widths::byte(frame[q]) {
             return q;
         }
         q += 1;

@@ -128,7 +128,7 @@ fn put_cells(out: &mut [u8], at: usize, slot: &[u8]) -> usize
     let mut i: usize = 0;
     let mut next = at;
     while i < slot.len() {
-        let byte = slot[i] as usize;
+        let byte = widths::byte(slot[i]);
         next = put_cell(out, next, i + 1, byte);
         i += 1;
     }

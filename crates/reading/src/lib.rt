@@ -47,13 +47,6 @@ pub enum Reading {
     Refused(Refusal),
 }
 
-// A byte as a number.
-fn wide(byte: u8) -> usize
-    ensures { λ r. ⌜ r ≡ byte ⌝ }
-{
-    byte as usize
-}
-
 // A count of cells at the width of the matrix.
 fn narrow(cells: usize) -> u16
     requires { ⌜ cells ≤ 65535 ⌝ }
@@ -87,7 +80,7 @@ fn digit(sheet: &[u8], at: usize) -> usize
     if sheet.len() <= at {
         return 10;
     }
-    let byte = wide(sheet[at]);
+    let byte = widths::byte(sheet[at]);
     if byte < 48 {
         return 10;
     }

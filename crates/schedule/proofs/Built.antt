@@ -1,5 +1,5 @@
 -- What Build answers and leaves, refusal by refusal.
-use Prim.Native.Nat.{ℕ, _*_, _≤_}
+use Prim.Native.Nat.{ℕ, _*_}
 use mathlib.Core.Path.{_≡_, sym, ap, _∙_}
 use mathlib.Core.Logic.{_≢_}
 use mathlib.Core.List.{List, [], _∷_}
@@ -16,17 +16,11 @@ use Rattle.model.specs.declared.Refusal.{Refusal}
 use Rattle.model.specs.declared.Answer.{Answer}
 use Rattle.model.specs.declared.Answer.the-variants.{Accepted, Refused}
 use Rattle.model.proofs.Levels.{levels-most}
-use Rattle.model.proofs.Reports.{Refuses, clear-none, clear-some, within-known, slots-known, refusal-number}
+use Rattle.model.proofs.Reports.{Refuses, clear-none, clear-some, within-known, refusal-number}
 use Rattle.admission.specs.Overloads.{Size, overloads}
 use Rattle.schedule.specs.Fill.{Fillable}
 
--- what each test lets pass
-pub ports-most : (ports most : ℕ) {r : Bool} → r ≡ not (within 1 16 ports) → r ≡ false → 16 ≤ most → ports ≤ most
-ports-most ports most e f h = let p : (1 ≤ ports) × (ports ≤ 16) = within-known e f in omega (arith, p .1)
-
-pub slots-most : (slots : ℕ) {s : Bool} → s ≡ eqb (levels slots) 11 → s ≡ false → slots ≤ 1024
-slots-most slots e f = slots-known e f .1
-
+-- what the tests of a length let pass
 pub length-is : {l n : ℕ} {t : Bool} → t ≡ not (eqb l n) → t ≡ false → l ≡ n
 length-is {l} {n} e f = eqb-true l n (not-false (eqb l n) (sym e ∙ f))
 

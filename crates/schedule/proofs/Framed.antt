@@ -14,7 +14,7 @@ use Rattle.model.specs.Rules.{portOf}
 use Rattle.model.specs.Refusals.{levels}
 use Rattle.model.specs.Schedule.{halfOf, slotOf, frameOf}
 use Rattle.model.proofs.Levels.{Halving, levels-one, levels-half}
-use Rattle.split.specs.Steps.{Wide, Tables, Half}
+use Rattle.split.specs.Steps.{Wide, Tables, halved}
 use Rattle.split.proofs.Favoured.{half-of}
 
 -- ---- a block of one slot
@@ -83,13 +83,13 @@ module _ (ports slots : ℕ) (f : List ℕ) (n : slots ≢ 1) (v : levels slots 
       → length (take (length (e ++ drop (slots / 2 * ports) f) - slots / 2 * ports) (drop (slots / 2 * ports) (e ++ drop (slots / 2 * ports) f))) ≡ slots / 2 * ports
   back-is e h = back-length f e (slots / 2 * ports) mid-le h ∙ omega (arith, two-parts)
 
-  pub written : {k : ℕ} {m ins outs a b : List ℕ} (e g : List ℕ) → Tables ports k ins outs → Wide m
-      → length e ≡ length (take (slots / 2 * ports) f) → Half 1 k m ins outs a → Half 2 k m ins outs b
+  pub written : {k : ℕ} {ins outs : List ℕ} (m x y a b e g : List ℕ) → Tables ports k ins outs → Wide m
+      → length e ≡ length (take (slots / 2 * ports) f) → a ≡ halved 1 k m ins outs x → b ≡ halved 2 k m ins outs y
       → e ≡ frameOf ports (levels (slots / 2)) (take k a) → g ≡ frameOf ports (levels (slots / 2)) (take k b)
       → putMid (slots / 2 * ports) (length (e ++ drop (slots / 2 * ports) f) - slots / 2 * ports) (e ++ drop (slots / 2 * ports) f) g ≡ frameOf ports (levels slots) (take k m)
-  written {k} {m} e g t w h ha hb ee eg =
-      let front : e ≡ frameOf ports (levels (slots / 2)) (halfOf (portOf ports) 1 (take k m)) = ee ∙ ap (frameOf ports (levels (slots / 2))) (half-of t w ha) in
-      let back : g ≡ frameOf ports (levels (slots / 2)) (halfOf (portOf ports) 2 (take k m)) = eg ∙ ap (frameOf ports (levels (slots / 2))) (half-of t w hb) in
+  written {k} m x y a b e g t w h ha hb ee eg =
+      let front : e ≡ frameOf ports (levels (slots / 2)) (halfOf (portOf ports) 1 (take k m)) = ee ∙ ap (frameOf ports (levels (slots / 2))) (half-of 1 m x a t w ha) in
+      let back : g ≡ frameOf ports (levels (slots / 2)) (halfOf (portOf ports) 2 (take k m)) = eg ∙ ap (frameOf ports (levels (slots / 2))) (half-of 2 m y b t w hb) in
       both-put f e (slots / 2 * ports) mid-le h g
       ∙ ap₂ _++_ front back
       ∙ frame-more ports (levels (slots / 2)) (take k m)

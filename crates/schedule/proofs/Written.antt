@@ -15,10 +15,10 @@ use Rattle.model.specs.Rules.{inputs, outputs, odd}
 use Rattle.model.specs.Schedule.{put, slotOf}
 use Rattle.model.proofs.Cases.{byBool}
 use Rattle.model.proofs.Partners.{every-map, keep-every}
-use Rattle.split.specs.Steps.{Wide, lookup, Tables, oddsBelow, Gathered}
+use Rattle.split.specs.Steps.{Wide, lookup, Tables, oddsBelow}
 use Rattle.schedule.specs.Steps.{Placed, putBy, PutBy}
 use Rattle.split.proofs.Lists.{at-end, every-get}
-use Rattle.split.proofs.Gathered.{odds-take}
+use Rattle.split.proofs.Gathered.{Gathered, odds-take}
 
 -- ---- clear
 pub record Cleared (s₀ : List ℕ) (i : ℕ) (s : List ℕ) : Type 0 where

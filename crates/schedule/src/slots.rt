@@ -1,6 +1,6 @@
 // Slots: the counts of a block of one slot, as its bytes.
 use split::positions::gather;
-use split::positions::index;
+use widths::byte;
 ghost use mathlib.Core.Path.{_≡_};
 ghost use Prim.Native.Nat.{_≤_};
 ghost use lib.ListN.{length, take, replicate};
@@ -26,8 +26,8 @@ fn put_cells(odds: &[u8; 256], k: usize, ins: &[u8; 256], outs: &[u8; 256], slot
 {
     let mut i: usize = 0;
     while i < k {
-        let p = index(odds[i]);
-        let input = index(ins[p]);
+        let p = byte(odds[i]);
+        let input = byte(ins[p]);
         slot[input] = outs[p] + 1;
         i += 1;
     }

@@ -15,13 +15,6 @@ use model::Refusal;
 use model::Service;
 use model::Who;
 
-// A byte at the width of a port's number.
-fn wide(byte: u8) -> usize
-    ensures { λ r. ⌜ r ≡ byte ⌝ }
-{
-    byte as usize
-}
-
 // The lesser of two numbers.
 fn lesser(a: usize, b: usize) -> usize
     ensures { λ r. ⌜ r ≡ min a b ⌝ }
@@ -84,7 +77,7 @@ fn slot_cells(ports: usize, who: Who, bytes: &[u8]) -> usize
     let mut sum: usize = 0;
     let mut q: usize = 0;
     while q < bytes.len() {
-        sum += counted(who, q % ports, wide(bytes[q]));
+        sum += counted(who, q % ports, widths::byte(bytes[q]));
         q += 1;
     }
     sum

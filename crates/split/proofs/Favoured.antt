@@ -2,12 +2,12 @@
 use Prim.Native.Nat.{ℕ, suc, zero, _-_, _≤_, _<_}
 use mathlib.Core.Path.{_≡_, refl, sym, ap, ap₂, _∙_, subst, fun-ext}
 use mathlib.Core.Logic.{_≢_}
-use mathlib.Core.List.{List, _∷_}
+use mathlib.Core.List.{List, _∷_, _++_}
 use mathlib.Core.Bool.{Bool, true, false}
 use native.Mathlib.Omega.{arith}
 use lib.Dec.{eqb}
-use lib.ListN.{length, getD, set, take, replicate, length-set, length-replicate}
-use lib.Seq.{length-take-le, getD-take, take-set-lt}
+use lib.ListN.{length, getD, set, take, drop, replicate, length-set, length-append, length-drop, length-replicate}
+use lib.Seq.{length-take-le, getD-take, take-set-lt, take-at}
 use borrow.Author.Tests.{eq-eqb, ne-eqb}
 use Rattle.model.specs.Words.{both, upFrom, keep, Every}
 use Rattle.model.specs.Rules.{Side, inputs, outputs, portOf, odd, oddsAt}
@@ -15,10 +15,11 @@ use Rattle.model.specs.Schedule.{partnerIn, partner, walk, tieHalf, settleAt, s
 use Rattle.model.proofs.Cases.{byBool, byEq, byLt}
 use Rattle.model.proofs.Partners.{odd-lt, every-map, keep-every}
 use Rattle.model.proofs.Walks.{zeros, zeros-set, zeros-le, walk-on, walk-off}
-use Rattle.model.proofs.Settled.{partner-pairing}
-use Rattle.split.specs.Steps.{Wide, lookup, tabled, Sides, Tables, oddsBelow, Gathered, portIn, thoseAt, mateAmong, Linked, walked, groupSettled, allSettled, SettledBy, HalvedBy, Half}
+use Rattle.model.proofs.Settled.{partner-pairing, favours-law}
+use Rattle.model.proofs.Splits.{half-length}
+use Rattle.split.specs.Steps.{Wide, lookup, tabled, Sides, Tables, oddsBelow, portIn, thoseAt, mateAmong, Linked, walked, groupSettled, allSettled, SettledBy, halvedBy, halved}
 use Rattle.split.proofs.Lists.{every-kept, keep-same, keep-keep}
-use Rattle.split.proofs.Gathered.{odds-take}
+use Rattle.split.proofs.Gathered.{Gathered, odds-take}
 use Rattle.split.proofs.Walked.{walk-end, walk-length}
 use Rattle.split.proofs.Linked.{Mated, none-at}
 
@@ -162,8 +163,9 @@ module _ {n k : ℕ} {m ins outs odds i o c : List ℕ} (t : Sides n ins outs) (
       ∙ all-take (take n m) i o i′ o′ di do′ (length (take n m)) 0 z wz
       ∙ ap (settle i′ o′ (take n m) (upFrom 0 (length (take n m)))) (take-zeros (length (take n m)) 256 (omega (arith, t .most)))
 
-  pub half-is : {h : ℕ} {half : List ℕ} → HalvedBy h m c n half → Half h n m ins outs half
-  half-is {h} f = record { len = f .len; same = f .same ∙ ap (halfBy h (take n m)) favoured-is }
+  pub half-is : (h : ℕ) (lent half : List ℕ) → half ≡ halvedBy h n m c lent → half ≡ halved h n m ins outs lent
+  unfolding halvedBy halved
+  half-is h lent half f = f ∙ ap (λ z. halfBy h (take n m) z ++ drop n lent) favoured-is
 
 -- ---- ports that are the same at each position of a matrix
 partner-same : (f g : ℕ → ℕ) (m : List ℕ) → ((p : ℕ) → p < length m → f p ≡ g p) → (p : ℕ) → partner f m p ≡ partner g m p
@@ -185,8 +187,19 @@ favours-same f g m e =
     (fun-ext (partner-same (f inputs) (g inputs) m (e inputs))) (fun-ext (partner-same (f outputs) (g outputs) m (e outputs)))
 
 -- the halves that the tables of a matrix give are the matrix's
-pub half-of : {h ports n : ℕ} {m ins outs half : List ℕ} → Tables ports n ins outs → Wide m → Half h n m ins outs half
-    → take n half ≡ halfOf (portOf ports) h (take n m)
-half-of {h} {ports} {n} {m} {ins} {outs} t w f =
-    let len : length (take n m) ≡ n = length-take-le n m (omega (arith, t .most)) in
-    f .same ∙ ap (halfBy h (take n m)) (favours-same (tabled ins outs) (portOf ports) (take n m) (λ s p l. t .has s p (omega arith)))
+module _ (h : ℕ) {ports n : ℕ} {ins outs : List ℕ} (m lent half : List ℕ) (t : Tables ports n ins outs) (w : Wide m) (f : half ≡ halved h n m ins outs lent) where
+  size : length (halfOf (tabled ins outs) h (take n m)) ≡ n
+  size = half-length h (take n m) (favours (tabled ins outs) (take n m)) (favours-law (tabled ins outs) (take n m) .len) ∙ length-take-le n m (omega (arith, t .most))
+
+  pub half-wide : Wide lent → Wide half
+  unfolding halved
+  half-wide l =
+      ap length f ∙ length-append (halfOf (tabled ins outs) h (take n m)) (drop n lent) ∙ omega (arith, size, length-drop n lent, t .most)
+
+  pub half-of : take n half ≡ halfOf (portOf ports) h (take n m)
+  unfolding halved
+  half-of =
+      let len : length (take n m) ≡ n = length-take-le n m (omega (arith, t .most)) in
+      ap (take n) f
+      ∙ take-at (halfOf (tabled ins outs) h (take n m)) (drop n lent) n size
+      ∙ ap (halfBy h (take n m)) (favours-same (tabled ins outs) (portOf ports) (take n m) (λ s p l. t .has s p (omega arith)))

@@ -1,9 +1,9 @@
 -- The steps of a split, as functions of the lists that they are lent.
-use Prim.Native.Nat.{ℕ, _%_, _≤_, _<_}
+use Prim.Native.Nat.{ℕ, _+_, _%_, _≤_, _<_}
 use mathlib.Core.Path.{_≡_}
-use mathlib.Core.List.{List, [], _∷_}
+use mathlib.Core.List.{List, [], _∷_, _++_}
 use lib.Dec.{eqb}
-use lib.ListN.{length, getD, set, take}
+use lib.ListN.{length, getD, set, take, drop}
 use Rattle.model.specs.Words.{if, keep, upFrom, Every}
 use Rattle.model.specs.Rules.{Side, inputs, outputs, portOf, odd}
 use Rattle.model.specs.Schedule.{partnerIn, walk, tieHalf, halfBy, halfOf}
@@ -38,11 +38,9 @@ pub record Tables (ports n : ℕ) (ins outs : List ℕ) : Type 0 where
 abbrev pub oddsBelow : ℕ → List ℕ → List ℕ
 oddsBelow n m = keep (odd m) (upFrom 0 n)
 
--- The first k of a list are the positions of the odd counts among the first n.
-pub record Gathered (counts : List ℕ) (n : ℕ) (odds : List ℕ) (k : ℕ) : Type 0 where
-  pub most : k ≤ n
-  pub len : Wide odds
-  pub same : take k odds ≡ oddsBelow n counts
+-- A list that was lent, with those positions at its front and a 0 behind them, as far as it has room; the rest is as it was.
+unfoldable pub gathered : ℕ → List ℕ → List ℕ → List ℕ
+gathered n m lent = take (length lent) (oddsBelow n m ++ (0 ∷ drop (length (oddsBelow n m) + 1) lent))
 
 -- ---- partners
 -- The port that a table has for a position, as one of 16.
@@ -82,12 +80,11 @@ pub record SettledBy (i o odds : List ℕ) (k : ℕ) (c d : List ℕ) : Type 0 w
   pub same : d ≡ allSettled i o (take k odds) c
 
 -- ---- halves
--- Half h of the first n counts, where each favours the half that is given.
-pub record HalvedBy (h : ℕ) (counts favoured : List ℕ) (n : ℕ) (half : List ℕ) : Type 0 where
-  pub len : Wide half
-  pub same : take n half ≡ halfBy h (take n counts) (take n favoured)
+-- A list that was lent, with half h of the first n counts at its front, where each favours the half that is given; the
+-- rest is as it was.
+unfoldable pub halvedBy : ℕ → ℕ → List ℕ → List ℕ → List ℕ → List ℕ
+halvedBy h n counts favoured lent = halfBy h (take n counts) (take n favoured) ++ drop n lent
 
--- Half h of the first n counts, by the rules over the ports that two tables have.
-pub record Half (h n : ℕ) (counts ins outs half : List ℕ) : Type 0 where
-  pub len : Wide half
-  pub same : take n half ≡ halfOf (tabled ins outs) h (take n counts)
+-- The same by the rules, over the ports that two tables have.
+unfoldable pub halved : ℕ → ℕ → List ℕ → List ℕ → List ℕ → List ℕ → List ℕ
+halved h n counts ins outs lent = halfOf (tabled ins outs) h (take n counts) ++ drop n lent

@@ -1,5 +1,5 @@
 // Groups: who is joined by partnership favours the two halves in turn. A count has 0 until it is settled.
-use crate::positions::index;
+use widths::byte;
 ghost use mathlib.Core.Path.{_≡_};
 ghost use Prim.Native.Nat.{_<_, _≤_};
 ghost use Rattle.model.specs.Schedule.{tieHalf};
@@ -21,12 +21,12 @@ fn walk(start: usize, half: u8, near: &[u8; 256], far: &[u8; 256], favoured: &mu
     let other = 3 - half;
     let mut p = start;
     loop {
-        let q = index(near[p]);
+        let q = byte(near[p]);
         if favoured[q] != 0 {
             return;
         }
         favoured[q] = other;
-        p = index(far[q]);
+        p = byte(far[q]);
         if favoured[p] != 0 {
             return;
         }
@@ -62,7 +62,7 @@ pub(crate) fn settle(
 {
     let mut i: usize = 0;
     while i < k {
-        let p = index(odds[i]);
+        let p = byte(odds[i]);
         settle_group(p, in_mates, out_mates, favoured);
         i += 1;
     }

@@ -3,7 +3,7 @@ ghost use mathlib.Core.Path.{_≡_};
 ghost use Prim.Native.Nat.{_/_, _<_, _≤_};
 ghost use lib.Dec.{eqb};
 ghost use Rattle.model.specs.Words.{bit};
-ghost use Rattle.split.specs.Steps.{Wide, HalvedBy};
+ghost use Rattle.split.specs.Steps.{Wide, halvedBy};
 
 // What an even count gives to each half, and an odd one to the half that it does not favour.
 fn half_of(x: u16) -> u16
@@ -28,8 +28,8 @@ pub(crate) fn halve(
     second: &mut [u16; 256],
 )
     requires { ⌜ (n ≤ 256) × Wide (now counts) × Wide (now favoured) × Wide (now first) × Wide (now second) ⌝ }
-    ensures { λ _. ⌜ HalvedBy 1 (now (counts .entry)) (now (favoured .entry)) n (now (first .exit))
-        × HalvedBy 2 (now (counts .entry)) (now (favoured .entry)) n (now (second .exit)) ⌝ }
+    ensures { λ _. ⌜ (now (first .exit) ≡ halvedBy 1 n (now (counts .entry)) (now (favoured .entry)) (now (first .entry)))
+        × (now (second .exit) ≡ halvedBy 2 n (now (counts .entry)) (now (favoured .entry)) (now (second .entry))) ⌝ }
 {
     let mut p: usize = 0;
     while p < n {

@@ -8,7 +8,8 @@ use groups::settle;
 use halves::halve;
 use partners::link;
 use positions::gather;
-ghost use Rattle.split.specs.Steps.{Wide, Sides, Half};
+ghost use mathlib.Core.Path.{_≡_};
+ghost use Rattle.split.specs.Steps.{Wide, Sides, halved};
 
 // The split knows of ports by the tables alone.
 pub fn split(
@@ -20,8 +21,8 @@ pub fn split(
     second: &mut [u16; 256],
 )
     requires { ⌜ Sides n (now ins) (now outs) × Wide (now counts) × Wide (now first) × Wide (now second) ⌝ }
-    ensures { λ _. ⌜ Half 1 n (now (counts .entry)) (now (ins .entry)) (now (outs .entry)) (now (first .exit))
-        × Half 2 n (now (counts .entry)) (now (ins .entry)) (now (outs .entry)) (now (second .exit)) ⌝ }
+    ensures { λ _. ⌜ (now (first .exit) ≡ halved 1 n (now (counts .entry)) (now (ins .entry)) (now (outs .entry)) (now (first .entry)))
+        × (now (second .exit) ≡ halved 2 n (now (counts .entry)) (now (ins .entry)) (now (outs .entry)) (now (second .entry))) ⌝ }
 {
     let mut odds = [0u8; 256];
     let mut in_mates = [0u8; 256];

@@ -1,5 +1,5 @@
 // Partners: at each port of a side, the odd counts first with second, third with fourth, and so on.
-use crate::positions::index;
+use widths::byte;
 ghost use mathlib.Core.Path.{_≡_};
 ghost use Prim.Native.Nat.{_%_, _<_, _≤_};
 ghost use lib.ListN.{take};
@@ -11,7 +11,7 @@ ghost use Rattle.split.specs.Steps.{Wide, Linked};
 fn port_index(x: u8) -> usize
     ensures { λ r. ⌜ (r ≡ x % 16) × (r < 16) ⌝ }
 {
-    (x % 16) as usize
+    byte(x % 16)
 }
 
 // The one that waits at the port; where none does, a count is its own until another comes.
@@ -31,11 +31,11 @@ pub(crate) fn link(odds: &[u8; 256], k: usize, table: &[u8; 256], mates: &mut [u
     let mut i: usize = 0;
     while i < k {
         let p = odds[i];
-        let own = index(p);
+        let own = byte(p);
         let port = port_index(table[own]);
         let waiting = waits[port];
         let q = mate(waiting, held[port], p);
-        let other = index(q);
+        let other = byte(q);
         mates[own] = q;
         mates[other] = p;
         held[port] = p;

@@ -5,13 +5,6 @@ ghost use lib.ListN.{getD, set, replicate};
 ghost use Rattle.model.specs.Frames.{runOf};
 ghost use Rattle.tally.specs.Tally.{Switch, Readable, Room, Adds, ofByte, ofSlot, Tally};
 
-// A byte as a number.
-pub fn wide(byte: u8) -> usize
-    ensures { λ r. ⌜ r ≡ byte ⌝ }
-{
-    byte as usize
-}
-
 // Counts one more at a place of a tally.
 fn add_one(tally: &mut [u16; 288], x: usize)
     requires { ⌜ (x < 288) × Room 65534 (now tally) ⌝ }
@@ -41,7 +34,7 @@ fn add_slot(ports: usize, slot: &[u8], tally: &mut [u16; 288])
 {
     let mut i: usize = 0;
     while i < slot.len() {
-        let byte = wide(slot[i]);
+        let byte = widths::byte(slot[i]);
         add_byte(ports, i, byte, tally);
         i += 1;
     }

@@ -18,14 +18,14 @@ add-to-requires : tie.Need-add-to-requires Inv-loop μ-loop
 add-to-requires c κs =
     let turn = c .before .before .before in
     let loop = turn .before in
-    adding-asks inputs (loop .before .before .pre .0) (loop .loop .inv .1) (turn .loop-test .taken) (c .before .wide .ensures .1)
+    adding-asks inputs (loop .before .before .pre .0) (loop .loop .inv .1) (turn .loop-test .taken) (c .before .count .ensures .1)
 
 add-to-requires-2 : tie.Need-add-to-requires-2 Inv-loop μ-loop
 add-to-requires-2 c κs =
     let read = c .before .before .before in
     let turn = read .before .before in
     let loop = turn .before in
-    adding-asks outputs (loop .before .before .pre .0) (loop .loop .inv .2) (turn .loop-test .taken) (read .wide .ensures .1)
+    adding-asks outputs (loop .before .before .pre .0) (loop .loop .inv .2) (turn .loop-test .taken) (read .count .ensures .1)
 
 pub add-loads-spec : {M : Type 1} → statement M
 add-loads-spec =

@@ -1,6 +1,4 @@
 use mathlib.Core.Path.{sym, _∙_}
-use native.Mathlib.Nat.{le-trans}
-use lib.Dec.{lit≤}
 use borrow.Author.Needs.{needs}
 use borrow.Author.Tests.{not-false, eqb-true}
 use Rattle.model.specs.Refusals.{admitted}
@@ -16,11 +14,6 @@ returns-2 : tie.Need-returns-2
 unfolding admitted
 returns-2 c =
     rw (sym (c .before .before .before .outside .ensures) ∙ c .before .before .if1 .left, sym (c .before .bad-slots .ensures) ∙ c .if2 .taken)
-
-bad-length-requires : tie.Need-bad-length-requires
-bad-length-requires c κs =
-    let ports = within-known (c .before .before .before .outside .ensures) (c .before .before .if1 .left) in
-    (le-trans (ports .1) (lit≤ tt), ports .1)
 
 returns-3 : tie.Need-returns-3
 unfolding admitted
@@ -61,7 +54,7 @@ admit-spec =
     returns
     (λ c κs. search needs)
     returns-2
-    bad-length-requires
+    (λ c κs. search needs)
     returns-3
     overload-requires
     returns-4)

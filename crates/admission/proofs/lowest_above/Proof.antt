@@ -19,7 +19,6 @@ lowest-above-spec =
     (λ c. search needs)
     (λ c. search needs)
     (λ c. search needs)
-    (λ c κs. search needs)
     (λ c. search (needs, passing-found))
     (λ c. search needs)
     (λ c. search needs)

@@ -1,9 +1,7 @@
 use mathlib.Core.Path.{sym, _∙_}
 use Rattle.model.specs.Inspect.{inspected}
-use Rattle.model.proofs.Reports.{within-known, slots-known}
 use Rattle.inspection.proofs.Faults.{lent}
 use borrow.Author.Needs.{needs}
-use native.Mathlib.Omega.{arith}
 use Rattle.inspection.proofs.inspect.Statement.{statement}
 use Rattle.inspection.proofs.inspect.Tie as tie
 
@@ -60,13 +58,9 @@ inspect-spec =
     returns
     (λ c κs. search needs)
     returns-2
-    (λ c κs. let ports = within-known (c .before .before .before .outside .ensures) (c .before .before .if1 .left) in (omega arith, ports .1))
+    (λ c κs. search needs)
     returns-3
-    (λ c κs.
-    let first = c .before .before .before .before in
-    let ports = within-known (first .before .outside .ensures) (first .if1 .left) in
-    let slots = slots-known (c .before .before .before .bad-slots .ensures) (c .before .before .if2 .left) in
-    (slots .1, ports .1))
+    (λ c κs. search needs)
     returns-4
     (λ c κs.
     let first = c .before .before .before .before .before .before in

@@ -2,6 +2,7 @@ use Prim.Native.Nat.{ℕ, _<_}
 use borrow.Author.Needs.{needs}
 use borrow.Fn.Kinds.{In}
 use borrow.Fn.PlainCycle.{Measures, is, falls, and}
+use Rattle.split.proofs.Favoured.{half-wide}
 use Rattle.schedule.proofs.Tabled.{sides-of}
 use Rattle.schedule.proofs.Framed.{slot-tables, frame-one, half-less, half-power, mid-le, mid-fits, still-le, front-is, back-is, written}
 use Rattle.schedule.proofs.block.Reads as block
@@ -38,11 +39,11 @@ pub +block-spec : {M : Type 1} → statement M
     (λ c. search (needs, mid-fits))
     (λ c. search (needs, mid-le))
     (λ c. search (needs, front-is))
-    (λ c κs. (search (needs, half-less), search (needs, half-power, front-is)))
+    (λ c κs. (search (needs, half-less), search (needs, half-power, front-is, half-wide)))
     (λ c. search (needs, still-le))
     (λ c. search (needs, still-le))
     (λ c. search needs)
-    (λ c κs. (search (needs, half-less), search (needs, half-power, back-is)))
+    (λ c κs. (search (needs, half-less), search (needs, half-power, back-is, half-wide)))
     (λ c. search needs)
     (λ c. search (needs, frame-one))
     (λ c. search needs)

@@ -1,6 +1,6 @@
 use borrow.Author.Needs.{needs}
 use Rattle.schedule.specs.Fill.{Fillable}
-use Rattle.schedule.proofs.Built.{ports-most, slots-most, size-of, done}
+use Rattle.schedule.proofs.Built.{size-of, done}
 use Rattle.schedule.proofs.Built.{ports-refused, slots-refused, matrix-refused, frame-refused, load-refused, fillable, fills}
 use Rattle.schedule.proofs.build.Statement.{statement}
 use Rattle.schedule.proofs.build.Tie as tie
@@ -36,9 +36,9 @@ build-spec =
     returns
     (λ c κs. search needs)
     returns-2
-    (λ c κs. search (needs, slots-most, ports-most))
+    (λ c κs. search needs)
     returns-3
-    (λ c κs. search (needs, slots-most, ports-most))
+    (λ c κs. search needs)
     returns-4
     (λ c κs. size-of (passed c))
     (λ c. search needs)

@@ -1,14 +1,12 @@
 use Prim.Native.Nat.{_≤_, _-_}
-use mathlib.Core.Path.{refl}
 use borrow.Author.Needs.{needs}
 use native.Mathlib.Omega.{arith}
-use Rattle.split.specs.Steps.{HalvedBy}
-use Rattle.split.proofs.Halved.{halved-on, halved-end}
+use Rattle.split.proofs.Halved.{Halving, halving-start, halving-on, halving-end}
 use Rattle.split.proofs.halves.halve.Statement.{statement}
 use Rattle.split.proofs.halves.halve.Tie as tie
 
 abbrev Inv-loop : tie.InvT-loop
-Inv-loop counts n favoured first₀ second₀ p₀ first second p = (p ≤ n) × HalvedBy 1 counts favoured p first × HalvedBy 2 counts favoured p second
+Inv-loop counts n favoured first₀ second₀ p₀ first second p = (p ≤ n) × Halving 1 counts favoured p first₀ first × Halving 2 counts favoured p second₀ second
 
 abbrev μ-loop : tie.MeasureT-loop
 μ-loop counts n favoured first₀ second₀ p₀ first second p = n - p
@@ -19,7 +17,7 @@ halve-spec =
     (tie.spec
     Inv-loop
     μ-loop
-    (λ c. (omega arith, record { len = c .pre .3; same = refl }, record { len = c .pre .4; same = refl }))
+    (λ c. (omega arith, halving-start (c .pre .3), halving-start (c .pre .4)))
     (λ c. search needs)
     (λ c. search needs)
     (λ c κs. search needs)
@@ -34,5 +32,5 @@ halve-spec =
     (λ c. search needs)
     (λ c. search needs)
     (λ c. search needs)
-    (λ c. (omega arith, search (needs, halved-on), search (needs, halved-on)))
-    (λ c. search (needs, halved-end)))
+    (λ c. (omega arith, search (needs, halving-on), search (needs, halving-on)))
+    (λ c. (search (needs, halving-end), search (needs, halving-end))))

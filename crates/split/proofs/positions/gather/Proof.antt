@@ -1,14 +1,12 @@
 use Prim.Native.Nat.{_≤_, _-_}
-use mathlib.Core.Path.{refl}
 use borrow.Author.Needs.{needs}
 use native.Mathlib.Omega.{arith}
-use Rattle.split.specs.Steps.{Gathered}
-use Rattle.split.proofs.Gathered.{gathered-on, gathered-end}
+use Rattle.split.proofs.Gathered.{Gathering, gathering-start, gathering-on, gathering-number, gathering-ended, gathering-full}
 use Rattle.split.proofs.positions.gather.Statement.{statement}
 use Rattle.split.proofs.positions.gather.Tie as tie
 
 abbrev Inv-loop : tie.InvT-loop
-Inv-loop counts n odds₀ k₀ p₀ odds k p = (p ≤ n) × Gathered counts p odds k
+Inv-loop counts n odds₀ k₀ p₀ odds k p = (p ≤ n) × Gathering counts p odds₀ odds k
 
 abbrev μ-loop : tie.MeasureT-loop
 μ-loop counts n odds₀ k₀ p₀ odds k p = n - p
@@ -19,7 +17,7 @@ gather-spec =
     (tie.spec
     Inv-loop
     μ-loop
-    (λ c. (omega arith, record { most = omega arith; len = c .pre .1; same = refl }))
+    (λ c. (omega arith, gathering-start (c .pre .1)))
     (λ c. search needs)
     (λ c. search needs)
     (λ c. search needs)
@@ -28,5 +26,7 @@ gather-spec =
     (λ c. search needs)
     (λ c. search needs)
     (λ c. search needs)
-    (λ c. (omega arith, search (needs, gathered-on)))
-    (λ c. search (needs, gathered-end)))
+    (λ c. (omega arith, search (needs, gathering-on)))
+    (λ c. search needs)
+    (λ c. (search (needs, gathering-number), search (needs, gathering-ended)))
+    (λ c. (search (needs, gathering-number), search (needs, gathering-full))))
