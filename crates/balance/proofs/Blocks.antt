@@ -21,7 +21,8 @@ use Rattle.model.proofs.Searches.{Passed, passed-start, passed-on, passed-found
 use Rattle.model.proofs.Levels.{levels-power, depth-half, depth-fill}
 use Rattle.model.proofs.OneFrame.{double}
 use Rattle.model.proofs.Inspected.{position-of, unbalanced-yes, unbalanced-no}
-use Rattle.tally.specs.Tally.{place, Switch, Readable, Tally}
+use Rattle.tally.specs.Tally.{place, Switch, Readable, tallyOf}
+use Rattle.tally.proofs.Tallies.{tally-class}
 use Rattle.balance.specs.Balance.{far}
 
 -- ---- counts that differ by more than 1
@@ -68,10 +69,11 @@ module _ (ports half count b : ℕ) (frame : List ℕ) (u : Bool) where
   number-found p h e f = passed-found p (omega arith) (sym e ∙ f)
 
 -- ---- one block: where the tallies of its halves are apart, its classes are
-module _ (ports start half : ℕ) (frame a b : List ℕ) (ya : Tally ports (runOf ports start half frame) a) (yb : Tally ports (runOf ports (start + half) half frame) b) where
+module _ (ports slots start half : ℕ) (frame a b : List ℕ) (r : Readable ports slots frame) (ya : a ≡ tallyOf ports (runOf ports start half frame))
+    (yb : b ≡ tallyOf ports (runOf ports (start + half) half frame)) where
   far-class : (c : Class) → Of ports c → far a b (place ports c) ≡ not (near 1 (cells c ports (runOf ports start half frame)) (cells c ports (runOf ports (start + half) half frame)))
   unfolding far
-  far-class c of = rw (ya .each c of, yb .each c of)
+  far-class c of = rw (tally-class ports (runOf ports start half frame) a (r .switch) ya c of, tally-class ports (runOf ports (start + half) half frame) b (r .switch) yb c of)
 
   class-far : (c : Class) → Of ports c → far a b (place ports c) ≡ true → true ≡ unbalanced ports frame start half
   class-far c of e = sym (unbalanced-yes ports frame start half c of (not-true _ (sym (far-class c of) ∙ e)))

@@ -18,7 +18,8 @@ use Rattle.model.proofs.Cases.{byLt}
 use Rattle.model.proofs.Searches.{Passed, passed-start, passed-on, passed-found, passed-done, first-found, first-before}
 use Rattle.model.proofs.Cells.{run-all}
 use Rattle.model.proofs.Inspected.{position-of}
-use Rattle.tally.specs.Tally.{Readable, Tally}
+use Rattle.tally.specs.Tally.{Readable, tallyOf}
+use Rattle.tally.proofs.Tallies.{tally-class}
 use Rattle.balance.proofs.Blocks.{square-most}
 
 -- ---- bytes above ports
@@ -34,22 +35,25 @@ module _ (ports : ℕ) (bytes : List ℕ) (q b : ℕ) where
   large-found p h e l = passed-found p (omega arith) (lt-ltb ports (getD bytes q 0) (omega arith))
 
 -- ---- outputs used twice in a slot
-module _ (ports o : ℕ) (slot tally : List ℕ) (y : Tally ports slot tally) where
+module _ (ports slots o : ℕ) (frame slot tally : List ℕ) (r : Readable ports slots frame) (y : tally ≡ tallyOf ports slot) where
+  uses : o < ports → getD tally (272 + o) 0 ≡ cells (output o) ports slot
+  uses h = tally-class ports slot tally (r .switch) y (output o) h
+
   pub twice-on : Passed (twiceIn ports slot) 0 ports o → o < ports → getD tally (272 + o) 0 ≤ 1 → Passed (twiceIn ports slot) 0 ports (o + 1)
   unfolding twiceIn
-  twice-on p h l = passed-on p (omega arith) (le-ltb 1 (cells (output o) ports slot) (omega (arith, y .each (output o) h)))
+  twice-on p h l = passed-on p (omega arith) (le-ltb 1 (cells (output o) ports slot) (omega (arith, uses h)))
 
   pub twice-found : Passed (twiceIn ports slot) 0 ports o → o < ports → 1 < getD tally (272 + o) 0 → o ≡ first (twiceIn ports slot) 0 ports
   unfolding twiceIn
-  twice-found p h l = passed-found p (omega arith) (lt-ltb 1 (cells (output o) ports slot) (omega (arith, y .each (output o) h)))
+  twice-found p h l = passed-found p (omega arith) (lt-ltb 1 (cells (output o) ports slot) (omega (arith, uses h)))
 
 -- ---- pairs in the wrong number of slots
 module _ (ports slots p : ℕ) (matrix frame tally : List ℕ) (r : Readable ports slots frame) (square : length matrix ≡ ports * ports)
-    (y : Tally ports (runOf ports 0 slots frame) tally) (l : p < length matrix) where
+    (y : tally ≡ tallyOf ports (runOf ports 0 slots frame)) (l : p < length matrix) where
   count-is : getD tally p 0 ≡ cells (pair (p / ports) (p % ports)) ports frame
   count-is =
       let e = div-add-mod' p ports in
-      ap (λ z. getD tally z 0) (sym e) ∙ y .each (pair (p / ports) (p % ports)) (position-of ports (λ c. true) p (omega arith))
+      ap (λ z. getD tally z 0) (sym e) ∙ tally-class ports (runOf ports 0 slots frame) tally (r .switch) y (pair (p / ports) (p % ports)) (position-of ports (λ c. true) p (omega arith))
       ∙ ap (cells (pair (p / ports) (p % ports)) ports) (run-all ports slots frame (r .size))
 
   load-is : getD matrix p 0 ≡ load (pair (p / ports) (p % ports)) ports matrix

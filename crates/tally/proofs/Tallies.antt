@@ -1,27 +1,28 @@
 -- Tallies: one byte more, one slot more, a run.
-use Prim.Native.Nat.{ℕ, suc, _+_, _-_, _*_, _/_, _≤_, _<_}
+use Prim.Native.Nat.{ℕ, suc, zero, _+_, _-_, _*_, _/_, _%_, _≤_, _<_}
 use mathlib.Core.Path.{_≡_, refl, sym, ap, _∙_}
-use mathlib.Core.List.{List}
-use mathlib.Core.Bool.{false}
+use mathlib.Core.List.{List, map}
+use mathlib.Core.Bool.{true, false, true≢false}
 use native.Mathlib.Omega.{arith}
-use native.Mathlib.Nat.{mul-le-mul-right, mul-le-mul}
+use native.Mathlib.Nat.{mul-le-mul-right, mul-le-mul, div-add-mod'}
 use native.Mathlib.Numerals.{add-one}
-use lib.Arith.{digits-div}
+use lib.Arith.{digits-lt, digits-div, digits-mod}
 use mir.Syntax.{w16, w64}
 use mir.Val.{Fits}
 use lib.Dec.{eqb}
 use lib.ListN.{length, getD, set, take, drop, replicate, length-set, length-replicate, length-take, length-drop}
-use lib.Seq.{getD-set-same, getD-set-other, getD-take, getD-drop, set-out}
-use borrow.Author.Tests.{eq-eqb, ne-eqb}
-use Rattle.model.specs.Words.{bit, sumTo}
+use lib.Seq.{getD-set-same, getD-set-other, getD-take, getD-drop, set-out, ext-getD}
+use borrow.Author.Tests.{eq-eqb, ne-eqb, lt-ltb, le-ltb}
+use Rattle.model.specs.Words.{bit, within, upFrom, sumTo}
 use Rattle.model.specs.Loads.{Class, pair, input, output, Of}
 use Rattle.model.specs.Frames.{counts, cells, runOf}
-use Rattle.model.proofs.Cases.{byEq, byLt}
+use Rattle.model.proofs.Cases.{byBool, byEq, byLt, within-yes, within-above, within-true}
 use Rattle.model.proofs.Sums.{sum-none, sum-more}
 use Rattle.model.proofs.Splits.{is-yes, is-no}
 use Rattle.model.proofs.Settled.{zero-at}
+use Rattle.model.proofs.Inspected.{position-of}
 use Rattle.model.proofs.Cells.{cells-slot, cells-none, cells-run, run-none, run-length}
-use Rattle.tally.specs.Tally.{place, Switch, Readable, Room, Adds, ofByte, partly, ofSlot, Tally}
+use Rattle.tally.specs.Tally.{place, Vacant, Switch, Readable, Room, Adds, ofByte, partly, ofSlot, numberAt, tallyOf}
 
 -- ---- places
 pub pair-place : {ports i o : ℕ} → Switch ports → i < ports → o < ports → i * ports + o < 256
@@ -52,6 +53,7 @@ adds-idle ports i b old l e =
     record {
       size = l .size;
       each = λ c of. rw e (let z = ap bit (idle c i) in omega arith);
+      none = λ x v. refl;
       bound = λ x. omega arith;
     }
 
@@ -116,12 +118,20 @@ module _ (ports i o : ℕ) (sw : Switch ports) (hi : i < ports) (ho : o < ports)
     thrice-length : length thrice ≡ 288
     thrice-length = simp length-set size
 
+    thrice-none : (x : ℕ) → Vacant ports x → getD thrice x 0 ≡ getD old x 0
+    thrice-none x v =
+        let a = is-no x (i * ports + o) (v (pair i o) (hi, ho)) in
+        let b = is-no x (256 + i) (v (input i) hi) in
+        let c = is-no x (272 + o) (v (output o) ho) in
+        omega (arith, thrice-at x)
+
     pub adds-thrice : Adds ports 1 (ofByte i (suc o)) old thrice
     unfolding ofByte
     adds-thrice =
         record {
           size = thrice-length;
           each = λ c of. thrice-at (place ports c) ∙ ap (λ z. getD old (place ports c) 0 + z) (adds-at c of);
+          none = thrice-none;
           bound = λ x. omega (arith, thrice-at x, adds-most x);
         }
 
@@ -175,7 +185,7 @@ room-two x y l l′ l″ f e r = room-raised 65533 y l′ l″ f (room-raised 65
 pub slot-start : (ports : ℕ) (slot old : List ℕ) → Room 65000 old → Adds ports 0 (partly slot 0) old old
 unfolding partly
 slot-start ports slot old r =
-    record { size = r .size; each = λ c of. omega (arith, sum-none (λ i. ofByte i (getD slot i 0) c)); bound = λ x. omega arith }
+    record { size = r .size; each = λ c of. omega (arith, sum-none (λ i. ofByte i (getD slot i 0) c)); none = λ x v. refl; bound = λ x. omega arith }
 
 pub slot-on : (ports i b : ℕ) (slot old mid new : List ℕ) → Adds ports i (partly slot i) old mid → b ≡ getD slot i 0 → Adds ports 1 (ofByte i b) mid new
     → Adds ports (i + 1) (partly slot (i + 1)) old new
@@ -186,6 +196,7 @@ slot-on ports i b slot old mid new a e n =
       each = λ c of.
           let f : ℕ → ℕ = λ i. ofByte i (getD slot i 0) c in
           omega (arith, a .each c of, n .each c of, ap (λ z. ofByte i z c) e, sum-more i f, ap (λ z. sumTo z f) (add-one i));
+      none = λ x v. n .none x v ∙ a .none x v;
       bound = λ x. omega (arith, a .bound x, n .bound x);
     }
 
@@ -197,6 +208,7 @@ slot-end ports i slot old new a r l g =
     record {
       size = a .size;
       each = λ c of. omega (arith, a .each c of, ap (λ z. partly slot z c) e, cells-slot ports c slot (s ∙ omega arith));
+      none = a .none;
       bound = λ x. omega (arith, a .bound x);
     }
 
@@ -217,12 +229,20 @@ pub one-fits : (x : ℕ) (tally : List ℕ) → Room 65534 tally → Fits w16 (g
 one-fits x tally r = record { fits = omega (arith, r .each x) }
 
 -- ---- a run
+-- a tally has the cells of each class, and 0 at the other places
+pub record Tally (ports : ℕ) (bytes tally : List ℕ) : Type 0 where
+  pub size : length tally ≡ 288
+  pub each : (c : Class) → Of ports c → getD tally (place ports c) 0 ≡ cells c ports bytes
+  pub none : (x : ℕ) → Vacant ports x → getD tally x 0 ≡ 0
+  pub bound : (x : ℕ) → getD tally x 0 ≤ length bytes
+
 pub tally-start : (ports start : ℕ) (frame tally : List ℕ) → tally ≡ replicate 288 0 → Tally ports (runOf ports start 0 frame) tally
 tally-start ports start frame tally e =
     rw (e, run-none ports start frame)
     (record {
       size = length-replicate {A = ℕ} 288 0;
       each = λ c of. zero-at 288 (place ports c) ∙ sym (cells-none ports c);
+      none = λ x v. zero-at 288 x;
       bound = λ x. omega (arith, zero-at 288 x);
     })
 
@@ -281,8 +301,85 @@ module _ (ports slots start len t : ℕ) (frame : List ℕ) (r : Readable ports 
         size = a .size;
         each = λ c of.
             a .each c of ∙ omega (arith, y .each c of, ap (cells c ports) part-is, cells-run ports c start t 1 frame (omega (arith, r .size)));
+        none = λ x v. a .none x v ∙ y .none x v;
         bound = λ x. omega (arith, a .bound x, y .bound x, run-size);
       }
 
-pub tally-end : (ports start len t : ℕ) (frame tally : List ℕ) → Tally ports (runOf ports start t frame) tally → t ≤ len → len ≤ t → Tally ports (runOf ports start len frame) tally
-tally-end ports start len t frame tally y a b = let e : len ≡ t = omega arith in rw e y
+-- ---- the tally as a list
+listed : (f : ℕ → ℕ) (a n x : ℕ) → x < n → getD (map f (upFrom a n)) x 0 ≡ f (a + x)
+listed f a zero x h = absurd (omega arith)
+listed f a (suc n) zero h = ap f (omega arith)
+listed f a (suc n) (suc x) h = listed f (suc a) n x (omega arith) ∙ ap f (omega arith)
+
+listed-length : (f : ℕ → ℕ) (a n : ℕ) → length (map f (upFrom a n)) ≡ n
+listed-length f a zero = refl
+listed-length f a (suc n) = ap suc (listed-length f (suc a) n)
+
+tally-length : (ports : ℕ) (bytes : List ℕ) → length (tallyOf ports bytes) ≡ 288
+unfolding tallyOf
+tally-length ports bytes = listed-length (numberAt ports bytes) 0 288
+
+tally-at : (ports : ℕ) (bytes : List ℕ) (x : ℕ) → x < 288 → getD (tallyOf ports bytes) x 0 ≡ numberAt ports bytes x
+unfolding tallyOf
+tally-at ports bytes x h = listed (numberAt ports bytes) 0 288 x h ∙ ap (numberAt ports bytes) (omega arith)
+
+module _ (ports : ℕ) (bytes : List ℕ) where
+  -- what the places of the classes and the others have
+  number-class : Switch ports → (c : Class) → Of ports c → numberAt ports bytes (place ports c) ≡ cells c ports bytes
+  unfolding numberAt
+  number-class s (pair i o) of =
+      let l = digits-lt {q = i} {m = ports} {r = o} {c = ports} (of .0) (of .1) in
+      rw (lt-ltb (i * ports + o) (ports * ports) l, digits-div i (of .1), digits-mod i (of .1))
+  number-class s (input i) of =
+      let k : ports * ports ≤ 16 * 16 = mul-le-mul (s .high) (s .high) in
+      let e : 256 + i - 256 ≡ i = omega arith in
+      rw (le-ltb (256 + i) (ports * ports) (omega arith), within-yes 256 (255 + ports) (256 + i) (omega arith) (omega arith), e)
+  number-class s (output o) of =
+      let k : ports * ports ≤ 16 * 16 = mul-le-mul (s .high) (s .high) in
+      let e : 272 + o - 272 ≡ o = omega arith in
+      rw (le-ltb (272 + o) (ports * ports) (omega arith), within-above 256 (255 + ports) (272 + o) (omega arith) (omega (arith, s .high)), within-yes 272 (271 + ports) (272 + o) (omega arith) (omega arith), e)
+
+  module _ (tally : List ℕ) (y : Tally ports bytes tally) (x : ℕ) where
+    at-class : (c : Class) → Of ports c → place ports c ≡ x → getD tally x 0 ≡ cells c ports bytes
+    at-class c of e = ap (λ z. getD tally z 0) (sym e) ∙ y .each c of
+
+    vacant : ports * ports ≤ x → within 256 (255 + ports) x ≡ false → within 272 (271 + ports) x ≡ false → Vacant ports x
+    vacant h f g (pair i o) of e = let l = digits-lt {q = i} {m = ports} {r = o} {c = ports} (of .0) (of .1) in omega arith
+    vacant h f g (input i) of e = true≢false (sym (within-yes 256 (255 + ports) x (omega arith) (omega arith)) ∙ f)
+    vacant h f g (output o) of e = true≢false (sym (within-yes 272 (271 + ports) x (omega arith) (omega arith)) ∙ g)
+
+    number-is : getD tally x 0 ≡ numberAt ports bytes x
+    unfolding numberAt
+    number-is =
+        byLt x (ports * ports)
+        (λ h. rw (lt-ltb x (ports * ports) h) (at-class (pair (x / ports) (x % ports)) (position-of ports (λ c. true) x h) (div-add-mod' x ports)))
+        (λ h. rw (le-ltb x (ports * ports) h)
+        (byBool (within 256 (255 + ports) x)
+        (λ f. let w = within-true 256 (255 + ports) x f in rw f (at-class (input (x - 256)) (omega arith) (omega arith)))
+        (λ f. rw f
+        (byBool (within 272 (271 + ports) x)
+        (λ g. let w = within-true 272 (271 + ports) x g in rw g (at-class (output (x - 272)) (omega arith) (omega arith)))
+        (λ g. rw g (y .none x (vacant h f g)))))))
+
+  tally-is : (tally : List ℕ) → Tally ports bytes tally → tally ≡ tallyOf ports bytes
+  tally-is tally y =
+      ext-getD 0 tally (tallyOf ports bytes) (y .size ∙ sym (tally-length ports bytes))
+      (λ x h. number-is tally y x ∙ sym (tally-at ports bytes x (omega (arith, y .size))))
+
+pub tally-end : (ports start len t : ℕ) (frame tally : List ℕ) → Tally ports (runOf ports start t frame) tally → t ≤ len → len ≤ t
+    → tally ≡ tallyOf ports (runOf ports start len frame)
+tally-end ports start len t frame tally y a b = let e : len ≡ t = omega arith in rw e (tally-is ports (runOf ports start t frame) tally y)
+
+pub tally-size : (ports : ℕ) (bytes tally : List ℕ) → tally ≡ tallyOf ports bytes → length tally ≡ 288
+tally-size ports bytes tally e = ap length e ∙ tally-length ports bytes
+
+-- what a tally has for each class
+pub tally-class : (ports : ℕ) (bytes tally : List ℕ) → Switch ports → tally ≡ tallyOf ports bytes → (c : Class) → Of ports c
+    → getD tally (place ports c) 0 ≡ cells c ports bytes
+tally-class ports bytes tally s e c of =
+    ap (λ z. getD z (place ports c) 0) e ∙ tally-at ports bytes (place ports c) (low c of) ∙ number-class ports bytes s c of
+  where
+    low : (c : Class) → Of ports c → place ports c < 288
+    low (pair i o) of = let l = pair-place s (of .0) (of .1) in omega arith
+    low (input i) of = omega (arith, s .high)
+    low (output o) of = omega (arith, s .high)

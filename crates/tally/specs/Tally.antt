@@ -1,9 +1,11 @@
 -- What the code counts: a tally has a number for each pair, input and output, at a place of its own.
-use Prim.Native.Nat.{ℕ, _+_, _*_, _≤_, _<_}
+use Prim.Native.Nat.{ℕ, _+_, _-_, _*_, _/_, _%_, _≤_, _<_}
 use mathlib.Core.Path.{_≡_}
-use mathlib.Core.List.{List}
+use mathlib.Core.List.{List, map}
+use mathlib.Core.Logic.{_≢_}
+use lib.Dec.{ltb}
 use lib.ListN.{length, getD}
-use Rattle.model.specs.Words.{bit, sumTo}
+use Rattle.model.specs.Words.{if, bit, within, upFrom, sumTo}
 use Rattle.model.specs.Loads.{Class, pair, input, output, Of}
 use Rattle.model.specs.Frames.{counts, cells}
 
@@ -12,6 +14,10 @@ abbrev pub place : ℕ → Class → ℕ
 place ports (pair i o) = i * ports + o
 place ports (input i) = 256 + i
 place ports (output o) = 272 + o
+
+-- No class stands at place x.
+abbrev pub Vacant : ℕ → ℕ → Type 0
+Vacant ports x = (c : Class) → Of ports c → x ≢ place ports c
 
 -- The switch is of a size that a tally has places for.
 pub record Switch (ports : ℕ) : Type 0 where
@@ -30,10 +36,11 @@ pub record Room (limit : ℕ) (tally : List ℕ) : Type 0 where
   pub size : length tally ≡ 288
   pub each : (x : ℕ) → getD tally x 0 ≤ limit
 
--- `new` is the tally `old` with `more` counted: a number for each class, and none more than `most` higher.
+-- `new` is the tally `old` with `more` counted: a number for each class, at no other place, and none more than `most` higher.
 pub record Adds (ports most : ℕ) (more : Class → ℕ) (old new : List ℕ) : Type 0 where
   pub size : length new ≡ 288
   pub each : (c : Class) → Of ports c → getD new (place ports c) 0 ≡ getD old (place ports c) 0 + more c
+  pub none : (x : ℕ) → Vacant ports x → getD new x 0 ≡ getD old x 0
   pub bound : (x : ℕ) → getD new x 0 ≤ getD old x 0 + most
 
 -- What a byte of an input, the first n bytes of a slot, and a slot count for each class.
@@ -46,8 +53,13 @@ partly slot n c = sumTo n (λ i. ofByte i (getD slot i 0) c)
 unfoldable pub ofSlot : ℕ → List ℕ → Class → ℕ
 ofSlot ports slot c = cells c ports slot
 
--- The tally of some slots.
-pub record Tally (ports : ℕ) (bytes tally : List ℕ) : Type 0 where
-  pub size : length tally ≡ 288
-  pub each : (c : Class) → Of ports c → getD tally (place ports c) 0 ≡ cells c ports bytes
-  pub bound : (x : ℕ) → getD tally x 0 ≤ length bytes
+-- The number at a place: the cells of the class that stands there, 0 where none does.
+unfoldable pub numberAt : ℕ → List ℕ → ℕ → ℕ
+numberAt ports bytes x =
+    if (ltb x (ports * ports)) (cells (pair (x / ports) (x % ports)) ports bytes)
+    (if (within 256 (255 + ports) x) (cells (input (x - 256)) ports bytes)
+    (if (within 272 (271 + ports) x) (cells (output (x - 272)) ports bytes) 0))
+
+-- The tally of some slots: the numbers at its 288 places.
+unfoldable pub tallyOf : ℕ → List ℕ → List ℕ
+tallyOf ports bytes = map (numberAt ports bytes) (upFrom 0 288)

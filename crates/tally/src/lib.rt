@@ -3,7 +3,7 @@ ghost use mathlib.Core.Path.{_≡_};
 ghost use Prim.Native.Nat.{_+_, _≤_, _<_};
 ghost use lib.ListN.{getD, set, replicate};
 ghost use Rattle.model.specs.Frames.{runOf};
-ghost use Rattle.tally.specs.Tally.{Switch, Readable, Room, Adds, ofByte, ofSlot, Tally};
+ghost use Rattle.tally.specs.Tally.{Switch, Readable, Room, Adds, ofByte, ofSlot, tallyOf};
 
 // Counts one more at a place of a tally.
 fn add_one(tally: &mut [u16; 288], x: usize)
@@ -50,7 +50,7 @@ pub fn tally_run(
     tally: &mut [u16; 288],
 )
     requires { ⌜ Readable ports slots (now frame) × (start + len ≤ slots) × (now tally ≡ replicate 288 0) ⌝ }
-    ensures { λ _. ⌜ Tally ports (runOf ports start len (now (frame .entry))) (now (tally .exit)) ⌝ }
+    ensures { λ _. ⌜ now (tally .exit) ≡ tallyOf ports (runOf ports start len (now (frame .entry))) ⌝ }
 {
     let mut t: usize = 0;
     while t < len {

@@ -1,3 +1,4 @@
+use Rattle.tally.proofs.Tallies.{tally-size}
 use Rattle.balance.proofs.Blocks.{square-fits, square-most, pair-far, input-far, output-far, none-far}
 use borrow.Author.Needs.{needs}
 use Rattle.balance.proofs.unbalanced_at.Statement.{statement}
@@ -11,12 +12,12 @@ unbalanced-at-spec =
     (λ c. search needs)
     (λ c κs. search needs)
     (λ c. search (needs, square-fits))
-    (λ c κs. (search (needs, square-most), search needs, search needs))
+    (λ c κs. (search (needs, square-most), search (needs, tally-size), search (needs, tally-size)))
     (λ c. search (needs, pair-far))
-    (λ c κs. search needs)
+    (λ c κs. (search needs, search (needs, tally-size), search (needs, tally-size)))
     (λ c. search needs)
     (λ c. search (needs, input-far))
-    (λ c κs. search needs)
+    (λ c κs. (search needs, search (needs, tally-size), search (needs, tally-size)))
     (λ c. search needs)
     (λ c. search (needs, output-far))
     (λ c. search (needs, none-far)))

@@ -1,16 +1,17 @@
 use Prim.Native.Nat.{_-_, _*_}
+use mathlib.Core.Path.{_≡_}
 use lib.ListN.{length}
 use Rattle.model.specs.Frames.{runOf}
 use Rattle.model.specs.Inspect.{wrongCount}
 use Rattle.model.proofs.Searches.{Passed, passed-start}
-use Rattle.tally.specs.Tally.{Tally}
+use Rattle.tally.specs.Tally.{tallyOf}
 use Rattle.inspection.proofs.Found.{count-on, count-found, position-low, position-done}
 use borrow.Author.Needs.{needs}
 use Rattle.inspection.proofs.first_wrong_count.Statement.{statement}
 use Rattle.inspection.proofs.first_wrong_count.Tie as tie
 
 abbrev Inv-loop : tie.InvT-loop
-Inv-loop ports slots matrix frame tally p₀ p = Tally ports (runOf ports 0 slots frame) tally × Passed (wrongCount ports matrix frame) 0 (ports * ports) p
+Inv-loop ports slots matrix frame tally p₀ p = (tally ≡ tallyOf ports (runOf ports 0 slots frame)) × Passed (wrongCount ports matrix frame) 0 (ports * ports) p
 
 abbrev μ-loop : tie.MeasureT-loop
 μ-loop ports slots matrix frame tally p₀ p = length matrix - p

@@ -1,6 +1,5 @@
 use Prim.Native.Nat.{_-_}
 use lib.ListN.{length}
-use mir.Facts.{fits-8-64}
 use Rattle.printing.proofs.Prints.{prints-size, Celled, cells-first, cells-next, cells-done}
 use borrow.Author.Needs.{needs}
 use native.Mathlib.Omega.{arith}
@@ -21,9 +20,9 @@ put-cells-spec =
     μ-loop
     (λ c. search (needs, cells-first))
     (λ c. search needs)
-    (λ c. fits-8-64 (c .shared-slice-known2 .given (c .before .before .loop .i)))
+    (λ c κs. search needs)
     (λ c. search needs)
-    (λ c κs. omega (arith, c .before .before .before .loop .inv .most-bytes))
+    (λ c κs. omega (arith, c .before .before .before .before .loop .inv .most-bytes))
     (λ c. search needs)
     (λ c. search needs)
     (λ c. search (needs, cells-next))

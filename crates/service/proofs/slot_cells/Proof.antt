@@ -16,7 +16,7 @@ abbrev μ-loop : tie.MeasureT-loop
 add-sum : tie.Need-add-sum Inv-loop μ-loop
 add-sum c =
     let turn = c .before .before .before in
-    let next = counting-on (turn .before .loop .inv) (turn .loop-test .taken) (c .before .wide .ensures) (c .counted .ensures) in
+    let next = counting-on (turn .before .loop .inv) (turn .loop-test .taken) (c .before .byte .ensures .0) (c .counted .ensures) in
     omega (arith, next .most)
 
 pub slot-cells-spec : {M : Type 1} → statement M

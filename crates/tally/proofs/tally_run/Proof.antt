@@ -1,7 +1,6 @@
 use Prim.Native.Nat.{_≤_, _-_}
 use Rattle.model.specs.Frames.{runOf}
-use Rattle.tally.specs.Tally.{Tally}
-use Rattle.tally.proofs.Tallies.{tally-start, tally-on, tally-end, tally-room, part-ends, part-readable, from-fits, end-fits}
+use Rattle.tally.proofs.Tallies.{Tally, tally-start, tally-on, tally-end, tally-room, part-ends, part-readable, from-fits, end-fits}
 use borrow.Author.Needs.{needs}
 use native.Mathlib.Omega.{arith}
 use Rattle.tally.proofs.tally_run.Statement.{statement}

@@ -9,7 +9,7 @@ abbrev Inv-loop : tie.InvT-loop
 Inv-loop counts n favoured first₀ second₀ p₀ first second p = (p ≤ n) × Halving 1 counts favoured p first₀ first × Halving 2 counts favoured p second₀ second
 
 abbrev μ-loop : tie.MeasureT-loop
-μ-loop counts n favoured first₀ second₀ p₀ first second p = n - p
+μ-loop counts n favoured first₀ second₀ p₀ first second p = 256 - p
 
 pub halve-spec : {M : Type 1} → statement M
 halve-spec =
