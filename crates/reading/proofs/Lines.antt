@@ -1,23 +1,24 @@
 -- The lines in turn: what each is read as, and the pairs that were named so far.
 use Prim.Native.Nat.{ℕ, suc, zero, _+_, _-_, _*_, _≤_, _<_}
 use mathlib.Core.Path.{_≡_, refl, sym, ap, subst, _∙_}
-use mathlib.Core.List.{List, [], _∷_}
+use mathlib.Core.List.{List, [], _∷_, _++_}
 use mathlib.Core.Bool.{Bool, true, false, not}
 use native.Mathlib.Omega.{arith}
 use native.Mathlib.Numerals.{add-one}
 use native.Mathlib.Nat.{mul-le-mul}
 use lib.Arith.{digits-lt}
 use lib.Dec.{eqb}
-use lib.ListN.{length, getD, set, take, drop, replicate, length-drop, length-append, length-set, length-replicate, drop-of-length-le}
-use lib.Seq.{getD-set-same, getD-set-other, take-set-lt}
+use lib.ListN.{length, getD, set, take, drop, replicate, length-drop, length-append, length-set, length-replicate, drop-of-length-le, take-append-drop}
+use lib.Seq.{getD-set-same, getD-set-other, take-set-lt, drop-set-lt, length-take-le}
 use borrow.Author.Tests.{eq-eqb, ne-eqb, not-true, not-false}
 use Rattle.model.specs.Words.{within}
-use Rattle.model.specs.Refusals.{levels, bad-ports, bad-slots}
+use Rattle.model.specs.Refusals.{levels, refusal, bad-ports, bad-slots}
+use Rattle.model.specs.declared.Refusal.{Refusal}
 use Rattle.model.specs.Sheet.{text, portsLine, slotsLine, pairLine, lines, has, bad-port, bad-pair, Asked, refused, unless, readPairs, readSlots, readPorts}
 use Rattle.model.proofs.Cases.{byEq}
 use Rattle.model.proofs.Reports.{within-known}
 use Rattle.model.proofs.Sheets.{ports-yes, ports-no, slots-yes, slots-no, pairs-yes, pairs-no, pairs-none}
-use Rattle.reading.specs.Reading.{LineAt, NoLineAt, LineOf, PairAt, NoPairAt, FormOf, PortsRead, PortsOf, SlotsRead, SlotsOf, position, PairRead, PairRefused, PairOf, LoadsRead, SheetOf, Fresh, Reached}
+use Rattle.reading.specs.Reading.{LineAt, NoLineAt, LineOf, PairAt, NoPairAt, FormOf, PortsRead, PortsOf, SlotsRead, SlotsOf, position, PairRead, PairRefused, PairOf, LoadsRead, SheetOf, matrixLeft, Fresh, Reached}
 use types.Run.{OneOf, miss}
 use denote.Enum.Declared.{tagOf}
 use Rattle.reading.proofs.Reading.{the-type}
@@ -130,6 +131,11 @@ take-replicate zero k a h = refl
 take-replicate (suc n) zero a h = absurd (omega arith)
 take-replicate (suc n) (suc k) a h = ap (λ l. a ∷ l) (take-replicate n k a (omega arith))
 
+drop-replicate : (n k : ℕ) (a : ℕ) → drop n (replicate k a) ≡ replicate (k - n) a
+drop-replicate zero k a = let e : k ≡ k - 0 = omega arith in ap (λ z. replicate z a) e
+drop-replicate (suc n) zero a = let e : 0 ≡ 0 - suc n = omega arith in ap (λ z. replicate z a) e
+drop-replicate (suc n) (suc k) a = let e : k - n ≡ suc k - suc n = omega arith in drop-replicate n k a ∙ ap (λ z. replicate z a) e
+
 unmarked : (n p : ℕ) → getD (replicate n false) p false ≡ false
 unmarked zero p = refl
 unmarked (suc n) zero = refl
@@ -146,6 +152,7 @@ reached-start ports slots at s matrix named x h =
       marks = λ p. sym (ap (λ l. getD l p false) (x .unnamed) ∙ unmarked 256 p);
       size = ap length (x .empty) ∙ length-replicate {A = ℕ} 256 0;
       marked = ap length (x .unnamed) ∙ length-replicate {A = Bool} 256 false;
+      rest = ap (drop (ports * ports)) (x .empty) ∙ drop-replicate (ports * ports) 256 0;
       inside = h;
       count = omega arith;
       reads = ap (λ l. readPairs ports slots 3 [] l (lines (drop at s)))
@@ -193,6 +200,7 @@ module _ (asked : Asked) (ports slots : ℕ) (s matrix : List ℕ) (named : List
         marks = λ q. mark-on q p (omega arith) ∙ ap (λ z. getD z q false) (sym en);
         size = ap length em ∙ (length-set matrix p m ∙ x .size);
         marked = ap length en ∙ (length-set named p true ∙ x .marked);
+        rest = ap (drop (ports * ports)) em ∙ drop-set-lt (ports * ports) matrix p m l ∙ x .rest;
         inside = y .inside;
         count = omega (arith, x .count, y .on);
         reads = at-line
@@ -213,26 +221,33 @@ reached-end asked ports slots s matrix named line next named₀ matrix₀ x f h 
       most = f .most;
       power = f .power;
       size = x .size;
+      rest = x .rest;
     }
 
--- ---- a refusal is passed up
-pub ports-passed : (s matrix : List ℕ) (r : Reading) → PortsOf s r → OneOf (1 ∷ 2 ∷ 3 ∷ 4 ∷ []) (tagOf the-type r) → SheetOf (readPorts (lines s)) matrix r
-ports-passed s matrix (Ports n next) x k = absurd (miss (1 ∷ 2 ∷ 3 ∷ 4 ∷ []) 0 tt k)
-ports-passed s matrix (Slots n next) x k = absurd x
-ports-passed s matrix (Pair i o m next) x k = absurd x
-ports-passed s matrix (Loads n slots) x k = absurd x
-ports-passed s matrix (Refused r) x k = x
+-- ---- what the sheet is read as, and what is left in the matrix
+abbrev Left : Asked → List ℕ → List ℕ → Reading → Type 0
+Left asked lent matrix r = SheetOf asked matrix r × (matrix ≡ matrixLeft asked lent)
+
+kept : (asked : Asked) (lent : List ℕ) (r : Refusal) → asked ≡ refused (refusal r) → Left asked lent lent (Refused r)
+kept asked lent r e = (e, sym (ap (λ a. matrixLeft a lent) e))
+
+pub ports-passed : (s lent : List ℕ) (r : Reading) → PortsOf s r → OneOf (1 ∷ 2 ∷ 3 ∷ 4 ∷ []) (tagOf the-type r) → Left (readPorts (lines s)) lent lent r
+ports-passed s lent (Ports n next) x k = absurd (miss (1 ∷ 2 ∷ 3 ∷ 4 ∷ []) 0 tt k)
+ports-passed s lent (Slots n next) x k = absurd x
+ports-passed s lent (Pair i o m next) x k = absurd x
+ports-passed s lent (Loads n slots) x k = absurd x
+ports-passed s lent (Refused r) x k = kept (readPorts (lines s)) lent r x
 
 pub ports-known : (s : List ℕ) (r : Reading) (ports next : ℕ) → PortsOf s r → r ≡ Ports ports next → PortsRead s ports next
 ports-known s r ports next x e = rw e at x
 
-pub slots-passed : (s matrix : List ℕ) (first : Reading) (ports next : ℕ) (r : Reading) → PortsOf s first → first ≡ Ports ports next → SlotsOf ports s next r
-    → OneOf (0 ∷ 2 ∷ 3 ∷ 4 ∷ []) (tagOf the-type r) → SheetOf (readPorts (lines s)) matrix r
-slots-passed s matrix first ports next (Ports n after) y e x k = absurd x
-slots-passed s matrix first ports next (Slots n after) y e x k = absurd (miss (0 ∷ 2 ∷ 3 ∷ 4 ∷ []) 1 tt k)
-slots-passed s matrix first ports next (Pair i o m after) y e x k = absurd x
-slots-passed s matrix first ports next (Loads n slots) y e x k = absurd x
-slots-passed s matrix first ports next (Refused r) y e x k = ports-known s first ports next y e .reads ∙ x
+pub slots-passed : (s lent : List ℕ) (first : Reading) (ports next : ℕ) (r : Reading) → PortsOf s first → first ≡ Ports ports next → SlotsOf ports s next r
+    → OneOf (0 ∷ 2 ∷ 3 ∷ 4 ∷ []) (tagOf the-type r) → Left (readPorts (lines s)) lent lent r
+slots-passed s lent first ports next (Ports n after) y e x k = absurd x
+slots-passed s lent first ports next (Slots n after) y e x k = absurd (miss (0 ∷ 2 ∷ 3 ∷ 4 ∷ []) 1 tt k)
+slots-passed s lent first ports next (Pair i o m after) y e x k = absurd x
+slots-passed s lent first ports next (Loads n slots) y e x k = absurd x
+slots-passed s lent first ports next (Refused r) y e x k = kept (readPorts (lines s)) lent r (ports-known s first ports next y e .reads ∙ x)
 
 pub slots-known : (ports : ℕ) (s : List ℕ) (at : ℕ) (r : Reading) (slots next : ℕ) → SlotsOf ports s at r → r ≡ Slots slots next → SlotsRead ports s at slots next
 slots-known ports s at r slots next x e = rw e at x
@@ -246,10 +261,28 @@ pair-passed asked ports slots s matrix named line next (Loads n after) y x k = a
 pair-passed asked ports slots s matrix named line next (Refused r) y x k = y .reads ∙ x .reads slots (y .names) (take (ports * ports) matrix)
 
 -- what the pair lines ask for is what the sheet does
-pub sheet-read : (s matrix : List ℕ) (first : Reading) (ports next : ℕ) (second : Reading) (slots after : ℕ) (r : Reading)
-    → PortsOf s first → first ≡ Ports ports next → SlotsOf ports s next second → second ≡ Slots slots after
-    → SheetOf (readPairs ports slots 3 [] (replicate (ports * ports) 0) (lines (drop after s))) matrix r
-    → SheetOf (readPorts (lines s)) matrix r
-sheet-read s matrix first ports next second slots after r x d y e z =
-    subst (λ a. SheetOf a matrix r)
-    (sym (ports-known s first ports next x d .reads ∙ slots-known ports s next second slots after y e .reads)) z
+module _ (s lent : List ℕ) (first : Reading) (ports next : ℕ) (second : Reading) (slots after : ℕ) (x : PortsOf s first) (d : first ≡ Ports ports next)
+    (y : SlotsOf ports s next second) (e : second ≡ Slots slots after) (matrix : List ℕ) where
+  abbrev pairs : Asked
+  pairs = readPairs ports slots 3 [] (replicate (ports * ports) 0) (lines (drop after s))
+
+  asked-is : readPorts (lines s) ≡ pairs
+  asked-is = ports-known s first ports next x d .reads ∙ slots-known ports s next second slots after y e .reads
+
+  pub pairs-passed : (r : Reading) → SheetOf pairs matrix r → OneOf (0 ∷ 1 ∷ 2 ∷ 4 ∷ []) (tagOf the-type r) → Left (readPorts (lines s)) lent lent r
+  pairs-passed (Ports n after) z k = absurd z
+  pairs-passed (Slots n after) z k = absurd z
+  pairs-passed (Pair i o m after) z k = absurd z
+  pairs-passed (Loads n after) z k = absurd (miss (0 ∷ 1 ∷ 2 ∷ 4 ∷ []) 3 tt k)
+  pairs-passed (Refused r) z k = kept (readPorts (lines s)) lent r (asked-is ∙ z)
+
+  pub pairs-read : (r : Reading) (n m : ℕ) → SheetOf pairs matrix r → r ≡ Loads n m → Left (readPorts (lines s)) lent matrix (Loads n m)
+  pairs-read r n m z f =
+      let a : LoadsRead pairs matrix n m = rw f at z in
+      let k = square (a .most) in
+      let l : length (take (n * n) matrix) ≡ n * n = length-take-le (n * n) matrix (omega (arith, a .size)) in (
+        subst (λ b. LoadsRead b matrix n m) (sym asked-is) a,
+        sym (take-append-drop (n * n) matrix)
+            ∙ ap (λ b. take (n * n) matrix ++ b) (a .rest ∙ ap (λ b. replicate (256 - b) 0) (sym l))
+            ∙ sym (ap (λ b. matrixLeft b lent) (asked-is ∙ a .asks)),
+      )

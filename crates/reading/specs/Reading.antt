@@ -124,13 +124,14 @@ PairOf ports s at line (Pair i o m next) = PairRead ports s at line i o m next
 PairOf ports s at line (Loads n slots) = ⊥
 PairOf ports s at line (Refused r) = PairRefused ports s at line (refusal r)
 
--- The sheet is read: what it asks for, with the matrix where one is asked for.
+-- The sheet is read: what it asks for, with the matrix where one is asked for, and zeros behind that.
 pub record LoadsRead (asked : Asked) (matrix : List ℕ) (ports slots : ℕ) : Type 0 where
   pub asks : asked ≡ loads ports slots (take (ports * ports) matrix)
   pub least : 1 ≤ ports
   pub most : ports ≤ 16
   pub power : eqb (levels slots) 11 ≡ false
   pub size : length matrix ≡ 256
+  pub rest : drop (ports * ports) matrix ≡ replicate (256 - ports * ports) 0
 
 abbrev pub SheetOf : Asked → List ℕ → Reading → Type 0
 SheetOf asked matrix (Ports n next) = ⊥
@@ -138,6 +139,11 @@ SheetOf asked matrix (Slots slots next) = ⊥
 SheetOf asked matrix (Pair i o m next) = ⊥
 SheetOf asked matrix (Loads ports slots) = LoadsRead asked matrix ports slots
 SheetOf asked matrix (Refused r) = asked ≡ refused (refusal r)
+
+-- What the reading of a sheet leaves in a matrix that was lent: the loads read and zeros behind them; on a refusal what stood there.
+abbrev pub matrixLeft : Asked → List ℕ → List ℕ
+matrixLeft (loads ports slots l) lent = l ++ replicate (256 - length l) 0
+matrixLeft (refused r) lent = lent
 
 -- Lines 1 and 2 are well-formed, and nothing is noted of the pairs.
 pub record Fresh (ports slots : ℕ) (matrix : List ℕ) (named : List Bool) : Type 0 where
@@ -147,12 +153,13 @@ pub record Fresh (ports slots : ℕ) (matrix : List ℕ) (named : List Bool) : T
   pub empty : matrix ≡ replicate 256 0
   pub unnamed : named ≡ replicate 256 false
 
--- Pair lines are read up to next: the pairs that they name are marked, and the matrix has their cells.
+-- Pair lines are read up to next: the pairs that they name are marked, and the matrix has their cells and zeros behind them.
 pub record Reached (asked : Asked) (ports slots : ℕ) (s matrix : List ℕ) (named : List Bool) (line next : ℕ) : Type 0 where
   pub names : List ℕ
   pub marks : (p : ℕ) → has p names ≡ getD named p false
   pub size : length matrix ≡ 256
   pub marked : length named ≡ 256
+  pub rest : drop (ports * ports) matrix ≡ replicate (256 - ports * ports) 0
   pub inside : next ≤ length s
   pub count : line ≤ 3 + next
   pub reads : asked ≡ readPairs ports slots line names (take (ports * ports) matrix) (lines (drop next s))

@@ -4,7 +4,7 @@ ghost use mathlib.Core.List.{[]};
 ghost use Prim.Native.Nat.{_*_, _≤_, _<_};
 ghost use lib.ListN.{length, drop, replicate};
 ghost use Rattle.model.specs.Sheet.{lines, readPorts, readPairs};
-ghost use Rattle.reading.specs.Reading.{starts, DigitAt, NumberOf, LineOf, FormOf, PortsOf, SlotsOf, PairOf, SheetOf, Fresh};
+ghost use Rattle.reading.specs.Reading.{starts, DigitAt, NumberOf, LineOf, FormOf, PortsOf, SlotsOf, PairOf, SheetOf, Fresh, matrixLeft};
 use model::Refusal;
 
 // A number at a place of the sheet, and the place behind it.
@@ -270,9 +270,10 @@ fn read_pairs(
     Reading::Loads { ports, slots }
 }
 
-// Reads the lines in turn, into an emptied matrix; a line's refusal is the sheet's.
+// Reads the lines in turn; a line's refusal is the sheet's, and the matrix is written where there is none.
 pub fn read_lines(sheet: &[u8], matrix: &mut [u16; 256]) -> Reading
-    ensures { λ r. ⌜ SheetOf (readPorts (lines (now (sheet .entry)))) (now (matrix .exit)) r ⌝ }
+    ensures { λ r. ⌜ SheetOf (readPorts (lines (now (sheet .entry)))) (now (matrix .exit)) r
+        × (now (matrix .exit) ≡ matrixLeft (readPorts (lines (now (sheet .entry)))) (now (matrix .entry))) ⌝ }
 {
     let first = ports_line(sheet);
     let Reading::Ports { ports, next } = first else {
@@ -282,7 +283,12 @@ pub fn read_lines(sheet: &[u8], matrix: &mut [u16; 256]) -> Reading
     let Reading::Slots { slots, next: after } = second else {
         return second;
     };
-    *matrix = [0u16; 256];
+    let mut cells = [0u16; 256];
     let mut named = [false; 256];
-    read_pairs(sheet, after, ports, slots, matrix, &mut named)
+    let read = read_pairs(sheet, after, ports, slots, &mut cells, &mut named);
+    let Reading::Loads { ports, slots } = read else {
+        return read;
+    };
+    *matrix = cells;
+    Reading::Loads { ports, slots }
 }
