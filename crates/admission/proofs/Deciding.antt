@@ -8,7 +8,8 @@ use lib.Dec.{ltb}
 use lib.ListN.{getD}
 use Rattle.model.specs.Loads.{Class, input, output, load}
 use Rattle.model.specs.Refusals.{Check, report, accepted, overloaded, overload}
-use Rattle.model.proofs.Overloads.{first-ext, overload-found, overload-none}
+use Rattle.model.proofs.Searches.{first-ext}
+use Rattle.model.proofs.Overloads.{overload-found, overload-none}
 use Rattle.model.proofs.Reports.{report-found, report-on}
 use Rattle.admission.specs.Overloads.{LoadsOf, Lowest, overloads}
 

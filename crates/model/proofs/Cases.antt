@@ -30,6 +30,10 @@ pub both-yes : (a b : Bool) → a ≡ true → b ≡ true → both a b ≡ true
 both-yes a b e f = rw (e, f)
 
 -- ---- a range
+-- n is one of low, low + 1, .., high
+abbrev pub Within : ℕ → ℕ → ℕ → Type 0
+Within low high n = (low ≤ n) × (n ≤ high)
+
 pub within-yes : (low high n : ℕ) → low ≤ n → n ≤ high → within low high n ≡ true
 within-yes low high n a b = rw (le-leb low n a, le-leb n high b)
 
@@ -39,5 +43,5 @@ within-below low high n a = rw (lt-leb low n a)
 pub within-above : (low high n : ℕ) → low ≤ n → high < n → within low high n ≡ false
 within-above low high n a b = rw (le-leb low n a, lt-leb n high b)
 
-pub within-true : (low high n : ℕ) → within low high n ≡ true → (low ≤ n) × (n ≤ high)
+pub within-true : (low high n : ℕ) → within low high n ≡ true → Within low high n
 within-true low high n e = let b = both-true (leb low n) (leb n high) e in (leb-true low n (b .0), leb-true n high (b .1))

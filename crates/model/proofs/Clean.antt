@@ -10,7 +10,7 @@ use native.Mathlib.Nat.{div-lt-iff-lt-mul, mod-lt}
 use lib.Arith.{digits-div, digits-mod, digits-lt}
 use lib.Dec.{ltb}
 use lib.ListN.{length, getD}
-use borrow.Author.Tests.{le-ltb, ltb-true, ltb-false, eq-eqb, ne-eqb, eqb-true, not-false}
+use borrow.Author.Tests.{le-ltb, ltb-true, ltb-false, eq-eqb, eqb-true, not-false}
 use Rattle.model.specs.Words.{first, Every}
 use Rattle.model.specs.Loads.{Class, pair, output, Of, load}
 use Rattle.model.specs.Frames.{cells, runOf, Legal, Balanced}
@@ -19,11 +19,12 @@ use Rattle.model.specs.Inspect.{tooLarge, twiceIn, usedTwice, wrongCount
 use Rattle.model.specs.Build.{buildAccepts, left}
 use Rattle.model.specs.Wire.{Carried, share, Shape, Accurate}
 use Rattle.model.specs.Queue.{HeldOn}
-use Rattle.model.proofs.Cases.{byBool, byLt, within-yes}
+use Rattle.model.proofs.Cases.{byBool, byLt}
 use Rattle.model.proofs.Searches.{first-found, first-before, first-none}
-use Rattle.model.proofs.Levels.{levels-power, depth-size, depth-half}
+use Rattle.model.proofs.Levels.{levels-power, power-known, depth-size, depth-half}
 use Rattle.model.proofs.Blocks.{number-block, block-numbered}
 use Rattle.model.proofs.Inspected.{near-yes, position-of, unbalanced-no, balanced-near}
+use Rattle.model.proofs.Reports.{ports-tells, slots-tells, matrix-tells, frame-tells}
 use Rattle.model.proofs.Demand2.{WellFormed, accepts-is, build-sound}
 use Rattle.model.proofs.Demand3.{Sound, sound-accurate}
 use Rattle.model.proofs.Queues.{sound-held}
@@ -67,7 +68,7 @@ module _ (ports slots : ℕ) (m bytes : List ℕ) (w : WellFormed ports slots m)
   k = levels slots
 
   power : slots ≡ 2 ^ k
-  power = levels-power slots (w .power)
+  power = levels-power slots (power-known (w .power))
 
   abbrev pub faults : List Check
   faults = byteTooLarge ports slots bytes ∷ outputTwice ports slots bytes ∷ pairCount ports m bytes ∷ unbalancedBlock ports slots bytes ∷ []
@@ -75,7 +76,7 @@ module _ (ports slots : ℕ) (m bytes : List ℕ) (w : WellFormed ports slots m)
   pub inspected-is : inspected ports slots m bytes ≡ report faults (0 ∷ [])
   unfolding inspected
   inspected-is =
-      rw (within-yes 1 16 ports (w .low) (w .high), ne-eqb (levels slots) 11 (w .power), eq-eqb (length m) (ports * ports) (w .square), eq-eqb (length bytes) (slots * ports) size)
+      rw (ports-tells ports .met (w .rack), slots-tells slots .met (w .power), matrix-tells ports m .met (w .square), frame-tells ports slots bytes .met size)
 
   -- the four searches, each as whether it finds something
   abbrev one : Bool
@@ -117,7 +118,7 @@ module _ (ports slots : ℕ) (m bytes : List ℕ) (w : WellFormed ports slots m)
   )
     where
       row : (q : ℕ) → q < slots * ports → (q / ports < slots) × (q % ports < ports)
-      row q h = (div-lt-iff-lt-mul {k = ports} {x = q} {y = slots} (w .low) .1 h, mod-lt q {m = ports} (w .low))
+      row q h = (div-lt-iff-lt-mul {k = ports} {x = q} {y = slots} (w .rack .0) .1 h, mod-lt q {m = ports} (w .rack .0))
 
   -- ---- balanced, by the last
   pub balanced-of : None (unbalancedAt ports slots bytes) k → Balanced ports slots bytes

@@ -1,46 +1,26 @@
 -- Demand 2: a well-formed load is refused as overloaded exactly where it does not fit, with the lowest such port and its
 -- load; every other one is accepted, and Build leaves the rules' only frame.
-use Prim.Native.Nat.{ℕ, suc, _*_, _^_, _≤_, _<_}
-use mathlib.Core.Path.{_≡_, sym, _∙_, subst}
-use mathlib.Core.Logic.{_≢_}
+use Prim.Native.Nat.{ℕ, suc, _*_, _^_}
+use mathlib.Core.Path.{_≡_, sym, ap, _∙_, subst}
 use mathlib.Core.List.{List, [], _∷_}
 use mathlib.Core.Bool.{true, false, not}
 use native.Mathlib.Omega.{arith}
-use lib.Dec.{eqb, ltb}
-use lib.ListN.{length}
-use borrow.Author.Tests.{eqb-true, eqb-false, eq-eqb, ne-eqb, lt-ltb, le-ltb, ltb-true, ltb-false, not-true, not-false}
-use Rattle.model.specs.Words.{both, within}
-use Rattle.model.specs.Loads.{Class, input, output, load, Fits}
-use Rattle.model.specs.Refusals.{Check, report, clear, accepted, overloaded, overload, levels, admitted}
+use lib.ListN.{length, getD}
+use borrow.Author.Tests.{not-true}
+use Rattle.model.specs.Loads.{input, output, load, Fits}
+use Rattle.model.specs.Refusals.{Check, report, clear, accepted, bad-ports, bad-slots, bad-matrix, bad-frame, overload, levels, admitted}
 use Rattle.model.specs.Build.{buildChecks, built, buildAccepts, left}
 use Rattle.model.specs.Frames.{Legal, Balanced}
-use Rattle.model.proofs.Cases.{byBool, both-true, within-yes, within-true}
-use Rattle.model.proofs.Searches.{first-found, first-before, first-is, first-none}
-use Rattle.model.proofs.Levels.{levels-power}
+use Rattle.model.proofs.Cases.{Within, both-true}
+use Rattle.model.proofs.Levels.{Power, levels-power, power-known}
+use Rattle.model.proofs.Reports.{report-found, report-on, report-clear, clear-none, ports-tells, slots-tells, matrix-tells, frame-tells}
+use Rattle.model.proofs.Overloads.{Light, Over, over-reported, overload-tells}
 use Rattle.model.proofs.OneFrame.{OneFrame, one-frame}
-
--- ---- the lowest port above slots
-module _ (kind : ℕ → Class) (ports slots : ℕ) (m : List ℕ) where
-  pub over-none : ((x : ℕ) → x < ports → load (kind x) ports m ≤ slots) → overloaded kind ports slots m ≡ ports
-  over-none fits =
-      first-none (λ x. ltb slots (load (kind x) ports m)) ports 0 (λ x _ h. le-ltb slots (load (kind x) ports m) (fits x (omega arith))) ∙ omega arith
-
-  pub over-is : (x : ℕ) → x < ports → slots < load (kind x) ports m → ((y : ℕ) → y < x → load (kind y) ports m ≤ slots) → overloaded kind ports slots m ≡ x
-  over-is x h a low =
-      first-is (λ x. ltb slots (load (kind x) ports m)) ports 0 x (omega arith) (omega arith) (lt-ltb slots (load (kind x) ports m) a)
-      (λ y _ l. le-ltb slots (load (kind y) ports m) (low y l))
-
-  pub over-found : overloaded kind ports slots m < ports → slots < load (kind (overloaded kind ports slots m)) ports m
-  over-found h = ltb-true slots _ (first-found (λ x. ltb slots (load (kind x) ports m)) ports 0 (omega arith))
-
-  pub over-before : (x : ℕ) → x < overloaded kind ports slots m → load (kind x) ports m ≤ slots
-  over-before x h = ltb-false slots (load (kind x) ports m) (first-before (λ x. ltb slots (load (kind x) ports m)) ports 0 x (omega arith) h)
 
 -- ---- well-formed: none of the refusals before 5 holds
 pub record WellFormed (ports slots : ℕ) (m : List ℕ) : Type 0 where
-  pub low : 1 ≤ ports
-  pub high : ports ≤ 16
-  pub power : levels slots ≢ 11
+  pub rack : Within 1 16 ports
+  pub power : Power slots
   pub square : length m ≡ ports * ports
 
 -- What Admit, and Build lent a frame of the right size, answer to a well-formed load.
@@ -49,63 +29,54 @@ pub record Answers (ports slots : ℕ) (m given : List ℕ) : Type 0 where
   pub accepts : Fits ports slots m → given ≡ accepted
   pub fits : given ≡ accepted → Fits ports slots m
   -- 5 with the lowest input that is asked for more, and its load
-  pub input-over : (x : ℕ) → x < ports → slots < load (input x) ports m → ((y : ℕ) → y < x → load (input y) ports m ≤ slots)
-      → given ≡ 5 ∷ suc x ∷ load (input x) ports m ∷ []
+  pub input-over : (x : ℕ) → Over input ports slots m x → given ≡ 5 ∷ suc x ∷ load (input x) ports m ∷ []
   -- 6, where no input is, with the lowest output that is asked for more, and its load
-  pub output-over : ((y : ℕ) → y < ports → load (input y) ports m ≤ slots)
-      → (x : ℕ) → x < ports → slots < load (output x) ports m → ((y : ℕ) → y < x → load (output y) ports m ≤ slots)
-      → given ≡ 6 ∷ suc x ∷ load (output x) ports m ∷ []
+  pub output-over : Light input ports slots m → (x : ℕ) → Over output ports slots m x → given ≡ 6 ∷ suc x ∷ load (output x) ports m ∷ []
 
 abbrev pub overloads : ℕ → ℕ → List ℕ → List Check
 overloads ports slots m = overload 5 input ports slots m ∷ overload 6 output ports slots m ∷ []
 
 module _ (ports slots : ℕ) (m : List ℕ) where
-  no-over : (kind : ℕ → Class) → ((x : ℕ) → x < ports → load (kind x) ports m ≤ slots) → ltb (overloaded kind ports slots m) ports ≡ false
-  no-over kind h = le-ltb (overloaded kind ports slots m) ports (let e = over-none kind ports slots m h in omega arith)
-
-  some-over : (kind : ℕ → Class) (x : ℕ) → overloaded kind ports slots m ≡ x → x < ports → ltb (overloaded kind ports slots m) ports ≡ true
-  some-over kind x e h = lt-ltb (overloaded kind ports slots m) ports (omega arith)
-
-  all-below : (kind : ℕ → Class) → ltb (overloaded kind ports slots m) ports ≡ false → (x : ℕ) → x < ports → load (kind x) ports m ≤ slots
-  all-below kind e x h = over-before kind ports slots m x (let l = ltb-false (overloaded kind ports slots m) ports e in omega arith)
+  -- a load fits where its inputs and its outputs are light
+  pub light-fits : Light input ports slots m → Light output ports slots m → Fits ports slots m
+  light-fits i o x h = (i x h, o x h)
 
   pub clear-fits : clear (overloads ports slots m) ≡ true → Fits ports slots m
-  clear-fits e x h =
-      let i = both-true (not (ltb (overloaded input ports slots m) ports)) (both (not (ltb (overloaded output ports slots m) ports)) true) e in
-      let o = both-true (not (ltb (overloaded output ports slots m) ports)) true (i .1) in
-      (all-below input (not-true _ (i .0)) x h, all-below output (not-true _ (o .0)) x h)
+  clear-fits e =
+      let i = both-true (not (overload 5 input ports slots m .0)) (clear (overload 6 output ports slots m ∷ [])) e in
+      let o = both-true (not (overload 6 output ports slots m .0)) true (i .1) in
+      light-fits (overload-tells 5 input ports slots m .known (not-true _ (i .0))) (overload-tells 6 output ports slots m .known (not-true _ (o .0)))
 
   pub fits-clear : Fits ports slots m → clear (overloads ports slots m) ≡ true
-  fits-clear fits = rw (no-over input (λ x h. fits x h .0), no-over output (λ x h. fits x h .1))
+  fits-clear fits =
+      rw (overload-tells 5 input ports slots m .met (λ x h. fits x h .0), overload-tells 6 output ports slots m .met (λ x h. fits x h .1))
 
   overload-answers : Answers ports slots m (report (overloads ports slots m) accepted)
   overload-answers =
       record {
-        accepts = λ fits. rw (no-over input (λ x h. fits x h .0), no-over output (λ x h. fits x h .1));
+        accepts = λ fits. report-clear (overloads ports slots m) accepted (fits-clear fits);
         fits = both-fit;
-        input-over = λ x h a low. let e = over-is input ports slots m x h a low in rw (some-over input x e h, e);
-        output-over = λ none x h a low. let e = over-is output ports slots m x h a low in rw (no-over input none, some-over output x e h, e);
+        input-over = λ x o. report-found (overload 5 input ports slots m) (overload 6 output ports slots m ∷ []) accepted (over-reported 5 input ports slots m x o);
+        output-over = λ none x o.
+            report-on (overload 5 input ports slots m) (overload 6 output ports slots m ∷ []) accepted (overload-tells 5 input ports slots m .met none)
+            ∙ report-found (overload 6 output ports slots m) [] accepted (over-reported 6 output ports slots m x o);
       }
     where
       both-fit : report (overloads ports slots m) accepted ≡ accepted → Fits ports slots m
-      both-fit =
-          byBool (ltb (overloaded input ports slots m) ports)
-          (λ e. rw e (λ k. let z : _≡_ {A = ℕ} 0 5 = cc in absurd (omega arith)))
-          (λ e. byBool (ltb (overloaded output ports slots m) ports)
-          (λ f. rw (e, f) (λ k. let z : _≡_ {A = ℕ} 0 6 = cc in absurd (omega arith)))
-          (λ f. λ k x h. (all-below input e x h, all-below output f x h)))
+      both-fit e =
+          clear-fits (clear-none (overloads ports slots m) (omega arith, (omega arith, tt)) (ap (λ (l : List ℕ). getD l 0 0) e))
 
   module _ (w : WellFormed ports slots m) where
     pub admit-answers : Answers ports slots m (admitted ports slots m)
     unfolding admitted
     admit-answers =
-        rw (within-yes 1 16 ports (w .low) (w .high), ne-eqb (levels slots) 11 (w .power), eq-eqb (length m) (ports * ports) (w .square))
+        rw (ports-tells ports .met (w .rack), slots-tells slots .met (w .power), matrix-tells ports m .met (w .square))
         overload-answers
 
     pub build-answers : (buffer : List ℕ) → length buffer ≡ slots * ports → Answers ports slots m (built ports slots m buffer)
     unfolding buildChecks
     build-answers buffer e =
-        rw (within-yes 1 16 ports (w .low) (w .high), ne-eqb (levels slots) 11 (w .power), eq-eqb (length m) (ports * ports) (w .square), eq-eqb (length buffer) (slots * ports) e)
+        rw (ports-tells ports .met (w .rack), slots-tells slots .met (w .power), matrix-tells ports m .met (w .square), frame-tells ports slots buffer .met e)
         overload-answers
 
 -- ---- Build
@@ -117,19 +88,17 @@ pub record Accepts (ports slots : ℕ) (m buffer : List ℕ) : Type 0 where
 pub accepts-is : (ports slots : ℕ) (m buffer : List ℕ) → buildAccepts ports slots m buffer ≡ true → Accepts ports slots m buffer
 unfolding buildChecks
 accepts-is ports slots m buffer e =
-    let a = both-true (not (not (within 1 16 ports))) _ e in
-    let b = both-true (not (eqb (levels slots) 11)) _ (a .1) in
-    let c = both-true (not (not (eqb (length m) (ports * ports)))) _ (b .1) in
-    let d = both-true (not (not (eqb (length buffer) (slots * ports)))) _ (c .1) in
-    let r = within-true 1 16 ports (not-false _ (not-true _ (a .0))) in
+    let a = both-true (not (bad-ports ports .0)) _ e in
+    let b = both-true (not (bad-slots slots .0)) _ (a .1) in
+    let c = both-true (not (bad-matrix ports m .0)) _ (b .1) in
+    let d = both-true (not (bad-frame ports slots buffer .0)) _ (c .1) in
     record {
       well = record {
-        low = r .0;
-        high = r .1;
-        power = eqb-false (levels slots) 11 (not-true _ (b .0));
-        square = eqb-true (length m) (ports * ports) (not-false _ (not-true _ (c .0)));
+        rack = ports-tells ports .known (not-true _ (a .0));
+        power = slots-tells slots .known (not-true _ (b .0));
+        square = matrix-tells ports m .known (not-true _ (c .0));
       };
-      size = eqb-true (length buffer) (slots * ports) (not-false _ (not-true _ (d .0)));
+      size = frame-tells ports slots buffer .known (not-true _ (d .0));
       fits = clear-fits ports slots m (d .1);
     }
 
@@ -137,7 +106,7 @@ pub accepts-yes : (ports slots : ℕ) (m buffer : List ℕ) → Accepts ports sl
 unfolding buildChecks
 accepts-yes ports slots m buffer a =
     let w = a .well in
-    rw (within-yes 1 16 ports (w .low) (w .high), ne-eqb (levels slots) 11 (w .power), eq-eqb (length m) (ports * ports) (w .square), eq-eqb (length buffer) (slots * ports) (a .size))
+    rw (ports-tells ports .met (w .rack), slots-tells slots .met (w .power), matrix-tells ports m .met (w .square), frame-tells ports slots buffer .met (a .size))
     (fits-clear ports slots m (a .fits))
 
 -- an accepted Build leaves the rules' only frame, and a refused one the bytes that it was lent
@@ -145,7 +114,7 @@ pub build-frame : (ports slots : ℕ) (m buffer : List ℕ) → buildAccepts por
     → OneFrame ports (levels slots) m (left ports slots m buffer) × (slots ≡ 2 ^ levels slots)
 build-frame ports slots m buffer e =
     let a = accepts-is ports slots m buffer e in
-    let p = levels-power slots (a .well .power) in
+    let p = levels-power slots (power-known (a .well .power)) in
     (rw e (one-frame ports (levels slots) m (a .well .square) (subst (λ (n : ℕ). Fits ports n m) p (a .fits))), p)
 
 pub build-sound : (ports slots : ℕ) (m buffer : List ℕ) → buildAccepts ports slots m buffer ≡ true

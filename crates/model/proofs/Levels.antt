@@ -22,6 +22,12 @@ pow-less j k h =
 pub levels-most : (slots : ℕ) → levels slots ≤ 11
 levels-most slots = omega (arith, first-high (λ k. eqb slots (2 ^ k)) 11 0)
 
+-- slots are a power of two from 1 to 1,024
+pub record Power (slots : ℕ) : Type 0 where
+  pub k : ℕ
+  pub most : k ≤ 10
+  pub is : slots ≡ 2 ^ k
+
 pub levels-power : (slots : ℕ) → levels slots ≢ 11 → slots ≡ 2 ^ levels slots
 levels-power slots n =
     let h = levels-most slots in
@@ -32,6 +38,17 @@ pub levels-of : (k : ℕ) → k ≤ 10 → levels (2 ^ k) ≡ k
 levels-of k h =
     first-is (λ j. eqb (2 ^ k) (2 ^ j)) 11 0 k (omega arith) (omega arith) (eq-eqb (2 ^ k) (2 ^ k) refl)
     (λ j _ l. ne-eqb (2 ^ k) (2 ^ j) (λ e. let p = pow-less j k l in omega arith))
+
+-- a power of two is no other number, and its k is its level
+pub power-level : {slots : ℕ} (p : Power slots) → levels slots ≡ p .k
+power-level p = ap levels (p .is) ∙ levels-of (p .k) (p .most)
+
+pub power-known : {slots : ℕ} → Power slots → levels slots ≢ 11
+power-known p e = let l = power-level p in let m = p .most in omega arith
+
+pub known-power : (slots : ℕ) → levels slots ≢ 11 → Power slots
+known-power slots n =
+    record { k = levels slots; most = (let m = levels-most slots in omega arith); is = levels-power slots n }
 
 -- ---- blocks of 2 ^ k slots at depth t: 2 ^ t of 2 ^ (k - t) slots
 pub depth-size : (k t : ℕ) → t ≤ k → 2 ^ k / 2 ^ t ≡ 2 ^ (k - t)

@@ -14,13 +14,13 @@ pub mod Slots
 pub mod Blocks
 pub mod Legal
 pub mod OneFrame
+pub mod Reports
+pub mod Overloads
 pub mod Demand2
 pub mod Accuracy
 pub mod Demand3
 pub mod Tight
 pub mod Queues
-pub mod Overloads
-pub mod Reports
 pub mod Runs
 pub mod Inspected
 pub mod Clean

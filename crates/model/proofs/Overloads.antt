@@ -1,22 +1,24 @@
 -- Overloads: loads added up in matrix order, and the lowest port above slots.
-use Prim.Native.Nat.{ℕ, suc, zero, _+_, _*_, _≤_, _<_}
-use mathlib.Core.Path.{_≡_, refl, sym}
+use Prim.Native.Nat.{ℕ, suc, _+_, _*_, _≤_, _<_}
+use mathlib.Core.Path.{_≡_, sym, _∙_}
 use mathlib.Core.Logic.{_≢_}
 use mathlib.Core.List.{List, [], _∷_}
 use mathlib.Core.Bool.{Bool, true, false}
 use native.Mathlib.Omega.{arith}
 use native.Mathlib.Nat.{mod-lt, div-lt-iff-lt-mul}
 use native.Mathlib.Numerals.{add-one}
-use lib.Dec.{eqb}
+use lib.Dec.{eqb, ltb}
 use lib.ListN.{getD}
-use borrow.Author.Tests.{eq-eqb, ne-eqb, lt-ltb, le-ltb}
-use Rattle.model.specs.Words.{if, first, sumTo}
+use borrow.Author.Tests.{eq-eqb, ne-eqb, lt-ltb, le-ltb, ltb-true, ltb-false}
+use Rattle.model.specs.Words.{if, sumTo}
 use Rattle.model.specs.Loads.{Class, load}
 use Rattle.model.specs.Refusals.{overloaded, overload}
 use Rattle.model.specs.Rules.{Side, inputs, outputs, portOf}
 use Rattle.model.proofs.Cases.{byBool}
 use Rattle.model.proofs.Sums.{sum-none, sum-more}
+use Rattle.model.proofs.Searches.{first-found, first-before, first-is, first-none}
 use Rattle.model.proofs.Halves.{kind, load-side}
+use Rattle.model.proofs.Reports.{Tells}
 
 -- ---- loads, position by position
 -- the count at position p where its port is x
@@ -59,17 +61,56 @@ unfolding addedTo
 added-load side ports matrix x l = sym (load-side side ports x matrix l)
 
 -- ---- the lowest port above slots
-pub first-ext : (s t : ℕ → Bool) (n a : ℕ) → ((y : ℕ) → a ≤ y → y < a + n → s y ≡ t y) → first s a n ≡ first t a n
-first-ext s t zero a h = refl
-first-ext s t (suc n) a h =
-    let e : s a ≡ t a = h a (omega arith) (omega arith) in
-    byBool (t a)
-    (λ b. rw (e, b))
-    (λ b. rw (e, b) (first-ext s t n (suc a) (λ y l k. h y (omega arith) (omega arith))))
+-- No port of a kind has a load above slots.
+abbrev pub Light : (ℕ → Class) → ℕ → ℕ → List ℕ → Type 0
+Light kind ports slots matrix = (x : ℕ) → x < ports → load (kind x) ports matrix ≤ slots
 
-module _ (number : ℕ) (kind : ℕ → Class) (ports slots : ℕ) (matrix : List ℕ) (x : ℕ) (is : x ≡ overloaded kind ports slots matrix) where
-  pub overload-found : x < ports → overload number kind ports slots matrix ≡ (true, number ∷ (x + 1) ∷ load (kind x) ports matrix ∷ [])
-  overload-found l = rw (← is, lt-ltb x ports l, add-one x)
+-- Port x is the lowest of its kind whose load is above slots.
+pub record Over (kind : ℕ → Class) (ports slots : ℕ) (matrix : List ℕ) (x : ℕ) : Type 0 where
+  pub low : x < ports
+  pub above : slots < load (kind x) ports matrix
+  pub lower : (y : ℕ) → y < x → load (kind y) ports matrix ≤ slots
 
-  pub overload-none : ports ≤ x → overload number kind ports slots matrix .0 ≡ false
-  overload-none l = rw (← is) (le-ltb x ports l)
+module _ (number : ℕ) (kind : ℕ → Class) (ports slots : ℕ) (matrix : List ℕ) where
+  abbrev test : ℕ → Bool
+  test x = ltb slots (load (kind x) ports matrix)
+
+  -- the search finds a port, which is carried with its load, or none
+  module _ (x : ℕ) (is : x ≡ overloaded kind ports slots matrix) where
+    pub overload-found : x < ports → overload number kind ports slots matrix ≡ (true, number ∷ (x + 1) ∷ load (kind x) ports matrix ∷ [])
+    overload-found l = rw (← is, lt-ltb x ports l, add-one x)
+
+    pub overload-none : ports ≤ x → overload number kind ports slots matrix .0 ≡ false
+    overload-none l = rw (← is) (le-ltb x ports l)
+
+  -- the lowest port above slots is reported, with its load
+  pub over-reported : (x : ℕ) → Over kind ports slots matrix x → overload number kind ports slots matrix ≡ (true, number ∷ suc x ∷ load (kind x) ports matrix ∷ [])
+  over-reported x o =
+      rw (← (add-one x))
+      (overload-found x
+      (sym (first-is test ports 0 x (omega arith) (let l = o .low in omega arith) (lt-ltb slots (load (kind x) ports matrix) (o .above)) (λ y _ l. le-ltb slots (load (kind y) ports matrix) (o .lower y l))))
+      (o .low))
+
+  -- the check tells whether the ports are light
+  pub overload-tells : Tells (overload number kind ports slots matrix) (Light kind ports slots matrix)
+  overload-tells =
+      record {
+        met = λ f. overload-none ports (sym (first-none test ports 0 (λ x _ h. le-ltb slots (load (kind x) ports matrix) (f x (omega arith))) ∙ omega arith)) (omega arith);
+        known = λ e x h.
+            let l = ltb-false (overloaded kind ports slots matrix) ports e in
+            ltb-false slots (load (kind x) ports matrix) (first-before test ports 0 x (omega arith) (omega arith));
+      }
+
+  -- one port is the lowest above slots, or all are light
+  pub byOver : {P : Type 0} → ((x : ℕ) → Over kind ports slots matrix x → P) → (Light kind ports slots matrix → P) → P
+  byOver over light =
+      let x = overloaded kind ports slots matrix in
+      byBool (ltb x ports)
+      (λ e.
+      let l = ltb-true x ports e in
+      over x (record {
+        low = l;
+        above = ltb-true slots _ (first-found test ports 0 (omega arith));
+        lower = λ y h. ltb-false slots (load (kind y) ports matrix) (first-before test ports 0 y (omega arith) h);
+      }))
+      (λ e. light (overload-tells .known e))

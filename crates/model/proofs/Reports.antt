@@ -1,21 +1,23 @@
 -- Reports: the first condition that holds.
-use Prim.Native.Nat.{ℕ, _^_, _≤_}
-use mathlib.Core.Path.{_≡_, refl, sym, _∙_}
+use Prim.Native.Nat.{ℕ, _*_, _^_, _≤_}
+use mathlib.Core.Path.{_≡_, refl, sym, ap, _∙_}
 use mathlib.Core.Logic.{_≢_}
 use mathlib.Core.List.{List, [], _∷_}
 use mathlib.Core.Bool.{Bool, true, false, not, true≢false}
 use native.Mathlib.Omega.{arith}
 use native.Mathlib.Nat.{pow-le-pow-right}
-use lib.Dec.{eqb}
-use lib.ListN.{getD}
+use lib.Dec.{eqb, ltb}
+use lib.ListN.{length, getD}
 use lib.Pow.{pow-pos}
-use borrow.Author.Tests.{eqb-false, not-false}
+use borrow.Author.Tests.{eqb-true, eqb-false, eq-eqb, ne-eqb, le-ltb, ltb-false, not-false}
 use Rattle.model.specs.Words.{within, Every}
-use Rattle.model.specs.Refusals.{Check, report, clear, accepted, refusal, levels}
+use Rattle.model.specs.Refusals.{Check, report, clear, accepted, refusal, levels, bad-ports, bad-slots, bad-matrix, bad-frame, bad-slot}
+use Rattle.model.specs.Service.{bad-length}
+use Rattle.model.specs.Sheet.{bad-sheet}
 use Rattle.model.specs.declared.Refusal.{Refusal}
 use Rattle.model.specs.declared.Refusal.the-variants.{Ports, Slots, MatrixLength, FrameLength, InputLoad, OutputLoad, LineForm, LinePort, LinePair, SheetLength, SlotNumber, PortNumber, RunLength}
-use Rattle.model.proofs.Cases.{byBool, within-true}
-use Rattle.model.proofs.Levels.{levels-most, levels-power}
+use Rattle.model.proofs.Cases.{byBool, Within, within-yes, within-true}
+use Rattle.model.proofs.Levels.{Power, power-known, known-power}
 
 module _ (c : Check) (cs : List Check) (asked : List ℕ) where
   pub report-found : {answer : List ℕ} → c ≡ (true, answer) → report (c ∷ cs) asked ≡ answer
@@ -66,16 +68,69 @@ pub clear-some : (cs : List Check) → getD (report cs accepted) 0 0 ≢ 0 → c
 clear-some [] = λ n. absurd (n refl)
 clear-some (c ∷ cs) = byBool (c .0) (λ b. rw b (λ n. refl)) (λ b. rw b (λ n. clear-some cs n))
 
--- ---- what holds where a condition does not
-pub within-known : {n most : ℕ} {r : Bool} → r ≡ not (within 1 most n) → r ≡ false → (1 ≤ n) × (n ≤ most)
-within-known {n} {most} e f = within-true 1 most n (not-false (within 1 most n) (sym e ∙ f))
+-- ---- conditions in words
+-- A check tells a fact: it holds exactly where that is not so.
+pub record Tells (c : Check) (fact : Type 0) : Type 0 where
+  pub met : fact → c .0 ≡ false
+  pub known : c .0 ≡ false → fact
 
-pub slots-known : {slots : ℕ} {r : Bool} → r ≡ eqb (levels slots) 11 → r ≡ false → (1 ≤ slots) × (slots ≤ 1024)
+-- it holds where the fact does not
+pub broken : {c : Check} {fact : Type 0} → Tells c fact → (fact → ⊥) → c .0 ≡ true
+broken {c} t n = byBool (c .0) (λ e. e) (λ e. absurd (n (t .known e)))
+
+-- a goal by cases on the fact
+pub byFact : {P : Type 0} {c : Check} {fact : Type 0} → Tells c fact → ((fact → ⊥) → P) → (fact → P) → P
+byFact {P} {c} t off on = byBool (c .0) (λ e. off (λ f. true≢false (sym e ∙ t .met f))) (λ e. on (t .known e))
+
+range-tells : (low high n : ℕ) (answer : List ℕ) → Tells (not (within low high n), answer) (Within low high n)
+range-tells low high n answer =
+    record {
+      met = λ f. ap not (within-yes low high n (f .0) (f .1));
+      known = λ e. within-true low high n (not-false (within low high n) e);
+    }
+
+size-tells : (size n : ℕ) (answer : List ℕ) → Tells (not (eqb size n), answer) (size ≡ n)
+size-tells size n answer =
+    record { met = λ f. ap not (eq-eqb size n f); known = λ e. eqb-true size n (not-false (eqb size n) e) }
+
+most-tells : (most n : ℕ) (answer : List ℕ) → Tells (ltb most n, answer) (n ≤ most)
+most-tells most n answer = record { met = le-ltb most n; known = ltb-false most n }
+
+-- 1: ports are 1 to 16
+pub ports-tells : (ports : ℕ) → Tells (bad-ports ports) (Within 1 16 ports)
+ports-tells ports = range-tells 1 16 ports (1 ∷ [])
+
+-- 2: slots are a power of two from 1 to 1,024
+pub slots-tells : (slots : ℕ) → Tells (bad-slots slots) (Power slots)
+slots-tells slots =
+    record { met = λ f. ne-eqb (levels slots) 11 (power-known f); known = λ e. known-power slots (eqb-false (levels slots) 11 e) }
+
+-- 3: the matrix has ports × ports counts
+pub matrix-tells : (ports : ℕ) (m : List ℕ) → Tells (bad-matrix ports m) (length m ≡ ports * ports)
+matrix-tells ports m = size-tells (length m) (ports * ports) (3 ∷ [])
+
+-- 4: the frame has slots × ports bytes
+pub frame-tells : (ports slots : ℕ) (bytes : List ℕ) → Tells (bad-frame ports slots bytes) (length bytes ≡ slots * ports)
+frame-tells ports slots bytes = size-tells (length bytes) (slots * ports) (4 ∷ [])
+
+-- 10: the sheet has at most 16,384 bytes
+pub sheet-tells : (bytes : List ℕ) → Tells (bad-sheet bytes) (length bytes ≤ 16384)
+sheet-tells bytes = most-tells 16384 (length bytes) (10 ∷ [])
+
+-- 11: the slot is 1 to slots
+pub slot-tells : (slots slot : ℕ) → Tells (bad-slot slots slot) (Within 1 slots slot)
+slot-tells slots slot = range-tells 1 slots slot (11 ∷ [])
+
+-- 13: the run has at most 1,000,000 slots
+pub length-tells : (len : ℕ) → Tells (bad-length len) (len ≤ 1000000)
+length-tells len = most-tells 1000000 len (13 ∷ [])
+
+-- ---- what holds where a condition does not
+pub within-known : {n most : ℕ} {r : Bool} → r ≡ not (within 1 most n) → r ≡ false → Within 1 most n
+within-known {n} {most} e f = range-tells 1 most n [] .known (sym e ∙ f)
+
+pub slots-known : {slots : ℕ} {r : Bool} → r ≡ eqb (levels slots) 11 → r ≡ false → Within 1 1024 slots
 slots-known {slots} e f =
-    let n = eqb-false (levels slots) 11 (sym e ∙ f) in
-    let p = levels-power slots n in
-    let l = levels-most slots in
-    let a = pow-pos (levels slots) in
-    let h : levels slots ≤ 10 = omega arith in
-    let b : 2 ^ levels slots ≤ 2 ^ 10 = pow-le-pow-right (omega arith) {j = 10} h in
-    (omega arith, omega arith)
+    let p = slots-tells slots .known (sym e ∙ f) in
+    let b : 2 ^ p .k ≤ 2 ^ 10 = pow-le-pow-right (omega arith) {j = 10} (p .most) in
+    omega (arith, p .is, pow-pos (p .k))

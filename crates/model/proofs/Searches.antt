@@ -1,6 +1,6 @@
 -- A search: the first of some numbers that passes a test.
 use Prim.Native.Nat.{ℕ, suc, zero, _+_, _≤_, _<_}
-use mathlib.Core.Path.{_≡_, sym, _∙_}
+use mathlib.Core.Path.{_≡_, refl, sym, _∙_}
 use mathlib.Core.Bool.{Bool, true, false}
 use native.Mathlib.Omega.{arith}
 use Rattle.model.specs.Words.{first}
@@ -45,6 +45,15 @@ module _ (t : ℕ → Bool) where
   pub first-snoc : (n a : ℕ) → first t a n ≡ a + n → t (a + n) ≡ false → first t a (suc n) ≡ a + suc n
   first-snoc n a e f =
       first-none (suc n) a (λ y l h. byEq y (a + n) (λ d. rw d f) (λ d. first-before n a y l (omega arith)))
+
+-- two tests that agree find the same
+pub first-ext : (s t : ℕ → Bool) (n a : ℕ) → ((y : ℕ) → a ≤ y → y < a + n → s y ≡ t y) → first s a n ≡ first t a n
+first-ext s t zero a h = refl
+first-ext s t (suc n) a h =
+    let e : s a ≡ t a = h a (omega arith) (omega arith) in
+    byBool (t a)
+    (λ b. rw (e, b))
+    (λ b. rw (e, b) (first-ext s t n (suc a) (λ y l k. h y (omega arith) (omega arith))))
 
 -- ---- a search on its way: of the n numbers from a on, those before q fail
 pub record Passed (t : ℕ → Bool) (a n q : ℕ) : Type 0 where
