@@ -25,4 +25,5 @@ pub mod Runs
 pub mod Inspected
 pub mod Clean
 pub mod Sheets
+pub mod Answers
 pub mod Bench

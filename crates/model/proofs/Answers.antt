@@ -1,0 +1,325 @@
+-- What each call answers, case by case, in document 01's order. A case says what holds and what is answered then; of each
+-- call it is shown that some case holds, and that what a case says is the answer.
+use Prim.Native.Nat.{ℕ, suc, zero, _+_, _-_, _*_, _^_, _≤_, _<_}
+use mathlib.Core.Path.{_≡_, refl, sym, ap, ap₂, _∙_, subst}
+use mathlib.Core.List.{List, [], _∷_, map}
+use mathlib.Core.Bool.{true, false}
+use native.Mathlib.Omega.{arith}
+use lib.ListN.{length, getD, take, drop}
+use borrow.Author.Tests.{not-false}
+use Rattle.model.specs.Words.{within}
+use Rattle.model.specs.Loads.{Class, pair, input, output, load, Fits}
+use Rattle.model.specs.Frames.{cells}
+use Rattle.model.specs.Refusals.{Check, report, bad-ports, bad-slots, bad-matrix, bad-frame, bad-slot, admitted, refusal, answered}
+use Rattle.model.specs.Rules.{Scheduled}
+use Rattle.model.specs.Schedule.{frameOf}
+use Rattle.model.specs.Build.{buildChecks, built, buildAccepts, left}
+use Rattle.model.specs.Service.{viewChecks, viewNumber, viewStart, viewSize, viewed, classOf, bad-who, bad-length, repeated, served, service}
+use Rattle.model.specs.Inspect.{finding}
+use Rattle.model.specs.declared.Refusal.{Refusal}
+use Rattle.model.specs.declared.Refusal.the-variants.{Ports, Slots, MatrixLength, FrameLength, InputLoad, OutputLoad, LineForm, LinePort, LinePair, SheetLength, SlotNumber, PortNumber, RunLength}
+use Rattle.model.specs.declared.Answer.the-variants as answer
+use Rattle.model.specs.declared.Answer.the-variants.{Accepted}
+use Rattle.model.specs.declared.Inspection.the-variants as inspection
+use Rattle.model.specs.declared.Inspection.the-variants.{Clean, ByteTooLarge, OutputTwice, PairCount, UnbalancedBlock}
+use Rattle.model.specs.declared.Count.{Count}
+use Rattle.model.specs.declared.Service.the-variants as served-as
+use Rattle.model.specs.declared.Service.the-variants.{Counted}
+use Rattle.model.specs.declared.Who.{Who}
+use Rattle.model.specs.declared.Who.the-variants.{Pair, Input, Output}
+use Rattle.model.proofs.Cases.{byLt, Within, both-true, within-yes, within-true}
+use Rattle.model.proofs.Levels.{Power, power-level}
+use Rattle.model.proofs.Reports.{clear-none, clear-some, Tells, broken, byFact, ports-tells, slots-tells, matrix-tells, frame-tells, slot-tells, length-tells}
+use Rattle.model.proofs.Overloads.{Light, Over, byOver}
+use Rattle.model.proofs.OneFrame.{frame-is, only-frame}
+use Rattle.model.proofs.Demand2.{WellFormed, overloads, light-fits, admit-answers, build-answers, accepts-yes, build-frame, build-keeps}
+
+-- Some case holds of the answer, and what any case says is the answer.
+abbrev pub Exactly : {A : Type 0} → (A → Type 0) → A → Type 0
+Exactly {A} cases answer = cases answer × ((given : A) → cases given → given ≡ answer)
+
+exactly : {A : Type 0} {cases : A → Type 0} {answer : A} → ((given : A) → cases given → given ≡ answer) → {given : A} → cases given → Exactly cases answer
+exactly {A} {cases} only {given} c = (subst cases (only given c) c, only)
+
+-- ---- 1 to 4 and 11, which calls have in common
+-- 1, 2: every call begins with these.
+pub data RackRefused (ports slots : ℕ) : ℕ → Type 0 where
+  ports-1 : (Within 1 16 ports → ⊥) → RackRefused ports slots 1
+  slots-2 : Within 1 16 ports → (Power slots → ⊥) → RackRefused ports slots 2
+
+-- 1, 2, 3: a call that is lent a matrix.
+pub data LoadRefused (ports slots : ℕ) (m : List ℕ) : ℕ → Type 0 where
+  rack : {n : ℕ} → RackRefused ports slots n → LoadRefused ports slots m n
+  matrix-3 : Within 1 16 ports → Power slots → (length m ≡ ports * ports → ⊥) → LoadRefused ports slots m 3
+
+-- 1, 2, 3, 4: one that is lent a matrix and a frame.
+pub data FrameRefused (ports slots : ℕ) (m bytes : List ℕ) : ℕ → Type 0 where
+  matrix : {n : ℕ} → LoadRefused ports slots m n → FrameRefused ports slots m bytes n
+  frame-4 : WellFormed ports slots m → (length bytes ≡ slots * ports → ⊥) → FrameRefused ports slots m bytes 4
+
+-- 1, 2, 4, 11: one that is lent a frame and asked about a slot of it.
+pub data SlotRefused (ports slots : ℕ) (bytes : List ℕ) (slot : ℕ) : ℕ → Type 0 where
+  rack : {n : ℕ} → RackRefused ports slots n → SlotRefused ports slots bytes slot n
+  frame-4 : Within 1 16 ports → Power slots → (length bytes ≡ slots * ports → ⊥) → SlotRefused ports slots bytes slot 4
+  slot-11 : Within 1 16 ports → Power slots → length bytes ≡ slots * ports → (Within 1 slots slot → ⊥) → SlotRefused ports slots bytes slot 11
+
+-- None of these: slot s + 1 is one of the frame's.
+pub record SlotFound (ports slots : ℕ) (bytes : List ℕ) (slot s : ℕ) : Type 0 where
+  pub rack : Within 1 16 ports
+  pub power : Power slots
+  pub size : length bytes ≡ slots * ports
+  pub low : s < slots
+  pub number : slot ≡ suc s
+
+module _ (ports slots : ℕ) (cs : List Check) (asked : List ℕ) where
+  rack-reported : {n : ℕ} → RackRefused ports slots n → report (bad-ports ports ∷ bad-slots slots ∷ cs) asked ≡ n ∷ []
+  rack-reported (ports-1 b) = rw (broken (ports-tells ports) b)
+  rack-reported (slots-2 p b) = rw (ports-tells ports .met p, broken (slots-tells slots) b)
+
+module _ (ports slots : ℕ) (m : List ℕ) (cs : List Check) (asked : List ℕ) where
+  load-reported : {n : ℕ} → LoadRefused ports slots m n → report (bad-ports ports ∷ bad-slots slots ∷ bad-matrix ports m ∷ cs) asked ≡ n ∷ []
+  load-reported (rack r) = rack-reported ports slots (bad-matrix ports m ∷ cs) asked r
+  load-reported (matrix-3 p s b) = rw (ports-tells ports .met p, slots-tells slots .met s, broken (matrix-tells ports m) b)
+
+module _ (ports slots : ℕ) (m : List ℕ) (cs : List Check) (asked : List ℕ) where
+  frame-reported : (bytes : List ℕ) {n : ℕ} → FrameRefused ports slots m bytes n
+      → report (bad-ports ports ∷ bad-slots slots ∷ bad-matrix ports m ∷ bad-frame ports slots bytes ∷ cs) asked ≡ n ∷ []
+  frame-reported bytes (matrix r) = load-reported ports slots m (bad-frame ports slots bytes ∷ cs) asked r
+  frame-reported bytes (frame-4 w b) =
+      rw (ports-tells ports .met (w .rack), slots-tells slots .met (w .power), matrix-tells ports m .met (w .square), broken (frame-tells ports slots bytes) b)
+
+-- each number is above 0
+rack-low : {ports slots n : ℕ} → RackRefused ports slots n → 0 < n
+rack-low (ports-1 b) = omega arith
+rack-low (slots-2 p b) = omega arith
+
+frame-low : {ports slots : ℕ} {m bytes : List ℕ} {n : ℕ} → FrameRefused ports slots m bytes n → 0 < n
+frame-low (matrix (rack r)) = rack-low r
+frame-low (matrix (matrix-3 p s b)) = omega arith
+frame-low (frame-4 w b) = omega arith
+
+slot-low : {ports slots : ℕ} {bytes : List ℕ} {slot n : ℕ} → SlotRefused ports slots bytes slot n → 0 < n
+slot-low (rack r) = rack-low r
+slot-low (frame-4 p s b) = omega arith
+slot-low (slot-11 p s e b) = omega arith
+
+module _ (ports slots : ℕ) (bytes : List ℕ) (slot : ℕ) where
+  abbrev slotChecks : List Check → List Check
+  slotChecks cs = bad-ports ports ∷ bad-slots slots ∷ bad-frame ports slots bytes ∷ bad-slot slots slot ∷ cs
+
+  slot-reported : (cs : List Check) (asked : List ℕ) {n : ℕ} → SlotRefused ports slots bytes slot n → report (slotChecks cs) asked ≡ n ∷ []
+  slot-reported cs asked (rack r) = rack-reported ports slots (bad-frame ports slots bytes ∷ bad-slot slots slot ∷ cs) asked r
+  slot-reported cs asked (frame-4 p s b) = rw (ports-tells ports .met p, slots-tells slots .met s, broken (frame-tells ports slots bytes) b)
+  slot-reported cs asked (slot-11 p s f b) =
+      rw (ports-tells ports .met p, slots-tells slots .met s, frame-tells ports slots bytes .met f, broken (slot-tells slots slot) b)
+
+  slot-clear : {s : ℕ} → SlotFound ports slots bytes slot s → (cs : List Check) (asked : List ℕ) → report (slotChecks cs) asked ≡ report cs asked
+  slot-clear f cs asked =
+      rw (
+        ports-tells ports .met (f .rack),
+        slots-tells slots .met (f .power),
+        frame-tells ports slots bytes .met (f .size),
+        slot-tells slots slot .met (let l = f .low in let e = f .number in (omega arith, omega arith)),
+      )
+
+-- one of them holds, or none
+byRack : {P : Type 0} (ports slots : ℕ) → ((n : ℕ) → RackRefused ports slots n → P) → (Within 1 16 ports → Power slots → P) → P
+byRack ports slots off on =
+    byFact (ports-tells ports) (λ b. off 1 (ports-1 b))
+    (λ p. byFact (slots-tells slots) (λ b. off 2 (slots-2 p b)) (λ s. on p s))
+
+byLoad : {P : Type 0} (ports slots : ℕ) (m : List ℕ) → ((n : ℕ) → LoadRefused ports slots m n → P) → (WellFormed ports slots m → P) → P
+byLoad ports slots m off on =
+    byRack ports slots (λ n r. off n (rack r))
+    (λ p s. byFact (matrix-tells ports m) (λ b. off 3 (matrix-3 p s b)) (λ e. on (record { rack = p; power = s; square = e })))
+
+byFrame : {P : Type 0} (ports slots : ℕ) (m bytes : List ℕ) → ((n : ℕ) → FrameRefused ports slots m bytes n → P)
+    → (WellFormed ports slots m → length bytes ≡ slots * ports → P) → P
+byFrame ports slots m bytes off on =
+    byLoad ports slots m (λ n r. off n (matrix r))
+    (λ w. byFact (frame-tells ports slots bytes) (λ b. off 4 (frame-4 w b)) (λ e. on w e))
+
+bySlot : {P : Type 0} (ports slots : ℕ) (bytes : List ℕ) (slot : ℕ) → ((n : ℕ) → SlotRefused ports slots bytes slot n → P)
+    → ((s : ℕ) → SlotFound ports slots bytes slot s → P) → P
+bySlot ports slots bytes slot off on =
+    byRack ports slots (λ n r. off n (rack r))
+    (λ p s. byFact (frame-tells ports slots bytes) (λ b. off 4 (frame-4 p s b))
+    (λ e. byFact (slot-tells slots slot) (λ b. off 11 (slot-11 p s e b))
+    (λ h. on (slot - 1) (record { rack = p; power = s; size = e; low = omega arith; number = omega arith }))))
+
+-- ---- Admit
+-- 1, 2, 3; 5 with the lowest input above slots and its load; 6 likewise with outputs; or accepted, which is 0.
+pub data Admits (ports slots : ℕ) (m : List ℕ) : List ℕ → Type 0 where
+  refused : {n : ℕ} → LoadRefused ports slots m n → Admits ports slots m (n ∷ [])
+  input-5 : WellFormed ports slots m → (x : ℕ) → Over input ports slots m x → Admits ports slots m (5 ∷ suc x ∷ load (input x) ports m ∷ [])
+  output-6 : WellFormed ports slots m → Light input ports slots m → (x : ℕ) → Over output ports slots m x
+      → Admits ports slots m (6 ∷ suc x ∷ load (output x) ports m ∷ [])
+  accepted : WellFormed ports slots m → Fits ports slots m → Admits ports slots m (0 ∷ [])
+
+module _ (ports slots : ℕ) (m : List ℕ) where
+  admit-only : (given : List ℕ) → Admits ports slots m given → given ≡ admitted ports slots m
+  unfolding admitted
+  admit-only given (refused r) = sym (load-reported ports slots m (overloads ports slots m) (0 ∷ []) r)
+  admit-only given (input-5 w x o) = sym (admit-answers ports slots m w .input-over x o)
+  admit-only given (output-6 w l x o) = sym (admit-answers ports slots m w .output-over l x o)
+  admit-only given (accepted w f) = sym (admit-answers ports slots m w .accepts f)
+
+  pub admit-exactly : Exactly (Admits ports slots m) (admitted ports slots m)
+  admit-exactly =
+      byLoad ports slots m (λ n r. exactly admit-only (refused r))
+      (λ w. byOver 5 input ports slots m (λ x o. exactly admit-only (input-5 w x o))
+      (λ i. byOver 6 output ports slots m (λ x o. exactly admit-only (output-6 w i x o))
+      (λ o. exactly admit-only (accepted w (light-fits ports slots m i o)))))
+
+-- ---- Build
+-- The same with 4, each refusal with the bytes that were lent; or accepted, with the bytes that meet the rules.
+pub data Builds (ports slots : ℕ) (m buffer : List ℕ) : List ℕ × List ℕ → Type 0 where
+  refused : {n : ℕ} → FrameRefused ports slots m buffer n → Builds ports slots m buffer (n ∷ [], buffer)
+  input-5 : WellFormed ports slots m → length buffer ≡ slots * ports → (x : ℕ) → Over input ports slots m x
+      → Builds ports slots m buffer (5 ∷ suc x ∷ load (input x) ports m ∷ [], buffer)
+  output-6 : WellFormed ports slots m → length buffer ≡ slots * ports → Light input ports slots m → (x : ℕ) → Over output ports slots m x
+      → Builds ports slots m buffer (6 ∷ suc x ∷ load (output x) ports m ∷ [], buffer)
+  accepted : (w : WellFormed ports slots m) → length buffer ≡ slots * ports → Fits ports slots m → (bytes : List ℕ) → Scheduled ports (w .power .k) m bytes
+      → Builds ports slots m buffer (0 ∷ [], bytes)
+
+module _ (ports slots : ℕ) (m buffer : List ℕ) where
+  -- Build's answer, and the bytes that it leaves
+  abbrev pub build : List ℕ × List ℕ
+  build = (built ports slots m buffer, left ports slots m buffer)
+
+  -- an answer that begins with a number other than 0 leaves the bytes that were lent
+  kept : {n : ℕ} {values : List ℕ} → 0 < n → built ports slots m buffer ≡ n ∷ values → _≡_ {A = List ℕ × List ℕ} (n ∷ values, buffer) build
+  kept {n} {values} h e =
+      ap₂ (λ (a b : List ℕ). (a, b)) (sym e)
+      (sym (build-keeps ports slots m buffer
+      (clear-some (buildChecks ports slots m buffer) (λ z. let y = ap (λ (l : List ℕ). getD l 0 0) e in omega arith))))
+
+  build-only : (given : List ℕ × List ℕ) → Builds ports slots m buffer given → given ≡ build
+  unfolding buildChecks
+  build-only given (refused r) = kept (frame-low r) (frame-reported ports slots m (overloads ports slots m) (0 ∷ []) buffer r)
+  build-only given (input-5 w e x o) = kept (omega arith) (build-answers ports slots m w buffer e .input-over x o)
+  build-only given (output-6 w e l x o) = kept (omega arith) (build-answers ports slots m w buffer e .output-over l x o)
+  build-only given (accepted w e f bytes s) =
+      ap₂ (λ (a b : List ℕ). (a, b)) (sym (build-answers ports slots m w buffer e .accepts f))
+      (only-frame ports (w .power .k) m bytes s
+      ∙ rw (accepts-yes ports slots m buffer (record { well = w; size = e; fits = f }), power-level (w .power)))
+
+  pub build-exactly : Exactly (Builds ports slots m buffer) build
+  build-exactly =
+      byFrame ports slots m buffer (λ n r. exactly build-only (refused r))
+      (λ w e. byOver 5 input ports slots m (λ x o. exactly build-only (input-5 w e x o))
+      (λ i. byOver 6 output ports slots m (λ x o. exactly build-only (output-6 w e i x o))
+      (λ o. exactly build-only (accepted w e (light-fits ports slots m i o) (frameOf ports (w .power .k) m)
+      (frame-is ports (w .power .k) m (w .square) (subst (λ (n : ℕ). Fits ports n m) (w .power .is) (light-fits ports slots m i o)))))))
+
+-- ---- Slot view
+-- The number, where in the frame the part begins, how many bytes it has, and the bytes: none on refusal.
+pub data Views (ports slots : ℕ) (bytes : List ℕ) (slot : ℕ) : ℕ × ℕ × ℕ × List ℕ → Type 0 where
+  refused : {n : ℕ} → SlotRefused ports slots bytes slot n → Views ports slots bytes slot (n, 0, 0, [])
+  seen : (s : ℕ) → SlotFound ports slots bytes slot s → Views ports slots bytes slot (0, s * ports, ports, take ports (drop (s * ports) bytes))
+
+module _ (ports slots : ℕ) (bytes : List ℕ) (slot : ℕ) where
+  -- Slot view's four results
+  abbrev pub view : ℕ × ℕ × ℕ × List ℕ
+  view = (viewNumber ports slots bytes slot, viewStart ports slots bytes slot, viewSize ports slots bytes slot, viewed ports slots bytes slot)
+
+  view-only : (given : ℕ × ℕ × ℕ × List ℕ) → Views ports slots bytes slot given → given ≡ view
+  unfolding viewChecks
+  view-only given (refused r) =
+      let e = ap (λ (l : List ℕ). getD l 0 0) (slot-reported ports slots bytes slot [] (0 ∷ []) r) in
+      rw (clear-some (slotChecks ports slots bytes slot []) (λ z. let h = slot-low r in omega arith), e)
+  view-only given (seen s f) =
+      let e = ap (λ (l : List ℕ). getD l 0 0) (slot-clear ports slots bytes slot f [] (0 ∷ [])) in
+      let h : slot - 1 ≡ s = (let n = f .number in omega arith) in
+      rw (clear-none (slotChecks ports slots bytes slot []) (omega arith, (omega arith, (omega arith, (omega arith, tt)))) e, e, h)
+
+  pub view-exactly : Exactly (Views ports slots bytes slot) view
+  view-exactly = bySlot ports slots bytes slot (λ n r. exactly view-only (refused r)) (λ s f. exactly view-only (seen s f))
+
+-- ---- Service count
+-- Whom a count is for, by numbers from 1, and what is counted, by numbers from 0.
+pub data Names (ports : ℕ) : Who → Class → Type 0 where
+  of-pair : {i o : ℕ} → i < ports → o < ports → Names ports (Pair (suc i) (suc o)) (pair i o)
+  of-input : {i : ℕ} → i < ports → Names ports (Input (suc i)) (input i)
+  of-output : {o : ℕ} → o < ports → Names ports (Output (suc o)) (output o)
+
+-- 1, 2, 4, 11 of the start; 12 where no such port is named; 13; or 0 and the cells of the run.
+pub data Counts (ports slots : ℕ) (bytes : List ℕ) (who : Who) (start len : ℕ) : List ℕ → Type 0 where
+  refused : {n : ℕ} → SlotRefused ports slots bytes start n → Counts ports slots bytes who start len (n ∷ [])
+  port-12 : {s : ℕ} → SlotFound ports slots bytes start s → ((c : Class) → Names ports who c → ⊥) → Counts ports slots bytes who start len (12 ∷ [])
+  length-13 : {s : ℕ} → SlotFound ports slots bytes start s → {c : Class} → Names ports who c → 1000000 < len → Counts ports slots bytes who start len (13 ∷ [])
+  counted : {s : ℕ} → SlotFound ports slots bytes start s → {c : Class} → Names ports who c → len ≤ 1000000
+      → Counts ports slots bytes who start len (0 ∷ cells c ports (repeated ports slots bytes s len) ∷ [])
+
+-- the class that is named
+names-class : {ports : ℕ} {who : Who} {c : Class} → Names ports who c → classOf who ≡ c
+names-class (of-pair a b) = ap₂ pair (omega arith) (omega arith)
+names-class (of-input a) = ap input (omega arith)
+names-class (of-output a) = ap output (omega arith)
+
+-- a number from 1 to ports is that of a port
+from-one : (P : ℕ → Type 0) (ports n : ℕ) → within 1 ports n ≡ true → ((x : ℕ) → x < ports → P (suc x)) → P n
+from-one P ports zero e f = absurd (let w = within-true 1 ports 0 e in omega arith)
+from-one P ports (suc n) e f = f n (within-true 1 ports (suc n) e .1)
+
+-- 12: the ports named are ports of the switch
+who-tells : (ports : ℕ) (who : Who) → Tells (bad-who ports who) ((c : Class) × Names ports who c)
+who-tells ports who = record { met = λ n. met-of who (n .0) (n .1); known = known-of who }
+  where
+    met-of : (who : Who) (c : Class) → Names ports who c → bad-who ports who .0 ≡ false
+    met-of who c (of-pair {i} {o} a b) = rw (within-yes 1 ports (suc i) (omega arith) a, within-yes 1 ports (suc o) (omega arith) b)
+    met-of who c (of-input {i} a) = rw (within-yes 1 ports (suc i) (omega arith) a)
+    met-of who c (of-output {o} a) = rw (within-yes 1 ports (suc o) (omega arith) a)
+
+    known-of : (who : Who) → bad-who ports who .0 ≡ false → (c : Class) × Names ports who c
+    known-of (Pair i o) e =
+        let b = both-true (within 1 ports i) (within 1 ports o) (not-false _ e) in
+        from-one (λ i. (c : Class) × Names ports (Pair i o) c) ports i (b .0)
+        (λ x l. from-one (λ o. (c : Class) × Names ports (Pair (suc x) o) c) ports o (b .1) (λ y h. (pair x y, of-pair l h)))
+    known-of (Input i) e = from-one (λ i. (c : Class) × Names ports (Input i) c) ports i (not-false _ e) (λ x l. (input x, of-input l))
+    known-of (Output o) e = from-one (λ o. (c : Class) × Names ports (Output o) c) ports o (not-false _ e) (λ x l. (output x, of-output l))
+
+module _ (ports slots : ℕ) (bytes : List ℕ) (who : Who) (start len : ℕ) where
+  abbrev lastChecks : List Check
+  lastChecks = bad-who ports who ∷ bad-length len ∷ []
+
+  abbrev count : List ℕ
+  count = 0 ∷ cells (classOf who) ports (repeated ports slots bytes (start - 1) len) ∷ []
+
+  count-only : (given : List ℕ) → Counts ports slots bytes who start len given → given ≡ service ports slots bytes who start len
+  unfolding service
+  count-only given (refused r) = sym (slot-reported ports slots bytes start lastChecks count r)
+  count-only given (port-12 f b) = sym (slot-clear ports slots bytes start f lastChecks count ∙ rw (broken (who-tells ports who) (λ n. b (n .0) (n .1))))
+  count-only given (length-13 {s} f {c} n b) =
+      sym (slot-clear ports slots bytes start f lastChecks count
+      ∙ rw (who-tells ports who .met (c, n), broken (length-tells len) (λ l. omega arith)))
+  count-only given (counted {s} f {c} n l) =
+      let h : start - 1 ≡ s = (let e = f .number in omega arith) in
+      sym (slot-clear ports slots bytes start f lastChecks count
+      ∙ rw (who-tells ports who .met (c, n), length-tells len .met l, names-class n, h))
+
+  pub count-exactly : Exactly (Counts ports slots bytes who start len) (service ports slots bytes who start len)
+  count-exactly =
+      bySlot ports slots bytes start (λ n r. exactly count-only (refused r))
+      (λ s f. byFact (who-tells ports who) (λ b. exactly count-only (port-12 f (λ c n. b (c, n))))
+      (λ n. byFact (length-tells len) (λ b. exactly count-only (length-13 f (n .1) (byLt 1000000 len (λ l. l) (λ l. absurd (b l)))))
+      (λ l. exactly count-only (counted f (n .1) l))))
+
+-- ---- the numbers of the answers
+-- Document 01's number of each refusal, and then what it carries.
+pub refusal-numbers : (port cells line : ℕ)
+    → map refusal (Ports ∷ Slots ∷ MatrixLength ∷ FrameLength ∷ InputLoad port cells ∷ OutputLoad port cells ∷ LineForm line ∷ LinePort line ∷ LinePair line ∷ SheetLength ∷ SlotNumber ∷ PortNumber ∷ RunLength ∷ [])
+    ≡ (1 ∷ []) ∷ (2 ∷ []) ∷ (3 ∷ []) ∷ (4 ∷ []) ∷ (5 ∷ port ∷ cells ∷ []) ∷ (6 ∷ port ∷ cells ∷ []) ∷ (7 ∷ line ∷ []) ∷ (8 ∷ line ∷ []) ∷ (9 ∷ line ∷ []) ∷ (10 ∷ []) ∷ (11 ∷ []) ∷ (12 ∷ []) ∷ (13 ∷ []) ∷ []
+refusal-numbers port cells line = refl
+
+-- Each fault's number, ours, in document 01's order, and then its place.
+pub fault-numbers : (slot port size : ℕ)
+    → map finding (Clean ∷ ByteTooLarge slot port ∷ OutputTwice slot port ∷ PairCount slot port ∷ UnbalancedBlock slot size ∷ [])
+    ≡ (0 ∷ []) ∷ (101 ∷ slot ∷ port ∷ []) ∷ (102 ∷ slot ∷ port ∷ []) ∷ (103 ∷ slot ∷ port ∷ []) ∷ (104 ∷ slot ∷ size ∷ []) ∷ []
+fault-numbers slot port size = refl
+
+-- Acceptance is 0, a count 0 and its cells, and a refusal has its number in each answer.
+pub answer-numbers : (r : Refusal) (c : Count)
+    → (answered Accepted ≡ 0 ∷ []) × (answered (answer.Refused r) ≡ refusal r) × (finding (inspection.Refused r) ≡ refusal r)
+    × (served (Counted c) ≡ 0 ∷ c .cells ∷ []) × (served (served-as.Refused r) ≡ refusal r)
+answer-numbers r c = (refl, refl, refl, refl, refl)
