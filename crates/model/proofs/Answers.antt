@@ -1,6 +1,6 @@
 -- What each call answers, case by case, in document 01's order. A case says what holds and what is answered then; of each
 -- call it is shown that some case holds, and that what a case says is the answer.
-use Prim.Native.Nat.{ℕ, suc, zero, _+_, _-_, _*_, _^_, _≤_, _<_}
+use Prim.Native.Nat.{ℕ, suc, zero, _-_, _*_, _≤_, _<_}
 use mathlib.Core.Path.{_≡_, refl, sym, ap, ap₂, _∙_, subst}
 use mathlib.Core.List.{List, [], _∷_, map}
 use mathlib.Core.Bool.{true, false}
@@ -13,9 +13,9 @@ use Rattle.model.specs.Frames.{cells}
 use Rattle.model.specs.Refusals.{Check, report, bad-ports, bad-slots, bad-matrix, bad-frame, bad-slot, admitted, refusal, answered}
 use Rattle.model.specs.Rules.{Scheduled}
 use Rattle.model.specs.Schedule.{frameOf}
-use Rattle.model.specs.Build.{buildChecks, built, buildAccepts, left}
+use Rattle.model.specs.Build.{buildChecks, built, left}
 use Rattle.model.specs.Service.{viewChecks, viewNumber, viewStart, viewSize, viewed, classOf, bad-who, bad-length, repeated, served, service}
-use Rattle.model.specs.Inspect.{finding}
+use Rattle.model.specs.Inspect.{finding, byteTooLarge, outputTwice, pairCount, unbalancedBlock, inspected}
 use Rattle.model.specs.declared.Refusal.{Refusal}
 use Rattle.model.specs.declared.Refusal.the-variants.{Ports, Slots, MatrixLength, FrameLength, InputLoad, OutputLoad, LineForm, LinePort, LinePair, SheetLength, SlotNumber, PortNumber, RunLength}
 use Rattle.model.specs.declared.Answer.the-variants as answer
@@ -32,7 +32,8 @@ use Rattle.model.proofs.Levels.{Power, power-level}
 use Rattle.model.proofs.Reports.{clear-none, clear-some, Tells, broken, byFact, ports-tells, slots-tells, matrix-tells, frame-tells, slot-tells, length-tells}
 use Rattle.model.proofs.Overloads.{Light, Over, byOver}
 use Rattle.model.proofs.OneFrame.{frame-is, only-frame}
-use Rattle.model.proofs.Demand2.{WellFormed, overloads, light-fits, admit-answers, build-answers, accepts-yes, build-frame, build-keeps}
+use Rattle.model.proofs.Demand2.{WellFormed, overloads, light-fits, admit-answers, build-answers, accepts-yes, build-keeps}
+use Rattle.model.proofs.Clean.{Finds, find-only, fault-means}
 
 -- Some case holds of the answer, and what any case says is the answer.
 abbrev pub Exactly : {A : Type 0} → (A → Type 0) → A → Type 0
@@ -211,6 +212,26 @@ module _ (ports slots : ℕ) (m buffer : List ℕ) where
       (λ i. byOver 6 output ports slots m (λ x o. exactly build-only (output-6 w e i x o))
       (λ o. exactly build-only (accepted w e (light-fits ports slots m i o) (frameOf ports (w .power .k) m)
       (frame-is ports (w .power .k) m (w .square) (subst (λ (n : ℕ). Fits ports n m) (w .power .is) (light-fits ports slots m i o)))))))
+
+-- ---- Inspect
+-- 1, 2, 3, 4; or what is found in the frame: the first fault, or clean.
+pub data Inspects (ports slots : ℕ) (m bytes : List ℕ) : List ℕ → Type 0 where
+  refused : {n : ℕ} → FrameRefused ports slots m bytes n → Inspects ports slots m bytes (n ∷ [])
+  found : {given : List ℕ} → WellFormed ports slots m → length bytes ≡ slots * ports → Finds ports slots m bytes given → Inspects ports slots m bytes given
+
+module _ (ports slots : ℕ) (m bytes : List ℕ) where
+  abbrev faults : List Check
+  faults = byteTooLarge ports slots bytes ∷ outputTwice ports slots bytes ∷ pairCount ports m bytes ∷ unbalancedBlock ports slots bytes ∷ []
+
+  inspect-only : (given : List ℕ) → Inspects ports slots m bytes given → given ≡ inspected ports slots m bytes
+  unfolding inspected
+  inspect-only given (refused r) = sym (frame-reported ports slots m faults (0 ∷ []) bytes r)
+  inspect-only given (found w e f) = find-only ports slots m bytes w e given f
+
+  pub inspect-exactly : Exactly (Inspects ports slots m bytes) (inspected ports slots m bytes)
+  inspect-exactly =
+      byFrame ports slots m bytes (λ n r. exactly inspect-only (refused r))
+      (λ w e. exactly inspect-only (found w e (fault-means ports slots m bytes w e)))
 
 -- ---- Slot view
 -- The number, where in the frame the part begins, how many bytes it has, and the bytes: none on refusal.

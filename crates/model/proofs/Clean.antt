@@ -1,293 +1,457 @@
 -- What Inspect's answer means: clean exactly where the frame is legal and balanced; and what a fault names is wrong, and
 -- nothing before it in the order is.
-use Prim.Native.Nat.{ℕ, suc, _+_, _-_, _*_, _/_, _%_, _^_, _<_}
-use mathlib.Core.Path.{_≡_, sym, ap, _∙_, subst}
-use mathlib.Core.Logic.{_≢_}
+use Prim.Native.Nat.{ℕ, suc, _+_, _-_, _*_, _/_, _%_, _^_, _≤_, _<_}
+use mathlib.Core.Path.{_≡_, sym, ap, ap₂, _∙_, subst}
 use mathlib.Core.List.{List, [], _∷_}
-use mathlib.Core.Bool.{Bool, true, false, not}
+use mathlib.Core.Bool.{Bool, true, false, not, true≢false}
 use native.Mathlib.Omega.{arith}
-use native.Mathlib.Nat.{div-lt-iff-lt-mul, mod-lt}
+use native.Mathlib.Nat.{div-lt-iff-lt-mul, mod-lt, div-add-mod', two-pow-succ, mul-le-mul-right}
 use lib.Arith.{digits-div, digits-mod, digits-lt}
 use lib.Dec.{ltb}
 use lib.ListN.{length, getD}
-use borrow.Author.Tests.{le-ltb, ltb-true, ltb-false, eq-eqb, eqb-true, not-false}
-use Rattle.model.specs.Words.{first, Every}
+use lib.Pow.{pow-pos}
+use borrow.Author.Tests.{lt-ltb, le-ltb, ltb-true, ltb-false, eq-eqb, eqb-true, not-false}
+use Rattle.model.specs.Words.{Near, first, Every}
 use Rattle.model.specs.Loads.{Class, pair, output, Of, load}
-use Rattle.model.specs.Frames.{cells, runOf, Legal, Balanced}
+use Rattle.model.specs.Frames.{cells, runOf, Legal, Block, Balanced}
 use Rattle.model.specs.Refusals.{Check, report, levels}
-use Rattle.model.specs.Inspect.{tooLarge, twiceIn, usedTwice, wrongCount, unbalanced, unbalancedNumber, firstAt, unbalancedAt, byteTooLarge, outputTwice, pairCount, unbalancedBlock, inspected}
+use Rattle.model.specs.Inspect.{firstPlace, tooLarge, twiceIn, usedTwice, wrongCount, unbalancedNumber, firstAt, unbalancedAt, byteTooLarge, outputTwice, pairCount, unbalancedBlock, inspected}
 use Rattle.model.specs.Build.{buildAccepts, left}
 use Rattle.model.specs.Wire.{Carried, share, Shape, Accurate}
 use Rattle.model.specs.Queue.{HeldOn}
-use Rattle.model.proofs.Cases.{byBool, byLt}
-use Rattle.model.proofs.Searches.{first-found, first-before, first-none}
-use Rattle.model.proofs.Levels.{levels-power, power-known, depth-size, depth-half}
+use Rattle.model.proofs.Cases.{byBool, byEq, byLt}
+use Rattle.model.proofs.Searches.{first-found, first-before, first-is, first-none}
+use Rattle.model.proofs.Levels.{Power, pow-less, levels-power, power-known, depth-size, depth-half}
 use Rattle.model.proofs.Blocks.{number-block, block-numbered}
-use Rattle.model.proofs.Inspected.{near-yes, position-of, unbalanced-no, balanced-near}
-use Rattle.model.proofs.Reports.{ports-tells, slots-tells, matrix-tells, frame-tells}
+use Rattle.model.proofs.Inspected.{near-yes, unbalanced-no, balanced-near}
+use Rattle.model.proofs.Reports.{report-found, report-on, Tells, ports-tells, slots-tells, matrix-tells, frame-tells}
 use Rattle.model.proofs.Demand2.{WellFormed, accepts-is, build-sound}
 use Rattle.model.proofs.Demand3.{Sound, sound-accurate}
 use Rattle.model.proofs.Queues.{sound-held}
 
--- ---- a search that finds nothing, and one that finds a place
-abbrev pub None : (ℕ → Bool) → ℕ → Type 0
-None wrong n = (y : ℕ) → y < n → wrong y ≡ false
+-- ---- the first place that is wrong, by rows
+-- A fact holds at each of rows × width places.
+abbrev pub Throughout : ℕ → ℕ → (ℕ → ℕ → Type 0) → Type 0
+Throughout rows width Fact = (r c : ℕ) → r < rows → c < width → Fact r c
 
--- The first wrong place of n, by the two numbers that the fault carries.
-pub record At (wrong : ℕ → Bool) (width n row column : ℕ) : Type 0 where
-  pub place : ℕ
-  pub low : place < n
-  pub wrong-here : wrong place ≡ true
-  pub none-before : None wrong place
-  pub row-is : row ≡ suc (place / width)
-  pub column-is : column ≡ suc (place % width)
+-- Row r, column c is the first place where it does not: lowest row, then column.
+pub record FirstWrong (rows width : ℕ) (Fact : ℕ → ℕ → Type 0) (r c : ℕ) : Type 0 where
+  pub row : r < rows
+  pub column : c < width
+  pub wrong : Fact r c → ⊥
+  pub rows-before : (y z : ℕ) → y < r → z < width → Fact y z
+  pub columns-before : (z : ℕ) → z < c → Fact r z
 
-module _ (wrong : ℕ → Bool) (n : ℕ) where
-  pub none-of : ltb (first wrong 0 n) n ≡ false → None wrong n
-  none-of e y h = first-before wrong n 0 y (omega arith) (let l = ltb-false (first wrong 0 n) n e in omega arith)
+-- each position below rows × width is a place
+place-of : (rows width q : ℕ) → q < rows * width → (q / width < rows) × (q % width < width) × (q ≡ q / width * width + q % width)
+place-of rows width q h =
+    byEq width 0 (λ e. absurd (let z : rows * width ≡ 0 = rw e (omega arith) in omega arith))
+    (λ n. (div-lt-iff-lt-mul {k = width} {x = q} {y = rows} (omega arith) .1 h, mod-lt q {m = width} (omega arith), sym (div-add-mod' q width)))
 
-  pub none-yes : None wrong n → ltb (first wrong 0 n) n ≡ false
-  none-yes h = le-ltb (first wrong 0 n) n (let e = first-none wrong n 0 (λ y _ l. h y (omega arith)) in omega arith)
+-- A check that reports the first wrong place, by its numbers from 1.
+record FirstOf (number rows width : ℕ) (Fact : ℕ → ℕ → Type 0) (check : Check) : Type 0 where
+  tells : Tells check (Throughout rows width Fact)
+  found : check .0 ≡ true → (r c : ℕ) × FirstWrong rows width Fact r c
+  reported : {r c : ℕ} → FirstWrong rows width Fact r c → check ≡ (true, number ∷ suc r ∷ suc c ∷ [])
 
-  pub at-of : (width row column number : ℕ) → ltb (first wrong 0 n) n ≡ true
-      → number ∷ suc (first wrong 0 n / width) ∷ suc (first wrong 0 n % width) ∷ [] ≡ number ∷ row ∷ column ∷ [] → At wrong width n row column
-  at-of width row column number e d =
-      let l = ltb-true (first wrong 0 n) n e in
+module _ (number rows width : ℕ) (test : ℕ → Bool) (Fact : ℕ → ℕ → Type 0)
+    (right : (r c : ℕ) → c < width → Fact r c → test (r * width + c) ≡ false) (known : (r c : ℕ) → c < width → test (r * width + c) ≡ false → Fact r c) where
+  abbrev place : Check
+  place = firstPlace number test width (rows * width)
+
+  place-found : ltb (first test 0 (rows * width)) (rows * width) ≡ true → FirstWrong rows width Fact (first test 0 (rows * width) / width) (first test 0 (rows * width) % width)
+  place-found e =
+      let q = first test 0 (rows * width) in
+      let l = ltb-true q (rows * width) e in
+      let d = place-of rows width q l in
+      let at = d .2 in
       record {
-        place = first wrong 0 n;
-        low = l;
-        wrong-here = first-found wrong n 0 (omega arith);
-        none-before = λ y h. first-before wrong n 0 y (omega arith) h;
-        row-is = sym (cc);
-        column-is = sym (cc);
+        row = d .0;
+        column = d .1;
+        wrong = λ f. true≢false (sym (first-found test (rows * width) 0 (omega arith)) ∙ (ap test at ∙ right (q / width) (q % width) (d .1) f));
+        rows-before = λ y z a b. known y z b
+            (first-before test (rows * width) 0 (y * width + z) (omega arith) (let h = digits-lt {q = y} {m = q / width} {r = z} {c = width} a b in omega arith));
+        columns-before = λ z a. (let b = d .1 in known (q / width) z (omega arith) (first-before test (rows * width) 0 (q / width * width + z) (omega arith) (omega arith)));
       }
 
--- ---- the faults of a frame of the right size
-module _ (ports slots : ℕ) (m bytes : List ℕ) (w : WellFormed ports slots m) (size : length bytes ≡ slots * ports) where
+  -- the check tells that no place is wrong
+  place-tells : Tells place (Throughout rows width Fact)
+  place-tells =
+      record {
+        met = λ f.
+            le-ltb (first test 0 (rows * width)) (rows * width)
+            (let e = first-none test (rows * width) 0 (λ y _ l. let d = place-of rows width y (omega arith) in subst (λ (x : ℕ). test x ≡ false) (sym (d .2)) (right (y / width) (y % width) (d .1) (f (y / width) (y % width) (d .0) (d .1)))) in omega arith);
+        known = λ e r c a b.
+            known r c b
+            (first-before test (rows * width) 0 (r * width + c) (omega arith)
+            (let l = ltb-false (first test 0 (rows * width)) (rows * width) e in let h = digits-lt {q = r} {m = rows} {r = c} {c = width} a b in omega arith));
+      }
+
+  -- the first wrong place is reported, by its numbers from 1
+  place-reported : (r c : ℕ) → FirstWrong rows width Fact r c → place ≡ (true, number ∷ suc r ∷ suc c ∷ [])
+  place-reported r c f =
+      let h = digits-lt {q = r} {m = rows} {r = c} {c = width} (f .row) (f .column) in
+      let e = first-is test (rows * width) 0 (r * width + c) (omega arith) (omega arith) here before in
+      rw (e, lt-ltb (r * width + c) (rows * width) h, digits-div r (f .column), digits-mod r (f .column))
+    where
+      here : test (r * width + c) ≡ true
+      here = byBool (test (r * width + c)) (λ e. e) (λ e. absurd (f .wrong (known r c (f .column) e)))
+
+      before : (y : ℕ) → 0 ≤ y → y < r * width + c → test y ≡ false
+      before y _ l =
+          let k = f .column in
+          let d = place-of rows width y (let h = digits-lt {q = r} {m = rows} {r = c} {c = width} (f .row) k in omega arith) in
+          let at = d .2 in
+          let a : y / width < suc r = div-lt-iff-lt-mul {k = width} {x = y} {y = suc r} (omega arith) .1 (omega arith) in
+          subst (λ (x : ℕ). test x ≡ false) (sym at)
+          (right (y / width) (y % width) (d .1)
+          (byEq (y / width) r
+          (λ e. subst (λ (x : ℕ). Fact x (y % width)) (sym e) (f .columns-before (y % width) (let z = ap (λ x. x * width) e in omega arith)))
+          (λ n. f .rows-before (y / width) (y % width) (omega arith) (d .1))))
+
+  first-of : FirstOf number rows width Fact place
+  first-of =
+      record {
+        tells = place-tells;
+        found = λ e. let q = first test 0 (rows * width) in (q / width, q % width, place-found e);
+        reported = λ {r} {c} f. place-reported r c f;
+      }
+
+-- ---- the first block that is not balanced
+-- The halves, half slots each from slot start on, differ by at most 1 for each pair, input and output.
+abbrev pub Even : ℕ → List ℕ → ℕ → ℕ → Type 0
+Even ports bytes start half =
+    (c : Class) → Of ports c → Near 1 (cells c ports (runOf ports start half bytes)) (cells c ports (runOf ports (start + half) half bytes))
+
+-- The block of twice half slots from slot start on is the largest that is not so, and of those the earliest.
+pub record FirstUneven (ports slots : ℕ) (bytes : List ℕ) (start half : ℕ) : Type 0 where
+  pub block : Block slots start (2 * half)
+  pub uneven : Even ports bytes start half → ⊥
+  pub larger : (a h : ℕ) → half < h → Block slots a (2 * h) → Even ports bytes a h
+  pub earlier : (a : ℕ) → a < start → Block slots a (2 * half) → Even ports bytes a half
+
+module _ (ports slots : ℕ) (bytes : List ℕ) (p : Power slots) where
   abbrev k : ℕ
   k = levels slots
 
   power : slots ≡ 2 ^ k
-  power = levels-power slots (power-known (w .power))
+  power = levels-power slots (power-known p)
 
-  abbrev pub faults : List Check
-  faults = byteTooLarge ports slots bytes ∷ outputTwice ports slots bytes ∷ pairCount ports m bytes ∷ unbalancedBlock ports slots bytes ∷ []
+  -- blocks at depth t have two halves of so many slots
+  abbrev halfAt : ℕ → ℕ
+  halfAt t = slots / 2 ^ suc t
 
-  pub inspected-is : inspected ports slots m bytes ≡ report faults (0 ∷ [])
+  half-power : (t : ℕ) → t < k → halfAt t ≡ 2 ^ (k - suc t)
+  half-power t h = ap (λ y. y / 2 ^ suc t) power ∙ depth-size k (suc t) h
+
+  half-twice : (t : ℕ) → t < k → slots / 2 ^ t ≡ 2 * halfAt t
+  half-twice t h =
+      let a : slots / 2 ^ t ≡ 2 ^ k / 2 ^ t = ap (λ y. y / 2 ^ t) power in
+      let b : halfAt t ≡ 2 ^ k / 2 ^ suc t = ap (λ y. y / 2 ^ suc t) power in
+      omega (arith, depth-half k t h)
+
+  half-deeper : (y t : ℕ) → y < t → t < k → halfAt t < halfAt y
+  half-deeper y t l h =
+      let a = half-power y (omega arith) in
+      let b = half-power t h in
+      let c = pow-less (k - suc t) (k - suc y) (omega arith) in
+      omega arith
+
+  -- block x of depth t
+  at-number : (t x : ℕ) → t < k → x < 2 ^ t → Block slots (x * (2 * halfAt t)) (2 * halfAt t)
+  at-number t x h l =
+      number-block slots k power t x (2 * halfAt t) (omega arith) l
+      (sym (half-twice t h) ∙ (ap (λ y. y / 2 ^ t) power ∙ depth-size k t (omega arith)))
+
+  even-test : (t x : ℕ) → Even ports bytes (x * (2 * halfAt t)) (halfAt t) → unbalancedNumber ports bytes (halfAt t) x ≡ false
+  unfolding unbalancedNumber
+  even-test t x e = unbalanced-no ports bytes (x * (2 * halfAt t)) (halfAt t) (λ c of. near-yes 1 _ _ (e c of))
+
+  test-even : (t x : ℕ) → unbalancedNumber ports bytes (halfAt t) x ≡ false → Even ports bytes (x * (2 * halfAt t)) (halfAt t)
+  unfolding unbalancedNumber
+  test-even t x e = balanced-near ports bytes (x * (2 * halfAt t)) (halfAt t) e
+
+  -- a block that has halves, by depth and number
+  record Placed (start half : ℕ) : Type 0 where
+    depth : ℕ
+    number : ℕ
+    deep : depth < k
+    low : number < 2 ^ depth
+    half-is : half ≡ halfAt depth
+    start-is : start ≡ number * (2 * halfAt depth)
+
+  placed : (start half : ℕ) → Block slots start (2 * half) → Placed start half
+  placed start half b =
+      let d = block-numbered slots k start (2 * half) power b in
+      let less : d .depth < k = byLt (d .depth) k (λ x. x) (λ x.
+      let a : k - d .depth ≡ 0 = omega arith in
+      let o : 2 * half ≡ 1 = d .size ∙ ap (λ y. 2 ^ y) a in absurd (omega arith)) in
+      let h : half ≡ halfAt (d .depth) = (
+      let a : k - d .depth ≡ suc (k - suc (d .depth)) = omega arith in
+      let q = d .size in
+      omega (arith, half-power (d .depth) less, ap (λ y. 2 ^ y) a, two-pow-succ (k - suc (d .depth)))) in
+      record {
+        depth = d .depth;
+        number = d .number;
+        deep = less;
+        low = d .number-most;
+        half-is = h;
+        start-is = d .start ∙ ap (λ y. d .number * (2 * y)) h;
+      }
+
+  placed-even : {start half : ℕ} (d : Placed start half) → unbalancedNumber ports bytes (halfAt (d .depth)) (d .number) ≡ false → Even ports bytes start half
+  placed-even d e = rw (d .start-is, d .half-is) (test-even (d .depth) (d .number) e)
+
+  -- no block of a depth is uneven
+  depth-test : (t : ℕ) → ((x : ℕ) → x < 2 ^ t → Even ports bytes (x * (2 * halfAt t)) (halfAt t)) → unbalancedAt ports slots bytes t ≡ false
+  unfolding unbalancedAt
+  depth-test t e =
+      le-ltb (firstAt ports slots bytes t) (2 ^ t)
+      (let n = first-none (unbalancedNumber ports bytes (halfAt t)) (2 ^ t) 0 (λ x _ l. even-test t x (e x (omega arith))) in omega arith)
+
+  depth-even : {start half : ℕ} (d : Placed start half) → unbalancedAt ports slots bytes (d .depth) ≡ false → Even ports bytes start half
+  unfolding unbalancedAt
+  depth-even d e =
+      let n = ltb-false (firstAt ports slots bytes (d .depth)) (2 ^ d .depth) e in
+      placed-even d
+      (first-before (unbalancedNumber ports bytes (halfAt (d .depth))) (2 ^ d .depth) 0 (d .number) (omega arith) (let l = d .low in omega arith))
+
+  -- the check tells that the frame is balanced
+  block-tells : Tells (unbalancedBlock ports slots bytes) (Balanced ports slots bytes)
+  block-tells =
+      record {
+        met = λ b.
+            le-ltb (first (unbalancedAt ports slots bytes) 0 k) k
+            (let n = first-none (unbalancedAt ports slots bytes) k 0
+            (λ t _ h. depth-test t (λ x l c of. b c of (x * (2 * halfAt t)) (halfAt t) (at-number t x (omega arith) l))) in omega arith);
+        known = λ e c of start half b.
+            let d = placed start half b in
+            depth-even d
+            (first-before (unbalancedAt ports slots bytes) k 0 (d .depth) (omega arith)
+            (let n = ltb-false (first (unbalancedAt ports slots bytes) 0 k) k e in let l = d .deep in omega arith)) c of;
+      }
+
+  -- the first uneven block is reported, by its first slot's number from 1 and its size
+  module _ {start half : ℕ} (f : FirstUneven ports slots bytes start half) (d : Placed start half) where
+    abbrev t : ℕ
+    t = d .depth
+
+    number-is : firstAt ports slots bytes t ≡ d .number
+    number-is =
+        first-is (unbalancedNumber ports bytes (halfAt t)) (2 ^ t) 0 (d .number) (omega arith) (let l = d .low in omega arith)
+        (byBool (unbalancedNumber ports bytes (halfAt t) (d .number)) (λ e. e) (λ e. absurd (f .uneven (placed-even d e))))
+        (λ y _ l. even-test t y
+        (subst (λ (z : ℕ). Even ports bytes (y * (2 * halfAt t)) z) (d .half-is)
+        (f .earlier (y * (2 * halfAt t)) (sooner y (d .number) l)
+        (subst (λ (z : ℕ). Block slots (y * (2 * halfAt t)) (2 * z)) (sym (d .half-is)) (at-number t y (d .deep) (let n = d .low in omega arith))))))
+      where
+        sooner : (y x : ℕ) → y < d .number → y * (2 * halfAt t) < start
+        sooner y x l =
+            let a = mul-le-mul-right (2 * halfAt t) l in
+            let b = pow-pos (k - suc t) in
+            omega (arith, d .start-is, half-power t (d .deep))
+
+    depth-is : first (unbalancedAt ports slots bytes) 0 k ≡ t
+    unfolding unbalancedAt
+    depth-is =
+        first-is (unbalancedAt ports slots bytes) k 0 t (omega arith) (let h = d .deep in omega arith)
+        (lt-ltb (firstAt ports slots bytes t) (2 ^ t) (let l = d .low in omega (arith, number-is)))
+        (λ y _ l. depth-test y (λ x m.
+        let h = d .deep in
+        f .larger (x * (2 * halfAt y)) (halfAt y) (omega (arith, half-deeper y t l h, d .half-is)) (at-number y x (omega arith) m)))
+
+    block-answer : unbalancedBlock ports slots bytes ≡ (true, 104 ∷ suc start ∷ 2 * half ∷ [])
+    block-answer =
+        let as-check : ℕ → ℕ → Check = λ s z. (true, 104 ∷ suc s ∷ z ∷ []) in
+        rw (depth-is, lt-ltb t k (d .deep), number-is, half-twice t (d .deep))
+        (ap₂ as-check (sym (d .start-is)) (ap (λ y. 2 * y) (sym (d .half-is))))
+
+  block-reported : (start half : ℕ) → FirstUneven ports slots bytes start half → unbalancedBlock ports slots bytes ≡ (true, 104 ∷ suc start ∷ 2 * half ∷ [])
+  block-reported start half f = block-answer f (placed start half (f .block))
+
+  block-found : ltb (first (unbalancedAt ports slots bytes) 0 k) k ≡ true → (start half : ℕ) × FirstUneven ports slots bytes start half
+  unfolding unbalancedAt
+  block-found e = (
+    b * (2 * halfAt t),
+    halfAt t,
+    record {
+      block = at-number t b l n;
+      uneven = λ v. true≢false (sym (first-found u (2 ^ t) 0 (omega (arith, n))) ∙ even-test t b v);
+      larger = λ a h less bl.
+          let d = placed a h bl in
+          depth-even d (first-before (unbalancedAt ports slots bytes) k 0 (d .depth) (omega arith)
+          (byLt (d .depth) t (λ x. x) (λ x. absurd (no-larger (d .depth) x (d .deep) (let z = d .half-is in omega arith)))));
+      earlier = λ a less bl.
+          let d = placed a (halfAt t) bl in
+          let z = same-depth (d .depth) (d .deep) (d .half-is) in
+          placed-even d
+          (subst (λ (y : ℕ). unbalancedNumber ports bytes (halfAt y) (d .number) ≡ false) z
+          (first-before u (2 ^ t) 0 (d .number) (omega arith)
+          (byLt (d .number) b (λ x. x) (λ x. absurd (
+          let m = mul-le-mul-right (2 * halfAt t) x in
+          let y : a ≡ d .number * (2 * halfAt t) = d .start-is ∙ ap (λ (w : ℕ). d .number * (2 * halfAt w)) (sym z) in
+          omega arith)))));
+    },
+  )
+    where
+      t : ℕ
+      t = first (unbalancedAt ports slots bytes) 0 k
+
+      l : t < k
+      l = ltb-true t k e
+
+      b : ℕ
+      b = firstAt ports slots bytes t
+
+      n : b < 2 ^ t
+      n = ltb-true b (2 ^ t) (first-found (unbalancedAt ports slots bytes) k 0 (omega (arith, l)))
+
+      u : ℕ → Bool
+      u = unbalancedNumber ports bytes (halfAt t)
+
+      no-larger : (y : ℕ) → t ≤ y → y < k → halfAt t < halfAt y → ⊥
+      no-larger y a h m =
+          byEq t y (λ q. let z = ap halfAt q in omega arith) (λ q. let z = half-deeper t y (omega arith) h in omega arith)
+
+      same-depth : (y : ℕ) → y < k → halfAt t ≡ halfAt y → t ≡ y
+      same-depth y h q =
+          byLt t y (λ m. absurd (let z = half-deeper t y m h in omega arith))
+          (λ m. byEq t y (λ w. w) (λ w. absurd (let z = half-deeper y t (omega arith) l in omega arith)))
+
+  -- one block is the first uneven one, or the frame is balanced
+  byBlock : {P : Type 0} → ((start half : ℕ) → FirstUneven ports slots bytes start half → P) → (Balanced ports slots bytes → P) → P
+  byBlock off on =
+      byBool (unbalancedBlock ports slots bytes .0)
+      (λ e. let f = block-found e in off (f .0) (f .1) (f .2))
+      (λ e. on (block-tells .known e))
+
+-- ---- what Inspect finds in a frame of the right size
+-- No byte is above ports, no slot uses an output twice, each pair is in its count of slots: place by place.
+abbrev pub ByteLow : ℕ → List ℕ → ℕ → ℕ → Type 0
+ByteLow ports bytes s i = getD bytes (s * ports + i) 0 ≤ ports
+
+abbrev pub OutputOnce : ℕ → List ℕ → ℕ → ℕ → Type 0
+OutputOnce ports bytes s o = cells (output o) ports (runOf ports s 1 bytes) ≤ 1
+
+abbrev pub CountRight : ℕ → List ℕ → List ℕ → ℕ → ℕ → Type 0
+CountRight ports m bytes i o = cells (pair i o) ports bytes ≡ load (pair i o) ports m
+
+-- The first fault, in their order over the whole frame, with its place by numbers from 1; or clean, which is 0.
+pub data Finds (ports slots : ℕ) (m bytes : List ℕ) : List ℕ → Type 0 where
+  byte-101 : {s i : ℕ} → FirstWrong slots ports (ByteLow ports bytes) s i → Finds ports slots m bytes (101 ∷ suc s ∷ suc i ∷ [])
+  output-102 : {s o : ℕ} → Throughout slots ports (ByteLow ports bytes) → FirstWrong slots ports (OutputOnce ports bytes) s o
+      → Finds ports slots m bytes (102 ∷ suc s ∷ suc o ∷ [])
+  pair-103 : {i o : ℕ} → Throughout slots ports (ByteLow ports bytes) → Throughout slots ports (OutputOnce ports bytes)
+      → FirstWrong ports ports (CountRight ports m bytes) i o → Finds ports slots m bytes (103 ∷ suc i ∷ suc o ∷ [])
+  block-104 : {start half : ℕ} → Legal ports slots m bytes → FirstUneven ports slots bytes start half
+      → Finds ports slots m bytes (104 ∷ suc start ∷ 2 * half ∷ [])
+  clean-0 : Legal ports slots m bytes → Balanced ports slots bytes → Finds ports slots m bytes (0 ∷ [])
+
+-- the first three, each by its test
+bytes-search : (ports slots : ℕ) (bytes : List ℕ) → FirstOf 101 slots ports (ByteLow ports bytes) (byteTooLarge ports slots bytes)
+unfolding tooLarge
+bytes-search ports slots bytes =
+    first-of 101 slots ports (tooLarge ports bytes) (ByteLow ports bytes)
+    (λ s i _ f. le-ltb ports (getD bytes (s * ports + i) 0) f)
+    (λ s i _ e. ltb-false ports (getD bytes (s * ports + i) 0) e)
+
+outputs-search : (ports slots : ℕ) (bytes : List ℕ) → FirstOf 102 slots ports (OutputOnce ports bytes) (outputTwice ports slots bytes)
+unfolding usedTwice twiceIn
+outputs-search ports slots bytes =
+    first-of 102 slots ports (usedTwice ports bytes) (OutputOnce ports bytes)
+    (λ s o h f. rw (digits-div s h, digits-mod s h) (le-ltb 1 (cells (output o) ports (runOf ports s 1 bytes)) f))
+    (λ s o h e. ltb-false 1 (cells (output o) ports (runOf ports s 1 bytes)) (rw (digits-div s h, digits-mod s h) at e))
+
+counts-search : (ports : ℕ) (m bytes : List ℕ) → FirstOf 103 ports ports (CountRight ports m bytes) (pairCount ports m bytes)
+unfolding wrongCount
+counts-search ports m bytes =
+    first-of 103 ports ports (wrongCount ports m bytes) (CountRight ports m bytes)
+    (λ i o h f. rw (digits-div i h, digits-mod i h) (ap not (eq-eqb (cells (pair i o) ports bytes) (load (pair i o) ports m) f)))
+    (λ i o h e. eqb-true (cells (pair i o) ports bytes) (load (pair i o) ports m) (not-false _ (rw (digits-div i h, digits-mod i h) at e)))
+
+module _ (ports slots : ℕ) (m bytes : List ℕ) (w : WellFormed ports slots m) (size : length bytes ≡ slots * ports) where
+  -- legal is that the first three find nothing
+  legal-of : Throughout slots ports (ByteLow ports bytes) → Throughout slots ports (OutputOnce ports bytes) → Throughout ports ports (CountRight ports m bytes)
+      → Legal ports slots m bytes
+  legal-of a b c =
+      record {
+        size = size;
+        most = λ q h.
+            let d = place-of slots ports q (omega arith) in
+            subst (λ (x : ℕ). getD bytes x 0 ≤ ports) (sym (d .2)) (a (q / ports) (q % ports) (d .0) (d .1));
+        exact = c;
+        once = b;
+      }
+
+  legal-bytes : Legal ports slots m bytes → Throughout slots ports (ByteLow ports bytes)
+  legal-bytes l s i a b = l .most (s * ports + i) (omega (arith, digits-lt {q = s} {m = slots} {r = i} {c = ports} a b))
+
+  -- the four checks, and what is reported of them
+  abbrev one : Check
+  one = byteTooLarge ports slots bytes
+
+  abbrev two : Check
+  two = outputTwice ports slots bytes
+
+  abbrev three : Check
+  three = pairCount ports m bytes
+
+  abbrev four : Check
+  four = unbalancedBlock ports slots bytes
+
+  inspected-is : inspected ports slots m bytes ≡ report (one ∷ two ∷ three ∷ four ∷ []) (0 ∷ [])
   unfolding inspected
   inspected-is =
       rw (ports-tells ports .met (w .rack), slots-tells slots .met (w .power), matrix-tells ports m .met (w .square), frame-tells ports slots bytes .met size)
 
-  -- the four searches, each as whether it finds something
-  abbrev one : Bool
-  one = ltb (first (tooLarge ports bytes) 0 (slots * ports)) (slots * ports)
+  past-one : Throughout slots ports (ByteLow ports bytes) → inspected ports slots m bytes ≡ report (two ∷ three ∷ four ∷ []) (0 ∷ [])
+  past-one a = inspected-is ∙ report-on one (two ∷ three ∷ four ∷ []) (0 ∷ []) (bytes-search ports slots bytes .tells .met a)
 
-  abbrev two : Bool
-  two = ltb (first (usedTwice ports bytes) 0 (slots * ports)) (slots * ports)
+  past-two : Throughout slots ports (ByteLow ports bytes) → Throughout slots ports (OutputOnce ports bytes) → inspected ports slots m bytes ≡ report (three ∷ four ∷ []) (0 ∷ [])
+  past-two a b = past-one a ∙ report-on two (three ∷ four ∷ []) (0 ∷ []) (outputs-search ports slots bytes .tells .met b)
 
-  abbrev three : Bool
-  three = ltb (first (wrongCount ports m bytes) 0 (ports * ports)) (ports * ports)
+  past-three : Legal ports slots m bytes → inspected ports slots m bytes ≡ report (four ∷ []) (0 ∷ [])
+  past-three l = past-two (legal-bytes l) (l .once) ∙ report-on three (four ∷ []) (0 ∷ []) (counts-search ports m bytes .tells .met (l .exact))
 
-  abbrev four : Bool
-  four = ltb (first (unbalancedAt ports slots bytes) 0 k) k
+  -- what a case says is the answer
+  pub find-only : (given : List ℕ) → Finds ports slots m bytes given → given ≡ inspected ports slots m bytes
+  find-only given (byte-101 f) =
+      sym (inspected-is ∙ report-found one (two ∷ three ∷ four ∷ []) (0 ∷ []) (bytes-search ports slots bytes .reported f))
+  find-only given (output-102 a f) =
+      sym (past-one a ∙ report-found two (three ∷ four ∷ []) (0 ∷ []) (outputs-search ports slots bytes .reported f))
+  find-only given (pair-103 a b f) =
+      sym (past-two a b ∙ report-found three (four ∷ []) (0 ∷ []) (counts-search ports m bytes .reported f))
+  find-only given (block-104 {start} {half} l f) =
+      sym (past-three l ∙ report-found four [] (0 ∷ []) (block-reported ports slots bytes (w .power) start half f))
+  find-only given (clean-0 l b) = sym (past-three l ∙ report-on four [] (0 ∷ []) (block-tells ports slots bytes (w .power) .met b))
 
-  -- ---- legal, by the first three
-  abbrev pub NoFault : Type 0
-  NoFault = None (tooLarge ports bytes) (slots * ports) × None (usedTwice ports bytes) (slots * ports) × None (wrongCount ports m bytes) (ports * ports)
-
-  pub legal-of : NoFault → Legal ports slots m bytes
-  unfolding tooLarge usedTwice twiceIn wrongCount
-  legal-of n =
-      record {
-        size = size;
-        most = λ q h. ltb-false ports (getD bytes q 0) (n .0 q (omega arith));
-        exact = λ i o hi ho.
-            let e = n .2 (i * ports + o) (digits-lt {q = i} {m = ports} {r = o} {c = ports} hi ho) in
-            eqb-true (cells (pair i o) ports bytes) (load (pair i o) ports m) (not-false _ (rw (digits-div i ho, digits-mod i ho) at e));
-        once = λ s o hs ho.
-            let e = n .1 (s * ports + o) (digits-lt {q = s} {m = slots} {r = o} {c = ports} hs ho) in
-            ltb-false 1 (cells (output o) ports (runOf ports s 1 bytes)) (rw (digits-div s ho, digits-mod s ho) at e);
-      }
-
-  pub no-fault-of : Legal ports slots m bytes → NoFault
-  unfolding tooLarge usedTwice twiceIn wrongCount
-  no-fault-of l = (
-    (λ q h. le-ltb ports (getD bytes q 0) (l .most q (omega arith))),
-    (λ q h. le-ltb 1 (cells (output (q % ports)) ports (runOf ports (q / ports) 1 bytes)) (l .once (q / ports) (q % ports) (row q h .0) (row q h .1))),
-    (λ p h. let d = position-of ports (λ c. true) p h in ap not (eq-eqb _ _ (l .exact (p / ports) (p % ports) (d .0) (d .1)))),
-  )
+  -- and some case holds of it: what a fault names is wrong, and nothing before it is
+  pub fault-means : Finds ports slots m bytes (inspected ports slots m bytes)
+  fault-means =
+      byBool (one .0) (λ e. let f = bytes-search ports slots bytes .found e in of (byte-101 (f .2)))
+      (λ e. let a = bytes-search ports slots bytes .tells .known e in
+      byBool (two .0) (λ e. let f = outputs-search ports slots bytes .found e in of (output-102 a (f .2)))
+      (λ e. let b = outputs-search ports slots bytes .tells .known e in
+      byBool (three .0) (λ e. let f = counts-search ports m bytes .found e in of (pair-103 a b (f .2)))
+      (λ e. let l = legal-of a b (counts-search ports m bytes .tells .known e) in
+      byBlock ports slots bytes (w .power) (λ start half f. of (block-104 l f)) (λ b. of (clean-0 l b)))))
     where
-      row : (q : ℕ) → q < slots * ports → (q / ports < slots) × (q % ports < ports)
-      row q h = (div-lt-iff-lt-mul {k = ports} {x = q} {y = slots} (w .rack .0) .1 h, mod-lt q {m = ports} (w .rack .0))
+      of : {given : List ℕ} → Finds ports slots m bytes given → Finds ports slots m bytes (inspected ports slots m bytes)
+      of {given} f = subst (Finds ports slots m bytes) (find-only given f) f
 
-  -- ---- balanced, by the last
-  pub balanced-of : None (unbalancedAt ports slots bytes) k → Balanced ports slots bytes
-  unfolding unbalancedAt unbalancedNumber
-  balanced-of n c of start half b =
-      let d = block-numbered slots k start (2 * half) power b in
-      let t = d .depth in
-      let less : t < k = byLt t k (λ x. x) (λ x.
-      let a : k - t ≡ 0 = omega arith in
-      let o : 2 * half ≡ 1 = d .size ∙ ap (λ y. 2 ^ y) a in absurd (omega arith)) in
-      let h : half ≡ slots / 2 ^ suc t = (
-      let a = depth-half k t less in
-      let z = depth-size k t (omega arith) in
-      let q = d .size in
-      let p : slots / 2 ^ suc t ≡ 2 ^ k / 2 ^ suc t = ap (λ y. y / 2 ^ suc t) power in
-      omega arith) in
-      let none = ltb-false (firstAt ports slots bytes t) (2 ^ t) (n t less) in
-      let l = d .number-most in
-      let e : unbalancedNumber ports bytes (slots / 2 ^ suc t) (d .number) ≡ false
-      = first-before (unbalancedNumber ports bytes (slots / 2 ^ suc t)) (2 ^ t) 0 (d .number) (omega arith) (omega arith) in
-      let f : unbalanced ports bytes (d .number * (2 * half)) half ≡ false = subst (λ (x : ℕ). unbalanced ports bytes (d .number * (2 * x)) x ≡ false) (sym h) e in
-      balanced-near ports bytes start half (subst (λ (x : ℕ). unbalanced ports bytes x half ≡ false) (sym (d .start)) f) c of
-
-  pub no-unbalanced : Balanced ports slots bytes → None (unbalancedAt ports slots bytes) k
-  unfolding unbalancedAt unbalancedNumber
-  no-unbalanced b t h =
-      le-ltb (firstAt ports slots bytes t) (2 ^ t)
-      (let e = first-none (unbalancedNumber ports bytes (slots / 2 ^ suc t)) (2 ^ t) 0 (λ x _ l. fine x (omega arith)) in omega arith)
-    where
-      fine : (x : ℕ) → x < 2 ^ t → unbalanced ports bytes (x * (2 * (slots / 2 ^ suc t))) (slots / 2 ^ suc t) ≡ false
-      fine x l =
-          let half = slots / 2 ^ suc t in
-          let p : half ≡ 2 ^ k / 2 ^ suc t = ap (λ y. y / 2 ^ suc t) power in
-          let z : 2 * half ≡ 2 ^ (k - t) = (let a = depth-half k t h in let d = depth-size k t (omega arith) in omega arith) in
-          unbalanced-no ports bytes (x * (2 * half)) half
-          (λ c of. near-yes 1 _ _ (b c of (x * (2 * half)) half (number-block slots k power t x (2 * half) (omega arith) l z)))
-
-  -- ---- clean
-  clean-none : report faults (0 ∷ []) ≡ 0 ∷ [] → (one ≡ false) × (two ≡ false) × (three ≡ false) × (four ≡ false)
-  clean-none =
-      byBool one
-      (λ a. rw a (λ e. let z : _≡_ {A = ℕ} 101 0 = cc in absurd (omega arith)))
-      (λ a. byBool two
-      (λ b. rw (a, b) (λ e. let z : _≡_ {A = ℕ} 102 0 = cc in absurd (omega arith)))
-      (λ b. byBool three
-      (λ c. rw (a, b, c) (λ e. let z : _≡_ {A = ℕ} 103 0 = cc in absurd (omega arith)))
-      (λ c. byBool four
-      (λ d. rw (a, b, c, d) (λ e. let z : _≡_ {A = ℕ} 104 0 = cc in absurd (omega arith)))
-      (λ d. λ e. (a, b, c, d)))))
-
+  -- clean exactly where the frame is legal and balanced
   pub clean-sound : inspected ports slots m bytes ≡ 0 ∷ [] → Legal ports slots m bytes × Balanced ports slots bytes
-  clean-sound e =
-      let n = clean-none (sym inspected-is ∙ e) in (
-        legal-of (none-of (tooLarge ports bytes) (slots * ports) (n .0), none-of (usedTwice ports bytes) (slots * ports) (n .1), none-of (wrongCount ports m bytes) (ports * ports) (n .2)),
-        balanced-of (none-of (unbalancedAt ports slots bytes) k (n .3)),
-      )
+  clean-sound e = only-clean (inspected ports slots m bytes) fault-means (ap (λ (l : List ℕ). getD l 0 0) e)
+    where
+      only-clean : (given : List ℕ) → Finds ports slots m bytes given → getD given 0 0 ≡ 0 → Legal ports slots m bytes × Balanced ports slots bytes
+      only-clean given (byte-101 f) z = absurd (omega arith)
+      only-clean given (output-102 a f) z = absurd (omega arith)
+      only-clean given (pair-103 a b f) z = absurd (omega arith)
+      only-clean given (block-104 l f) z = absurd (omega arith)
+      only-clean given (clean-0 l b) z = (l, b)
 
   pub sound-clean : Legal ports slots m bytes → Balanced ports slots bytes → inspected ports slots m bytes ≡ 0 ∷ []
-  sound-clean l b =
-      let n = no-fault-of l in
-      inspected-is
-      ∙ rw (
-        none-yes (tooLarge ports bytes) (slots * ports) (n .0),
-        none-yes (usedTwice ports bytes) (slots * ports) (n .1),
-        none-yes (wrongCount ports m bytes) (ports * ports) (n .2),
-        none-yes (unbalancedAt ports slots bytes) k (no-unbalanced b),
-      )
-
-  -- ---- faults
-  -- An unbalanced block, by its first slot and its size: its halves differ by more than 1 for some class, every larger
-  -- block is balanced, and every earlier one of its size.
-  pub record BlockAt (first-slot block-size : ℕ) : Type 0 where
-    pub depth : ℕ
-    pub number : ℕ
-    pub deep : depth < k
-    pub low : number < 2 ^ depth
-    pub size-is : block-size ≡ slots / 2 ^ depth
-    pub slot-is : first-slot ≡ suc (number * block-size)
-    pub wrong-here : unbalancedNumber ports bytes (slots / 2 ^ suc depth) number ≡ true
-    pub none-earlier : None (unbalancedNumber ports bytes (slots / 2 ^ suc depth)) number
-    pub none-larger : None (unbalancedAt ports slots bytes) depth
-
-  -- What each answer means.
-  pub record Means (given : List ℕ) : Type 0 where
-    pub byte : (s i : ℕ) → given ≡ 101 ∷ s ∷ i ∷ [] → At (tooLarge ports bytes) ports (slots * ports) s i
-    pub twice : (s o : ℕ) → given ≡ 102 ∷ s ∷ o ∷ [] → None (tooLarge ports bytes) (slots * ports) × At (usedTwice ports bytes) ports (slots * ports) s o
-    pub count : (i o : ℕ) → given ≡ 103 ∷ i ∷ o ∷ []
-        → None (tooLarge ports bytes) (slots * ports) × None (usedTwice ports bytes) (slots * ports) × At (wrongCount ports m bytes) ports (ports * ports) i o
-    pub block : (s z : ℕ) → given ≡ 104 ∷ s ∷ z ∷ [] → NoFault × BlockAt s z
-
-  block-at : (s z : ℕ) → four ≡ true → unbalancedBlock ports slots bytes .1 ≡ 104 ∷ s ∷ z ∷ [] → BlockAt s z
-  unfolding unbalancedAt
-  block-at s z e d =
-      let t = first (unbalancedAt ports slots bytes) 0 k in
-      let l = ltb-true t k e in
-      let f = ltb-true (firstAt ports slots bytes t) (2 ^ t) (first-found (unbalancedAt ports slots bytes) k 0 (omega arith)) in
-      let u = unbalancedNumber ports bytes (slots / 2 ^ suc t) in
-      let zs : z ≡ slots / 2 ^ t = sym (cc) in
-      let ss : s ≡ suc (firstAt ports slots bytes t * (slots / 2 ^ t)) = sym (cc) in
-      record {
-        depth = t;
-        number = firstAt ports slots bytes t;
-        deep = l;
-        low = f;
-        size-is = zs;
-        slot-is = ss ∙ ap (λ x. suc (firstAt ports slots bytes t * x)) (sym zs);
-        wrong-here = first-found u (2 ^ t) 0 (omega arith);
-        none-earlier = λ y h. first-before u (2 ^ t) 0 y (omega arith) h;
-        none-larger = λ y h. first-before (unbalancedAt ports slots bytes) k 0 y (omega arith) h;
-      }
-
-  -- an answer that begins with one number begins with no other
-  other : {x y : ℕ} {l r : List ℕ} {A : Type 0} → x ≢ y → x ∷ l ≡ y ∷ r → A
-  other {x} {y} {l} {r} n e = absurd (n (ap (λ (z : List ℕ). getD z 0 0) e))
-
-  means-one : one ≡ true → Means (byteTooLarge ports slots bytes .1)
-  means-one e =
-      record {
-        byte = λ s i d. at-of (tooLarge ports bytes) (slots * ports) ports s i 101 e d;
-        twice = λ s o d. other (omega arith) d;
-        count = λ i o d. other (omega arith) d;
-        block = λ s z d. other (omega arith) d;
-      }
-
-  means-two : one ≡ false → two ≡ true → Means (outputTwice ports slots bytes .1)
-  means-two a e =
-      record {
-        byte = λ s i d. other (omega arith) d;
-        twice = λ s o d. (none-of (tooLarge ports bytes) (slots * ports) a, at-of (usedTwice ports bytes) (slots * ports) ports s o 102 e d);
-        count = λ i o d. other (omega arith) d;
-        block = λ s z d. other (omega arith) d;
-      }
-
-  means-three : one ≡ false → two ≡ false → three ≡ true → Means (pairCount ports m bytes .1)
-  means-three a b e =
-      record {
-        byte = λ s i d. other (omega arith) d;
-        twice = λ s o d. other (omega arith) d;
-        count = λ i o d. (
-          none-of (tooLarge ports bytes) (slots * ports) a,
-          none-of (usedTwice ports bytes) (slots * ports) b,
-          at-of (wrongCount ports m bytes) (ports * ports) ports i o 103 e d,
-        );
-        block = λ s z d. other (omega arith) d;
-      }
-
-  means-four : one ≡ false → two ≡ false → three ≡ false → four ≡ true → Means (unbalancedBlock ports slots bytes .1)
-  means-four a b c e =
-      record {
-        byte = λ s i d. other (omega arith) d;
-        twice = λ s o d. other (omega arith) d;
-        count = λ i o d. other (omega arith) d;
-        block = λ s z d. (
-          (none-of (tooLarge ports bytes) (slots * ports) a, none-of (usedTwice ports bytes) (slots * ports) b, none-of (wrongCount ports m bytes) (ports * ports) c),
-          block-at s z e d,
-        );
-      }
-
-  means-none : Means (0 ∷ [])
-  means-none =
-      record { byte = λ s i d. other (omega arith) d; twice = λ s o d. other (omega arith) d; count = λ i o d. other (omega arith) d; block = λ s z d. other (omega arith) d }
-
-  pub fault-means : Means (inspected ports slots m bytes)
-  fault-means =
-      subst Means (sym inspected-is)
-      (byBool one (λ a. rw a (means-one a))
-      (λ a. byBool two (λ b. rw (a, b) (means-two a b))
-      (λ b. byBool three (λ c. rw (a, b, c) (means-three a b c))
-      (λ c. byBool four (λ d. rw (a, b, c, d) (means-four a b c d)) (λ d. rw (a, b, c, d) means-none)))))
+  sound-clean l b = sym (find-only (0 ∷ []) (clean-0 l b))
 
 -- ---- the calls together
 -- What an accepted Build leaves, inspected with what Build was given, is clean.
