@@ -1,18 +1,22 @@
--- The nine bench loads of document 01 that are marked P, and the seam load: one list of cases, computed from the
--- definitions.
+-- The nine bench loads of document 01 that are marked P: one list of cases, computed from the definitions. A second list
+-- has a case for each answer that they do not reach. The seam load is in Tight.
 use Prim.Native.Nat.{ℕ, _*_}
+use Prim.Native.String.{String}
 use mathlib.Core.Path.{_≡_, refl}
 use mathlib.Core.List.{List, [], _∷_, _++_, map}
+use native.Mathlib.Omega.{arith}
 use lib.ListN.{replicate}
-use Rattle.model.specs.Words.{sumTo}
-use Rattle.model.specs.Loads.{load}
+use Rattle.model.specs.Words.{Near, sumTo}
+use Rattle.model.specs.Loads.{pair, load}
 use Rattle.model.specs.Frames.{cells, runOf}
 use Rattle.model.specs.Refusals.{admitted}
 use Rattle.model.specs.Schedule.{walk, settleAt, favours, slotOf, frameOf}
 use Rattle.model.specs.Build.{buildChecks, built, left}
-use Rattle.model.specs.Service.{service, repeated}
+use Rattle.model.specs.Service.{viewChecks, viewNumber, viewStart, viewSize, viewed, service, repeated}
+use Rattle.model.specs.Wire.{Carried, none, chain, wire, share, Accurate}
 use Rattle.model.specs.Sheet.{text, digits, portsLine, slotsLine, pairLine, lines, numbersFrom, readPairs, loads, readSheet, printSlots, response}
-use Rattle.model.specs.declared.Who.the-variants.{Pair}
+use Rattle.model.specs.declared.Who.{Who}
+use Rattle.model.specs.declared.Who.the-variants.{Pair, Input, Output}
 
 -- What the definitions give, and what document 01 says.
 pub record Case : Type 0 where
@@ -44,6 +48,14 @@ table7 = 2 ∷ 2 ∷ 0 ∷ 0 ∷ 0 ∷ 0 ∷ 0 ∷ 0 ∷ 0 ∷ 0 ∷ 0 ∷ 0 ∷
 abbrev table7Frame : List ℕ
 table7Frame = 1 ∷ 0 ∷ 0 ∷ 4 ∷ 2 ∷ 0 ∷ 0 ∷ 1 ∷ 1 ∷ 0 ∷ 0 ∷ 2 ∷ 2 ∷ 0 ∷ 0 ∷ 4 ∷ []
 
+-- the frame of four loads of 1
+abbrev crossed : List ℕ
+crossed = 1 ∷ 2 ∷ 2 ∷ 1 ∷ []
+
+-- the sheet's frame, carried twice
+abbrev twice : List Carried
+twice = chain none (replicate 16 77) (record { ports = 4; slots = 4; matrix = table7; times = 2 } ∷ [])
+
 sheet : List ℕ
 sheet =
     text "(ports 4)\n(slots 4)\n(pair (in 1) (out 1) (cells 2))\n(pair (in 1) (out 2) (cells 2))\n(pair (in 4) (out 1) (cells 1))\n(pair (in 4) (out 2) (cells 1))\n(pair (in 4) (out 4) (cells 2))\n"
@@ -56,7 +68,7 @@ pub cases : List Case
 cases =
     frame 1 1 (1 ∷ []) (1 ∷ [])
     ∷ frame 1 4 (3 ∷ []) (1 ∷ 1 ∷ 1 ∷ 0 ∷ [])
-    ∷ frame 2 2 (1 ∷ 1 ∷ 1 ∷ 1 ∷ []) (1 ∷ 2 ∷ 2 ∷ 1 ∷ [])
+    ∷ frame 2 2 (1 ∷ 1 ∷ 1 ∷ 1 ∷ []) crossed
     ∷ frame 4 4 own (1 ∷ 2 ∷ 3 ∷ 4 ∷ replicate 12 0)
     ∷ frame 4 4 table7 table7Frame
     ∷ record { gives = response sheet; says = printed }
@@ -65,6 +77,8 @@ cases =
     ∷ turnedAway 2 4 (3 ∷ 0 ∷ 2 ∷ 0 ∷ []) (6 ∷ 1 ∷ 5 ∷ [])
     ∷ turnedAway 2 4 (5 ∷ 0 ∷ 0 ∷ 0 ∷ []) (5 ∷ 1 ∷ 5 ∷ [])
     ∷ record { gives = service 4 4 table7Frame (Pair 4 4) 4 2; says = 0 ∷ 2 ∷ [] }
+    -- the same run on the wire: 2 cells, and a share of 1, which is 4 over 2 ^ k
+    ∷ record { gives = cells (pair 3 3) 4 (runOf 4 3 2 (wire twice)) ∷ share (pair 3 3) 0 twice 3 2 ∷ []; says = 2 ∷ 4 ∷ [] }
     ∷ []
 
 -- ---- the frames of the loads, and what the sheet comes to
@@ -89,5 +103,61 @@ unfolding printed digits printSlots response
 sheet-printed = rw (sheet-asks, table7-framed)
 
 pub bench : map (λ c. c .gives) cases ≡ map (λ c. c .says) cases
-unfolding cases frame turnedAway sumTo load cells runOf admitted buildChecks service repeated
+unfolding cases frame turnedAway sumTo load cells runOf admitted buildChecks service repeated chain wire share
 bench = rw (small-framed .0, small-framed .1, small-framed .2, own-framed, table7-framed, sheet-printed)
+
+-- the bound of that run for k = 2 is 5/3, which is 20 over 3 × 2 ^ k: 24 for the cells is within 20 of 12 for the share
+pub ninth-bound : Accurate 4 2 twice → Near 20 24 12
+unfolding chain wire share cells runOf buildChecks sumTo load
+ninth-bound a = rw table7-framed at (a 3 2 (omega arith) (pair 3 3) (omega arith, omega arith))
+
+-- ---- an answer of each kind that the nine loads do not reach
+-- A sheet, and the line that is printed for it.
+answers : List ℕ → String → Case
+answers asked line = record { gives = response asked; says = text line }
+
+-- A view of a frame: the number, where the part begins, its size and its bytes.
+views : ℕ → List ℕ → Case
+views slot says =
+    record {
+      gives = viewNumber 2 2 crossed slot ∷ viewStart 2 2 crossed slot ∷ viewSize 2 2 crossed slot ∷ viewed 2 2 crossed slot;
+      says = says;
+    }
+
+-- A count over both slots of a frame of two cells of (1, 2) and one of (2, 1).
+countsTo : Who → ℕ → Case
+countsTo who cells = record { gives = service 2 2 (2 ∷ 0 ∷ 2 ∷ 1 ∷ []) who 1 2; says = 0 ∷ cells ∷ [] }
+
+pub others : List Case
+others =
+    -- each refusal of a sheet, by its printed line
+    answers (text "(ports 17)\n") "(refused 1)\n"
+    ∷ answers (text "(ports 2)\n(slots 3)\n") "(refused 2)\n"
+    ∷ answers (text "(ports 2)\n(slots 1)\n(pair (in 1) (out 1) (cells 2))\n(pair (in 2) (out 1) (cells 1))\n") "(refused 5 (port 1) (cells 2))\n"
+    ∷ answers (text "(ports 2)\n(slots 1)\n(pair (in 1) (out 2) (cells 1))\n(pair (in 2) (out 2) (cells 1))\n") "(refused 6 (port 2) (cells 2))\n"
+    ∷ answers (text "(ports 2)\n(slots 1)\n(pair (in 1) (out 1) (cells 01))\n") "(refused 7 (line 3))\n"
+    ∷ answers (text "(ports 2)\n(slots 1)\n(pair (in 1) (out 3) (cells 0))\n") "(refused 8 (line 3))\n"
+    ∷ answers (text "(ports 2)\n(slots 1)\n(pair (in 1) (out 2) (cells 0))\n(pair (in 1) (out 2) (cells 0))\n") "(refused 9 (line 4))\n"
+    -- lines that break the form: a number above 65535, byte 13 before byte 10, no byte 10 at the end, an empty line, none
+    ∷ answers (text "(ports 65536)\n") "(refused 7 (line 1))\n"
+    ∷ answers (text "(ports 2)" ++ (13 ∷ 10 ∷ text "(slots 1)\n")) "(refused 7 (line 1))\n"
+    ∷ answers (text "(ports 2)\n(slots 1)") "(refused 7 (line 2))\n"
+    ∷ answers (text "(ports 2)\n(slots 1)\n\n") "(refused 7 (line 3))\n"
+    ∷ answers [] "(refused 7 (line 1))\n"
+    ∷ answers (text "(ports 2)\n") "(refused 7 (line 2))\n"
+    -- an idle slot
+    ∷ answers (text "(ports 1)\n(slots 1)\n") "(frame (ports 1) (slots 1))\n(slot 1)\n"
+    -- slot 2 of a frame, and slots outside it
+    ∷ views 2 (0 ∷ 2 ∷ 2 ∷ 2 ∷ 1 ∷ [])
+    ∷ views 0 (11 ∷ 0 ∷ 0 ∷ [])
+    ∷ views 3 (11 ∷ 0 ∷ 0 ∷ [])
+    -- a pair and the one turned round, an input, an output
+    ∷ countsTo (Pair 1 2) 2
+    ∷ countsTo (Pair 2 1) 1
+    ∷ countsTo (Input 1) 2
+    ∷ countsTo (Output 1) 1
+    ∷ []
+
+pub others-answered : map (λ c. c .gives) others ≡ map (λ c. c .says) others
+unfolding others answers views countsTo digits portsLine slotsLine pairLine lines numbersFrom readPairs readSheet printSlots response sumTo load cells runOf service repeated viewChecks walk settleAt favours slotOf frameOf
+others-answered = refl
