@@ -98,7 +98,7 @@ most-tells most n answer = record { met = le-ltb most n; known = ltb-false most 
 
 -- 1: ports are 1 to 16
 pub ports-tells : (ports : ℕ) → Tells (bad-ports ports) (Within 1 16 ports)
-ports-tells ports = range-tells 1 16 ports (1 ∷ [])
+ports-tells ports = range-tells 1 16 ports _
 
 -- 2: slots are a power of two from 1 to 1,024
 pub slots-tells : (slots : ℕ) → Tells (bad-slots slots) (Power slots)
@@ -107,23 +107,23 @@ slots-tells slots =
 
 -- 3: the matrix has ports × ports counts
 pub matrix-tells : (ports : ℕ) (m : List ℕ) → Tells (bad-matrix ports m) (length m ≡ ports * ports)
-matrix-tells ports m = size-tells (length m) (ports * ports) (3 ∷ [])
+matrix-tells ports m = size-tells (length m) (ports * ports) _
 
 -- 4: the frame has slots × ports bytes
 pub frame-tells : (ports slots : ℕ) (bytes : List ℕ) → Tells (bad-frame ports slots bytes) (length bytes ≡ slots * ports)
-frame-tells ports slots bytes = size-tells (length bytes) (slots * ports) (4 ∷ [])
+frame-tells ports slots bytes = size-tells (length bytes) (slots * ports) _
 
 -- 10: the sheet has at most 16,384 bytes
 pub sheet-tells : (bytes : List ℕ) → Tells (bad-sheet bytes) (length bytes ≤ 16384)
-sheet-tells bytes = most-tells 16384 (length bytes) (10 ∷ [])
+sheet-tells bytes = most-tells 16384 (length bytes) _
 
 -- 11: the slot is 1 to slots
 pub slot-tells : (slots slot : ℕ) → Tells (bad-slot slots slot) (Within 1 slots slot)
-slot-tells slots slot = range-tells 1 slots slot (11 ∷ [])
+slot-tells slots slot = range-tells 1 slots slot _
 
 -- 13: the run has at most 1,000,000 slots
 pub length-tells : (len : ℕ) → Tells (bad-length len) (len ≤ 1000000)
-length-tells len = most-tells 1000000 len (13 ∷ [])
+length-tells len = most-tells 1000000 len _
 
 -- ---- what holds where a condition does not
 pub within-known : {n most : ℕ} {r : Bool} → r ≡ not (within 1 most n) → r ≡ false → Within 1 most n
