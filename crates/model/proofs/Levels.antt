@@ -46,6 +46,11 @@ power-level p = ap levels (p .is) ∙ levels-of (p .k) (p .most)
 pub power-known : {slots : ℕ} → Power slots → levels slots ≢ 11
 power-known p e = let l = power-level p in let m = p .most in omega arith
 
+pub power-most : {slots : ℕ} → Power slots → slots ≤ 1024
+power-most p =
+    let b : 2 ^ p .k ≤ 2 ^ 10 = pow-le-pow-right (omega arith) {j = 10} (p .most) in
+    omega (arith, p .is)
+
 pub known-power : (slots : ℕ) → levels slots ≢ 11 → Power slots
 known-power slots n =
     record { k = levels slots; most = (let m = levels-most slots in omega arith); is = levels-power slots n }

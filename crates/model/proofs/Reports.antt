@@ -1,11 +1,10 @@
 -- Reports: the first condition that holds.
-use Prim.Native.Nat.{ℕ, _*_, _^_, _≤_}
+use Prim.Native.Nat.{ℕ, _*_, _≤_}
 use mathlib.Core.Path.{_≡_, refl, sym, ap, _∙_}
 use mathlib.Core.Logic.{_≢_}
 use mathlib.Core.List.{List, [], _∷_}
 use mathlib.Core.Bool.{Bool, true, false, not, true≢false}
 use native.Mathlib.Omega.{arith}
-use native.Mathlib.Nat.{pow-le-pow-right}
 use lib.Dec.{eqb, ltb}
 use lib.ListN.{length, getD}
 use lib.Pow.{pow-pos}
@@ -17,7 +16,7 @@ use Rattle.model.specs.Sheet.{bad-sheet}
 use Rattle.model.specs.declared.Refusal.{Refusal}
 use Rattle.model.specs.declared.Refusal.the-variants.{Ports, Slots, MatrixLength, FrameLength, InputLoad, OutputLoad, LineForm, LinePort, LinePair, SheetLength, SlotNumber, PortNumber, RunLength}
 use Rattle.model.proofs.Cases.{byBool, Within, within-yes, within-true}
-use Rattle.model.proofs.Levels.{Power, power-known, known-power}
+use Rattle.model.proofs.Levels.{Power, power-known, power-most, known-power}
 
 module _ (c : Check) (cs : List Check) (asked : List ℕ) where
   pub report-found : {answer : List ℕ} → c ≡ (true, answer) → report (c ∷ cs) asked ≡ answer
@@ -132,5 +131,4 @@ within-known {n} {most} e f = range-tells 1 most n [] .known (sym e ∙ f)
 pub slots-known : {slots : ℕ} {r : Bool} → r ≡ eqb (levels slots) 11 → r ≡ false → Within 1 1024 slots
 slots-known {slots} e f =
     let p = slots-tells slots .known (sym e ∙ f) in
-    let b : 2 ^ p .k ≤ 2 ^ 10 = pow-le-pow-right (omega arith) {j = 10} (p .most) in
-    omega (arith, p .is, pow-pos (p .k))
+    omega (arith, p .is, pow-pos (p .k), power-most p)

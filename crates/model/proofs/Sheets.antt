@@ -1,7 +1,7 @@
 -- The sheet: digits and the number that they stand for, lines and the bytes that they end at, and what a line of each form
 -- is read as.
 use Prim.Native.Nat.{ℕ, suc, zero, _+_, _-_, _*_, _/_, _%_, _^_, _≤_, _<_}
-use mathlib.Core.Path.{_≡_, refl, sym, ap, _∙_}
+use mathlib.Core.Path.{_≡_, refl, sym, ap, _∙_, subst}
 use mathlib.Core.List.{List, [], _∷_, _++_, append-assoc}
 use mathlib.Core.Bool.{Bool, true, false, not, true≢false}
 use native.Mathlib.Omega.{arith}
@@ -234,6 +234,39 @@ bad-form s l form v ls e never =
     (sym (join-lines s) ∙ (ap join e ∙ ap (λ x. x ++ join ls) (same-true l form (z .0))))))
     (λ y. rw y)
 
+-- a line of a form, with numbers that are not too large, or none: s begins with it or with no such line
+module _ (X : Type 0) (form : X → List ℕ) (numbers : List ℕ → X) (largest : X → ℕ) (whole : (x : X) → Whole (form x))
+    (read : (x : X) → numbers (form x) ≡ x) where
+  form-holds : (s l : List ℕ) (ls : List (List ℕ)) → lines s ≡ l ∷ ls → (x : X) (t : List ℕ) → largest x ≤ 65535 → s ≡ form x ++ t
+      → both (same l (form (numbers l))) (leb (largest (numbers l)) 65535) ≡ true
+  unfolding Whole
+  form-holds s l ls e x t h q =
+      let both-lines : l ∷ ls ≡ form x ∷ lines t = sym e ∙ (ap lines q ∙ whole x t) in
+      let is : l ≡ form x = cc in
+      let n : numbers l ≡ x = ap numbers is ∙ read x in
+      let f : l ≡ form (numbers l) = is ∙ ap form (sym n) in
+      both-yes (same l (form (numbers l))) (leb (largest (numbers l)) 65535)
+      (subst (λ (z : List ℕ). same l z ≡ true) f (same-self l)) (ap (λ (z : X). leb (largest z) 65535) n ∙ le-leb (largest x) 65535 h)
+
+  byForm : {P : Type 0} (s : List ℕ) → ((x : X) (t : List ℕ) → largest x ≤ 65535 → s ≡ form x ++ t → P)
+      → (((x : X) (t : List ℕ) → largest x ≤ 65535 → s ≡ form x ++ t → ⊥) → P) → P
+  unfolding Whole
+  byForm {P} s on off = by-lines (lines s) refl
+    where
+      by-lines : (ls : List (List ℕ)) → lines s ≡ ls → P
+      by-lines [] e =
+          off (λ x t h q.
+          let z : _≡_ {A = List (List ℕ)} [] (form x ∷ lines t) = sym e ∙ (ap lines q ∙ whole x t) in
+          let y : _≡_ {A = ℕ} 0 1 = cc in omega arith)
+      by-lines (l ∷ ls) e =
+          let v = largest (numbers l) in
+          byBool (both (same l (form (numbers l))) (leb v 65535))
+          (λ y.
+          let z = both-true (same l (form (numbers l))) (leb v 65535) y in
+          on (numbers l) (join ls) (leb-true v 65535 (z .1))
+          (sym (join-lines s) ∙ (ap join e ∙ ap (λ x. x ++ join ls) (same-true l (form (numbers l)) (z .0)))))
+          (λ y. off (λ x t h q. true≢false (sym (form-holds s l ls e x t h q) ∙ y)))
+
 -- ---- line 1
 pub ports-yes : (n : ℕ) (t : List ℕ) → n ≤ 65535 → readPorts (lines (portsLine n ++ t)) ≡ unless (bad-ports n ∷ []) (readSlots n (lines t))
 unfolding Whole
@@ -245,6 +278,10 @@ ports-no-of s (l ∷ ls) e never = rw (bad-form s l (portsLine (numberIn 0 l)) (
 
 pub ports-no : (s : List ℕ) → ((n : ℕ) (t : List ℕ) → n ≤ 65535 → s ≡ portsLine n ++ t → ⊥) → readPorts (lines s) ≡ refused (7 ∷ 1 ∷ [])
 ports-no s never = ports-no-of s (lines s) refl never
+
+pub byPortsLine : {P : Type 0} (s : List ℕ) → ((n : ℕ) (t : List ℕ) → n ≤ 65535 → s ≡ portsLine n ++ t → P)
+    → (((n : ℕ) (t : List ℕ) → n ≤ 65535 → s ≡ portsLine n ++ t → ⊥) → P) → P
+byPortsLine s on off = byForm ℕ portsLine (numberIn 0) (λ n. n) ports-whole ports-number s on off
 
 -- ---- line 2
 pub slots-yes : (ports n : ℕ) (t : List ℕ) → n ≤ 65535
@@ -259,6 +296,10 @@ slots-no-of ports s (l ∷ ls) e never = rw (bad-form s l (slotsLine (numberIn 0
 
 pub slots-no : (ports : ℕ) (s : List ℕ) → ((n : ℕ) (t : List ℕ) → n ≤ 65535 → s ≡ slotsLine n ++ t → ⊥) → readSlots ports (lines s) ≡ refused (7 ∷ 2 ∷ [])
 slots-no ports s never = slots-no-of ports s (lines s) refl never
+
+pub bySlotsLine : {P : Type 0} (s : List ℕ) → ((n : ℕ) (t : List ℕ) → n ≤ 65535 → s ≡ slotsLine n ++ t → P)
+    → (((n : ℕ) (t : List ℕ) → n ≤ 65535 → s ≡ slotsLine n ++ t → ⊥) → P) → P
+bySlotsLine s on off = byForm ℕ slotsLine (numberIn 0) (λ n. n) slots-whole slots-number s on off
 
 -- ---- a pair line
 most-low : (a b n : ℕ) → most a b ≤ n → (a ≤ n) × (b ≤ n)
@@ -298,3 +339,28 @@ module _ (ports slots number : ℕ) (named matrix : List ℕ) where
       → ((i o m : ℕ) (t : List ℕ) → i ≤ 65535 → o ≤ 65535 → m ≤ 65535 → s ≡ pairLine i o m ++ t → ⊥)
       → readPairs ports slots number named matrix (lines s) ≡ refused (7 ∷ number ∷ [])
   pairs-no s some never = pairs-no-of s (lines s) refl some never
+
+pub byPairLine : {P : Type 0} (s : List ℕ) → ((i o m : ℕ) (t : List ℕ) → i ≤ 65535 → o ≤ 65535 → m ≤ 65535 → s ≡ pairLine i o m ++ t → P)
+    → (((i o m : ℕ) (t : List ℕ) → i ≤ 65535 → o ≤ 65535 → m ≤ 65535 → s ≡ pairLine i o m ++ t → ⊥) → P) → P
+byPairLine s on off =
+    byForm (ℕ × ℕ × ℕ) (λ x. pairLine (x .0) (x .1) (x .2)) (λ l. (numberIn 0 l, numberIn 1 l, numberIn 2 l))
+    (λ x. most (x .0) (most (x .1) (x .2))) (λ x. pair-whole (x .0) (x .1) (x .2))
+    (λ x. rw (pair-numbers (x .0) (x .1) (x .2))) s
+    (λ x t h e.
+    let a = most-low (x .0) (most (x .1) (x .2)) 65535 h in
+    let b = most-low (x .1) (x .2) 65535 (a .1) in
+    on (x .0) (x .1) (x .2) t (a .0) (b .0) (b .1) e)
+    (λ never. off (λ i o m t a b c e. never (i, o, m) t (most-high i (most o m) 65535 a (most-high o m 65535 b c)) e))
+
+-- ---- what is left where lines are taken
+pub pair-lines : (i o m : ℕ) (t : List ℕ) → lines (pairLine i o m ++ t) ≡ pairLine i o m ∷ lines t
+unfolding Whole
+pair-lines i o m t = pair-whole i o m t
+
+pub no-lines : (s : List ℕ) → lines s ≡ [] → s ≡ []
+no-lines s e = sym (join-lines s) ∙ ap join e
+
+pub some-lines : (s l : List ℕ) (ls : List (List ℕ)) → lines s ≡ l ∷ ls → s ≡ [] → ⊥
+some-lines s l ls e f =
+    let a : _≡_ {A = List (List ℕ)} [] (l ∷ ls) = sym lines-none ∙ (sym (ap lines f) ∙ e) in
+    let z : _≡_ {A = ℕ} 0 1 = cc in omega arith
