@@ -1,8 +1,9 @@
 -- A goal by cases on a test, each case with the fact that the test shows.
-use Prim.Native.Nat.{ℕ, _≤_, _<_}
+use Prim.Native.Nat.{ℕ, suc, zero, _≤_, _<_}
 use mathlib.Core.Path.{_≡_, refl, sym}
 use mathlib.Core.Logic.{_≢_}
 use mathlib.Core.Bool.{Bool, true, false, true≢false}
+use native.Mathlib.Omega.{arith}
 use lib.Dec.{eqb, ltb, leb}
 use borrow.Author.Tests.{eqb-true, eqb-false, ltb-true, ltb-false, leb-true, le-leb, lt-leb}
 use Rattle.model.specs.Words.{both, within}
@@ -45,3 +46,8 @@ within-above low high n a b = rw (le-leb low n a, lt-leb n high b)
 
 pub within-true : (low high n : ℕ) → within low high n ≡ true → Within low high n
 within-true low high n e = let b = both-true (leb low n) (leb n high) e in (leb-true low n (b .0), leb-true n high (b .1))
+
+-- a number from 1 to high is the next after one below high
+pub from-one : (P : ℕ → Type 0) (high n : ℕ) → Within 1 high n → ((x : ℕ) → x < high → P (suc x)) → P n
+from-one P high zero w f = absurd (omega arith)
+from-one P high (suc n) w f = f n (w .1)

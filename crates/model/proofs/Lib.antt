@@ -23,7 +23,10 @@ pub mod Tight
 pub mod Queues
 pub mod Runs
 pub mod Inspected
+pub mod Answers
+pub mod Faults
 pub mod Clean
 pub mod Sheets
-pub mod Answers
+pub mod Responses
+pub mod Answered
 pub mod Bench
