@@ -1,27 +1,27 @@
 -- Each call's definition answers by its cases.
 use Prim.Native.Nat.{ℕ, suc, _-_, _*_, _<_, zero}
-use mathlib.Core.Path.{_≡_, sym, ap, ap₂, _∙_, subst}
+use mathlib.Core.Path.{_≡_, sym, ap, ap₂, _∙_}
 use mathlib.Core.List.{List, [], _∷_}
 use mathlib.Core.Bool.{false}
 use native.Mathlib.Omega.{arith}
 use lib.ListN.{length, getD}
 use borrow.Author.Tests.{not-false}
 use Rattle.model.specs.Words.{within}
-use Rattle.model.specs.Loads.{Class, pair, output, input, Fits}
+use Rattle.model.specs.Loads.{Class, pair, output, input}
 use Rattle.model.specs.Frames.{cells}
 use Rattle.model.specs.Refusals.{Check, report, bad-ports, bad-slots, bad-matrix, bad-frame, bad-slot, admitted}
-use Rattle.model.specs.Inspect.{byteTooLarge, outputTwice, pairCount, unbalancedBlock, inspected}
-use Rattle.model.specs.Build.{left, buildChecks, built}
 use Rattle.model.specs.Schedule.{frameOf}
+use Rattle.model.specs.Build.{left, buildChecks, built}
+use Rattle.model.specs.Inspect.{byteTooLarge, outputTwice, pairCount, unbalancedBlock, inspected}
 use Rattle.model.specs.Service.{viewChecks, viewNumber, viewStart, viewSize, viewed, classOf, bad-who, bad-length, repeated, service}
 use Rattle.model.specs.declared.Who.{Who}
 use Rattle.model.specs.declared.Who.the-variants.{Pair, Input, Output}
 use Rattle.model.proofs.Cases.{from-one, byLt, Within, both-true, within-yes, within-true}
 use Rattle.model.proofs.Levels.{Power, power-level}
+use Rattle.model.proofs.OneFrame.{only-frame}
 use Rattle.model.proofs.Reports.{Tells, ports-tells, slots-tells, matrix-tells, frame-tells, clear-none, clear-some, broken, byFact, slot-tells, length-tells}
 use Rattle.model.proofs.Overloads.{byOver}
-use Rattle.model.proofs.OneFrame.{frame-is, only-frame}
-use Rattle.model.proofs.Demand2.{WellFormed, overloads, light-fits, admit-answers, build-answers, accepts-yes, build-keeps}
+use Rattle.model.proofs.Demand2.{well-frame, WellFormed, overloads, light-fits, admit-answers, build-answers, accepts-yes, build-keeps}
 use Rattle.model.proofs.Answers.{Exactly, exactly, RackRefused, ports-1, slots-2, LoadRefused, FrameRefused, SlotRefused, rack, matrix-3, matrix, frame-4, slot-11, SlotFound, Admits, refused, input-5, output-6, accepted, Builds, Inspects, found, Views, seen, Names, of-pair, of-input, of-output, Counts, port-12, length-13, counted, ByCases}
 use Rattle.model.proofs.Clean.{find-only, fault-means}
 use Rattle.model.proofs.Responses.{respond-exactly}
@@ -137,18 +137,17 @@ module _ (ports slots : ℕ) (m buffer : List ℕ) where
   build-only given (refused r) = kept (frame-low r) (frame-reported ports slots m (overloads ports slots m) (0 ∷ []) buffer r)
   build-only given (input-5 w e x o) = kept (omega arith) (build-answers ports slots m w buffer e .input-over x o)
   build-only given (output-6 w e l x o) = kept (omega arith) (build-answers ports slots m w buffer e .output-over l x o)
-  build-only given (accepted w e f bytes s) =
-      ap₂ (λ (a b : List ℕ). (a, b)) (sym (build-answers ports slots m w buffer e .accepts f))
-      (only-frame ports (w .power .k) m bytes s
-      ∙ rw (accepts-yes ports slots m buffer (record { well = w; size = e; fits = f }), power-level (w .power)))
+  build-only given (accepted a bytes s) =
+      ap₂ (λ (x y : List ℕ). (x, y)) (sym (build-answers ports slots m (a .well) buffer (a .size) .accepts (a .fits)))
+      (only-frame ports (a .well .power .k) m bytes s ∙ rw (accepts-yes ports slots m buffer a, power-level (a .well .power)))
 
   pub build-exactly : Exactly (Builds ports slots m buffer) build
   build-exactly =
       byFrame ports slots m buffer (λ n r. exactly build-only (refused r))
       (λ w e. byOver 5 input ports slots m (λ x o. exactly build-only (input-5 w e x o))
       (λ i. byOver 6 output ports slots m (λ x o. exactly build-only (output-6 w e i x o))
-      (λ o. exactly build-only (accepted w e (light-fits ports slots m i o) (frameOf ports (w .power .k) m)
-      (frame-is ports (w .power .k) m (w .square) (subst (λ (n : ℕ). Fits ports n m) (w .power .is) (light-fits ports slots m i o)))))))
+      (λ o. let fits = light-fits ports slots m i o in
+      exactly build-only (accepted (record { well = w; size = e; fits = fits }) (frameOf ports (w .power .k) m) (well-frame ports slots m w fits)))))
 
 -- ---- Inspect
 module _ (ports slots : ℕ) (m bytes : List ℕ) where

@@ -2,17 +2,16 @@
 -- call some case holds, and what a case says is the answer: `ByCases`, which is shown in Answered.
 use Prim.Native.Nat.{ℕ, suc, _+_, _*_, _≤_, _<_}
 use mathlib.Core.Path.{_≡_, subst, refl}
+use mathlib.Core.Logic.{_⊎_}
 use mathlib.Core.List.{List, [], _∷_, _++_, map}
 use lib.ListN.{length, getD, take, drop, set, replicate}
 use Rattle.model.specs.Words.{Near}
 use Rattle.model.specs.Loads.{Class, pair, output, Of, load, input, Fits}
 use Rattle.model.specs.Frames.{cells, runOf, Legal, Block, Balanced}
-use Rattle.model.specs.Refusals.{levels, admitted, refusal, answered}
-use Rattle.model.specs.Inspect.{inspected, finding}
-use Rattle.model.specs.Build.{left, built}
-use mathlib.Core.Logic.{_⊎_}
+use Rattle.model.specs.Refusals.{admitted, refusal, answered}
 use Rattle.model.specs.Rules.{Scheduled}
-use Rattle.model.specs.Schedule.{frameOf}
+use Rattle.model.specs.Build.{left, built}
+use Rattle.model.specs.Inspect.{inspected, finding}
 use Rattle.model.specs.Service.{viewNumber, viewStart, viewSize, viewed, repeated, served, service}
 use Rattle.model.specs.Sheet.{text, portsLine, slotsLine, pairLine, Asked, loads, printFrame, printRefusal, response}
 use Rattle.model.specs.Sheet as asked
@@ -22,15 +21,15 @@ use Rattle.model.specs.declared.Answer.the-variants as answer
 use Rattle.model.specs.declared.Answer.the-variants.{Accepted}
 use Rattle.model.specs.declared.Inspection.the-variants as inspection
 use Rattle.model.specs.declared.Inspection.the-variants.{Clean, ByteTooLarge, OutputTwice, PairCount, UnbalancedBlock}
+use Rattle.model.specs.declared.Who.{Who}
+use Rattle.model.specs.declared.Who.the-variants.{Pair, Input, Output}
 use Rattle.model.specs.declared.Count.{Count}
 use Rattle.model.specs.declared.Service.the-variants as served-as
 use Rattle.model.specs.declared.Service.the-variants.{Counted}
-use Rattle.model.specs.declared.Who.{Who}
-use Rattle.model.specs.declared.Who.the-variants.{Pair, Input, Output}
 use Rattle.model.proofs.Cases.{Within}
 use Rattle.model.proofs.Levels.{Power}
 use Rattle.model.proofs.Overloads.{Light, Over}
-use Rattle.model.proofs.Demand2.{WellFormed}
+use Rattle.model.proofs.Demand2.{WellFormed, Accepts}
 
 -- Some case holds of the answer, and what any case says is the answer.
 abbrev pub Exactly : {A : Type 0} → (A → Type 0) → A → Type 0
@@ -87,8 +86,7 @@ pub data Builds (ports slots : ℕ) (m buffer : List ℕ) : List ℕ × List ℕ
       → Builds ports slots m buffer (5 ∷ suc x ∷ load (input x) ports m ∷ [], buffer)
   output-6 : WellFormed ports slots m → length buffer ≡ slots * ports → Light input ports slots m → (x : ℕ) → Over output ports slots m x
       → Builds ports slots m buffer (6 ∷ suc x ∷ load (output x) ports m ∷ [], buffer)
-  accepted : (w : WellFormed ports slots m) → length buffer ≡ slots * ports → Fits ports slots m → (bytes : List ℕ) → Scheduled ports (w .power .k) m bytes
-      → Builds ports slots m buffer (0 ∷ [], bytes)
+  accepted : (a : Accepts ports slots m buffer) (bytes : List ℕ) → Scheduled ports (a .well .power .k) m bytes → Builds ports slots m buffer (0 ∷ [], bytes)
 
 -- ---- Inspect
 -- A fact holds at each of rows × width places.
@@ -104,16 +102,16 @@ pub record FirstWrong (rows width : ℕ) (Fact : ℕ → ℕ → Type 0) (r c : 
   pub columns-before : (z : ℕ) → z < c → Fact r z
 
 -- The halves, half slots each from slot start on, differ by at most 1 for each pair, input and output.
-abbrev pub Even : ℕ → List ℕ → ℕ → ℕ → Type 0
-Even ports bytes start half =
+abbrev pub HalvesNear : ℕ → List ℕ → ℕ → ℕ → Type 0
+HalvesNear ports bytes start half =
     (c : Class) → Of ports c → Near 1 (cells c ports (runOf ports start half bytes)) (cells c ports (runOf ports (start + half) half bytes))
 
 -- The block of twice half slots from slot start on is the largest that is not so, and of those the earliest.
-pub record FirstUneven (ports slots : ℕ) (bytes : List ℕ) (start half : ℕ) : Type 0 where
+pub record FirstUnbalanced (ports slots : ℕ) (bytes : List ℕ) (start half : ℕ) : Type 0 where
   pub block : Block slots start (2 * half)
-  pub uneven : Even ports bytes start half → ⊥
-  pub larger : (a h : ℕ) → half < h → Block slots a (2 * h) → Even ports bytes a h
-  pub earlier : (a : ℕ) → a < start → Block slots a (2 * half) → Even ports bytes a half
+  pub unbalanced : HalvesNear ports bytes start half → ⊥
+  pub larger : (a h : ℕ) → half < h → Block slots a (2 * h) → HalvesNear ports bytes a h
+  pub earlier : (a : ℕ) → a < start → Block slots a (2 * half) → HalvesNear ports bytes a half
 
 -- No byte is above ports, no slot uses an output twice, each pair is in its count of slots: place by place.
 abbrev pub ByteLow : ℕ → List ℕ → ℕ → ℕ → Type 0
@@ -132,7 +130,7 @@ pub data Finds (ports slots : ℕ) (m bytes : List ℕ) : List ℕ → Type 0 wh
       → Finds ports slots m bytes (102 ∷ suc s ∷ suc o ∷ [])
   pair-103 : {i o : ℕ} → Throughout slots ports (ByteLow ports bytes) → Throughout slots ports (OutputOnce ports bytes)
       → FirstWrong ports ports (CountRight ports m bytes) i o → Finds ports slots m bytes (103 ∷ suc i ∷ suc o ∷ [])
-  block-104 : {start half : ℕ} → Legal ports slots m bytes → FirstUneven ports slots bytes start half
+  block-104 : {start half : ℕ} → Legal ports slots m bytes → FirstUnbalanced ports slots bytes start half
       → Finds ports slots m bytes (104 ∷ suc start ∷ 2 * half ∷ [])
   clean-0 : Legal ports slots m bytes → Balanced ports slots bytes → Finds ports slots m bytes (0 ∷ [])
 
@@ -201,7 +199,7 @@ pub data Reads : List ℕ → Asked → Type 0 where
   from-3 : {given : Asked} (ports slots : ℕ) (rest : List ℕ) → Within 1 16 ports → Power slots
       → ReadsPairs ports slots 3 [] (replicate (ports * ports) 0) rest given → Reads (portsLine ports ++ (slotsLine slots ++ rest)) given
 
--- 10 before all else; then what the lines are refused for; 5 and 6 last; or the frame.
+-- 10 before all else; then what the lines are refused for; 5 and 6 last; or the frame that meets the rules.
 pub data Responds (bytes : List ℕ) : List ℕ → Type 0 where
   sheet-10 : 16384 < length bytes → Responds bytes (text "(refused 10)\n")
   lines-refused : {r : List ℕ} → length bytes ≤ 16384 → Reads bytes (asked.refused r) → Responds bytes (printRefusal r)
@@ -210,7 +208,7 @@ pub data Responds (bytes : List ℕ) : List ℕ → Type 0 where
   output-6 : {ports slots : ℕ} {m : List ℕ} → length bytes ≤ 16384 → Reads bytes (loads ports slots m) → Light input ports slots m
       → (x : ℕ) → Over output ports slots m x → Responds bytes (printRefusal (6 ∷ suc x ∷ load (output x) ports m ∷ []))
   frame : {ports slots : ℕ} {m : List ℕ} → length bytes ≤ 16384 → Reads bytes (loads ports slots m) → Fits ports slots m
-      → Responds bytes (printFrame ports slots (frameOf ports (levels slots) m))
+      → (p : Power slots) (laid : List ℕ) → Scheduled ports (p .k) m laid → Responds bytes (printFrame ports slots laid)
 
 -- ---- what is shown
 -- Of each call: its definition's answer is that of a case, and what any case says is that answer.

@@ -11,8 +11,8 @@ use Rattle.model.specs.Words.{Every}
 use Rattle.model.specs.Loads.{Class, Of}
 use Rattle.model.specs.Frames.{Legal, Balanced}
 use Rattle.model.specs.Refusals.{Check, report}
-use Rattle.model.specs.Inspect.{byteTooLarge, outputTwice, pairCount, unbalancedBlock, inspected}
 use Rattle.model.specs.Build.{buildAccepts, left}
+use Rattle.model.specs.Inspect.{byteTooLarge, outputTwice, pairCount, unbalancedBlock, inspected}
 use Rattle.model.specs.Wire.{Carried, share, Shape, Accurate}
 use Rattle.model.specs.Queue.{HeldOn}
 use Rattle.model.proofs.Cases.{byBool}

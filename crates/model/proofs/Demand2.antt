@@ -8,14 +8,16 @@ use native.Mathlib.Omega.{arith}
 use lib.ListN.{length, getD}
 use borrow.Author.Tests.{not-true}
 use Rattle.model.specs.Loads.{input, output, load, Fits}
-use Rattle.model.specs.Refusals.{Check, report, clear, accepted, bad-ports, bad-slots, bad-matrix, bad-frame, overload, levels, admitted}
-use Rattle.model.specs.Build.{buildChecks, built, buildAccepts, left}
 use Rattle.model.specs.Frames.{Legal, Balanced}
+use Rattle.model.specs.Refusals.{Check, report, clear, accepted, bad-ports, bad-slots, bad-matrix, bad-frame, overload, levels, admitted}
+use Rattle.model.specs.Rules.{Scheduled}
+use Rattle.model.specs.Schedule.{frameOf}
+use Rattle.model.specs.Build.{buildChecks, built, buildAccepts, left}
 use Rattle.model.proofs.Cases.{Within, both-true}
 use Rattle.model.proofs.Levels.{Power, levels-power, power-known}
+use Rattle.model.proofs.OneFrame.{frame-is, OneFrame, one-frame}
 use Rattle.model.proofs.Reports.{report-found, report-on, report-clear, clear-none, ports-tells, slots-tells, matrix-tells, frame-tells}
 use Rattle.model.proofs.Overloads.{Light, Over, over-reported, overload-tells}
-use Rattle.model.proofs.OneFrame.{OneFrame, one-frame}
 
 -- ---- well-formed: none of the refusals before 5 holds
 pub record WellFormed (ports slots : ℕ) (m : List ℕ) : Type 0 where
@@ -24,7 +26,7 @@ pub record WellFormed (ports slots : ℕ) (m : List ℕ) : Type 0 where
   pub square : length m ≡ ports * ports
 
 -- What Admit, and Build lent a frame of the right size, answer to a well-formed load.
-pub record Answers (ports slots : ℕ) (m given : List ℕ) : Type 0 where
+pub record OverloadAnswers (ports slots : ℕ) (m given : List ℕ) : Type 0 where
   -- accepted exactly where it fits
   pub accepts : Fits ports slots m → given ≡ accepted
   pub fits : given ≡ accepted → Fits ports slots m
@@ -51,7 +53,7 @@ module _ (ports slots : ℕ) (m : List ℕ) where
   fits-clear fits =
       rw (overload-tells 5 input ports slots m .met (λ x h. fits x h .0), overload-tells 6 output ports slots m .met (λ x h. fits x h .1))
 
-  overload-answers : Answers ports slots m (report (overloads ports slots m) accepted)
+  overload-answers : OverloadAnswers ports slots m (report (overloads ports slots m) accepted)
   overload-answers =
       record {
         accepts = λ fits. report-clear (overloads ports slots m) accepted (fits-clear fits);
@@ -67,17 +69,21 @@ module _ (ports slots : ℕ) (m : List ℕ) where
           clear-fits (clear-none (overloads ports slots m) (omega arith, (omega arith, tt)) (ap (λ (l : List ℕ). getD l 0 0) e))
 
   module _ (w : WellFormed ports slots m) where
-    pub admit-answers : Answers ports slots m (admitted ports slots m)
+    pub admit-answers : OverloadAnswers ports slots m (admitted ports slots m)
     unfolding admitted
     admit-answers =
         rw (ports-tells ports .met (w .rack), slots-tells slots .met (w .power), matrix-tells ports m .met (w .square))
         overload-answers
 
-    pub build-answers : (buffer : List ℕ) → length buffer ≡ slots * ports → Answers ports slots m (built ports slots m buffer)
+    pub build-answers : (buffer : List ℕ) → length buffer ≡ slots * ports → OverloadAnswers ports slots m (built ports slots m buffer)
     unfolding buildChecks
     build-answers buffer e =
         rw (ports-tells ports .met (w .rack), slots-tells slots .met (w .power), matrix-tells ports m .met (w .square), frame-tells ports slots buffer .met e)
         overload-answers
+
+-- the rules' frame of a well-formed load that fits
+pub well-frame : (ports slots : ℕ) (m : List ℕ) (w : WellFormed ports slots m) → Fits ports slots m → Scheduled ports (w .power .k) m (frameOf ports (w .power .k) m)
+well-frame ports slots m w fits = frame-is ports (w .power .k) m (w .square) (subst (λ (n : ℕ). Fits ports n m) (w .power .is) fits)
 
 -- ---- Build
 pub record Accepts (ports slots : ℕ) (m buffer : List ℕ) : Type 0 where

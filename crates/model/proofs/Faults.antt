@@ -16,12 +16,12 @@ use Rattle.model.specs.Frames.{cells, runOf, Block, Balanced}
 use Rattle.model.specs.Refusals.{Check, levels}
 use Rattle.model.specs.Inspect.{firstPlace, tooLarge, twiceIn, usedTwice, wrongCount, unbalancedNumber, firstAt, unbalancedAt, byteTooLarge, outputTwice, pairCount, unbalancedBlock}
 use Rattle.model.proofs.Cases.{byEq, byBool, byLt}
-use Rattle.model.proofs.Levels.{Power, pow-less, levels-power, power-known, depth-size, depth-half}
 use Rattle.model.proofs.Searches.{first-found, first-before, first-is, first-none}
+use Rattle.model.proofs.Levels.{Power, pow-less, levels-power, power-known, depth-size, depth-half}
 use Rattle.model.proofs.Blocks.{number-block, block-numbered}
-use Rattle.model.proofs.Inspected.{near-yes, unbalanced-no, balanced-near}
 use Rattle.model.proofs.Reports.{Tells}
-use Rattle.model.proofs.Answers.{Throughout, FirstWrong, Even, FirstUneven, ByteLow, OutputOnce, CountRight}
+use Rattle.model.proofs.Inspected.{near-yes, unbalanced-no, balanced-near}
+use Rattle.model.proofs.Answers.{Throughout, FirstWrong, HalvesNear, FirstUnbalanced, ByteLow, OutputOnce, CountRight}
 
 -- ---- a place
 -- each position below rows × width is a place
@@ -155,11 +155,11 @@ module _ (ports slots : ℕ) (bytes : List ℕ) (p : Power slots) where
       number-block slots k power t x (2 * halfAt t) (omega arith) l
       (sym (half-twice t h) ∙ (ap (λ y. y / 2 ^ t) power ∙ depth-size k t (omega arith)))
 
-  even-test : (t x : ℕ) → Even ports bytes (x * (2 * halfAt t)) (halfAt t) → unbalancedNumber ports bytes (halfAt t) x ≡ false
+  even-test : (t x : ℕ) → HalvesNear ports bytes (x * (2 * halfAt t)) (halfAt t) → unbalancedNumber ports bytes (halfAt t) x ≡ false
   unfolding unbalancedNumber
   even-test t x e = unbalanced-no ports bytes (x * (2 * halfAt t)) (halfAt t) (λ c of. near-yes 1 _ _ (e c of))
 
-  test-even : (t x : ℕ) → unbalancedNumber ports bytes (halfAt t) x ≡ false → Even ports bytes (x * (2 * halfAt t)) (halfAt t)
+  test-even : (t x : ℕ) → unbalancedNumber ports bytes (halfAt t) x ≡ false → HalvesNear ports bytes (x * (2 * halfAt t)) (halfAt t)
   unfolding unbalancedNumber
   test-even t x e = balanced-near ports bytes (x * (2 * halfAt t)) (halfAt t) e
 
@@ -191,17 +191,17 @@ module _ (ports slots : ℕ) (bytes : List ℕ) (p : Power slots) where
         start-is = d .start ∙ ap (λ y. d .number * (2 * y)) h;
       }
 
-  placed-even : {start half : ℕ} (d : Placed start half) → unbalancedNumber ports bytes (halfAt (d .depth)) (d .number) ≡ false → Even ports bytes start half
+  placed-even : {start half : ℕ} (d : Placed start half) → unbalancedNumber ports bytes (halfAt (d .depth)) (d .number) ≡ false → HalvesNear ports bytes start half
   placed-even d e = rw (d .start-is, d .half-is) (test-even (d .depth) (d .number) e)
 
-  -- no block of a depth is uneven
-  depth-test : (t : ℕ) → ((x : ℕ) → x < 2 ^ t → Even ports bytes (x * (2 * halfAt t)) (halfAt t)) → unbalancedAt ports slots bytes t ≡ false
+  -- no block of a depth is unbalanced
+  depth-test : (t : ℕ) → ((x : ℕ) → x < 2 ^ t → HalvesNear ports bytes (x * (2 * halfAt t)) (halfAt t)) → unbalancedAt ports slots bytes t ≡ false
   unfolding unbalancedAt
   depth-test t e =
       le-ltb (firstAt ports slots bytes t) (2 ^ t)
       (let n = first-none (unbalancedNumber ports bytes (halfAt t)) (2 ^ t) 0 (λ x _ l. even-test t x (e x (omega arith))) in omega arith)
 
-  depth-even : {start half : ℕ} (d : Placed start half) → unbalancedAt ports slots bytes (d .depth) ≡ false → Even ports bytes start half
+  depth-even : {start half : ℕ} (d : Placed start half) → unbalancedAt ports slots bytes (d .depth) ≡ false → HalvesNear ports bytes start half
   unfolding unbalancedAt
   depth-even d e =
       let n = ltb-false (firstAt ports slots bytes (d .depth)) (2 ^ d .depth) e in
@@ -223,17 +223,17 @@ module _ (ports slots : ℕ) (bytes : List ℕ) (p : Power slots) where
             (let n = ltb-false (first (unbalancedAt ports slots bytes) 0 k) k e in let l = d .deep in omega arith)) c of;
       }
 
-  -- the first uneven block is reported, by its first slot's number from 1 and its size
-  module _ {start half : ℕ} (f : FirstUneven ports slots bytes start half) (d : Placed start half) where
+  -- the first unbalanced block is reported, by its first slot's number from 1 and its size
+  module _ {start half : ℕ} (f : FirstUnbalanced ports slots bytes start half) (d : Placed start half) where
     abbrev t : ℕ
     t = d .depth
 
     number-is : firstAt ports slots bytes t ≡ d .number
     number-is =
         first-is (unbalancedNumber ports bytes (halfAt t)) (2 ^ t) 0 (d .number) (omega arith) (let l = d .low in omega arith)
-        (byBool (unbalancedNumber ports bytes (halfAt t) (d .number)) (λ e. e) (λ e. absurd (f .uneven (placed-even d e))))
+        (byBool (unbalancedNumber ports bytes (halfAt t) (d .number)) (λ e. e) (λ e. absurd (f .unbalanced (placed-even d e))))
         (λ y _ l. even-test t y
-        (subst (λ (z : ℕ). Even ports bytes (y * (2 * halfAt t)) z) (d .half-is)
+        (subst (λ (z : ℕ). HalvesNear ports bytes (y * (2 * halfAt t)) z) (d .half-is)
         (f .earlier (y * (2 * halfAt t)) (sooner y (d .number) l)
         (subst (λ (z : ℕ). Block slots (y * (2 * halfAt t)) (2 * z)) (sym (d .half-is)) (at-number t y (d .deep) (let n = d .low in omega arith))))))
       where
@@ -258,17 +258,17 @@ module _ (ports slots : ℕ) (bytes : List ℕ) (p : Power slots) where
         rw (depth-is, lt-ltb t k (d .deep), number-is, half-twice t (d .deep))
         (ap₂ as-check (sym (d .start-is)) (ap (λ y. 2 * y) (sym (d .half-is))))
 
-  pub block-reported : (start half : ℕ) → FirstUneven ports slots bytes start half → unbalancedBlock ports slots bytes ≡ (true, 104 ∷ suc start ∷ 2 * half ∷ [])
+  pub block-reported : (start half : ℕ) → FirstUnbalanced ports slots bytes start half → unbalancedBlock ports slots bytes ≡ (true, 104 ∷ suc start ∷ 2 * half ∷ [])
   block-reported start half f = block-answer f (placed start half (f .block))
 
-  block-found : ltb (first (unbalancedAt ports slots bytes) 0 k) k ≡ true → (start half : ℕ) × FirstUneven ports slots bytes start half
+  block-found : ltb (first (unbalancedAt ports slots bytes) 0 k) k ≡ true → (start half : ℕ) × FirstUnbalanced ports slots bytes start half
   unfolding unbalancedAt
   block-found e = (
     b * (2 * halfAt t),
     halfAt t,
     record {
       block = at-number t b l n;
-      uneven = λ v. true≢false (sym (first-found u (2 ^ t) 0 (omega (arith, n))) ∙ even-test t b v);
+      unbalanced = λ v. true≢false (sym (first-found u (2 ^ t) 0 (omega (arith, n))) ∙ even-test t b v);
       larger = λ a h less bl.
           let d = placed a h bl in
           depth-even d (first-before (unbalancedAt ports slots bytes) k 0 (d .depth) (omega arith)
@@ -310,8 +310,8 @@ module _ (ports slots : ℕ) (bytes : List ℕ) (p : Power slots) where
           byLt t y (λ m. absurd (let z = half-deeper t y m h in omega arith))
           (λ m. byEq t y (λ w. w) (λ w. absurd (let z = half-deeper y t (omega arith) l in omega arith)))
 
-  -- one block is the first uneven one, or the frame is balanced
-  pub byBlock : {P : Type 0} → ((start half : ℕ) → FirstUneven ports slots bytes start half → P) → (Balanced ports slots bytes → P) → P
+  -- one block is the first unbalanced one, or the frame is balanced
+  pub byBlock : {P : Type 0} → ((start half : ℕ) → FirstUnbalanced ports slots bytes start half → P) → (Balanced ports slots bytes → P) → P
   byBlock off on =
       byBool (unbalancedBlock ports slots bytes .0)
       (λ e. let f = block-found e in off (f .0) (f .1) (f .2))

@@ -1,24 +1,26 @@
 -- The sheet program's response is that of its cases.
 use Prim.Native.Nat.{ℕ, suc, _+_, _-_, _*_, _≤_, _<_}
 use mathlib.Core.Path.{_≡_, sym, ap, _∙_, subst, refl}
+use mathlib.Core.Logic.{inl, inr, ⊎-elim}
 use mathlib.Core.List.{List, [], _∷_, _++_}
 use mathlib.Core.Bool.{false, true≢false}
 use native.Mathlib.Omega.{arith}
-use lib.ListN.{length, getD, set, replicate}
+use lib.ListN.{length-set, length-replicate, length, getD, set, replicate}
 use borrow.Author.Tests.{eq-eqb, not-false, ne-eqb}
 use Rattle.model.specs.Words.{within}
 use Rattle.model.specs.Loads.{output, load, input}
 use Rattle.model.specs.Refusals.{report, overload}
-use mathlib.Core.Logic.{inl, inr, ⊎-elim}
-use Rattle.model.specs.Sheet.{digits, portsLine, slotsLine, pairLine, lines, bad-port, bad-pair, Asked, loads, readPairs, readPorts, readSheet, response}
+use Rattle.model.specs.Schedule.{frameOf}
+use Rattle.model.specs.Sheet.{printFrame, digits, portsLine, slotsLine, pairLine, lines, bad-port, bad-pair, Asked, loads, readPairs, readPorts, readSheet, response}
 use Rattle.model.specs.Sheet as asked
 use Rattle.model.proofs.Cases.{from-one, byEq, byLt, Within, both-true, within-yes, within-true}
-use Rattle.model.proofs.Levels.{power-most}
+use Rattle.model.proofs.Levels.{Power, power-level, power-most}
+use Rattle.model.proofs.OneFrame.{only-frame}
 use Rattle.model.proofs.Reports.{report-found, report-on, Tells, ports-tells, slots-tells, clear-some, broken, byFact, sheet-tells}
 use Rattle.model.proofs.Overloads.{Light, Over, over-reported, overload-tells, byOver}
-use Rattle.model.proofs.Demand2.{overloads, light-fits, fits-clear}
-use Rattle.model.proofs.Sheets.{ports-yes, ports-no, byPortsLine, slots-yes, slots-no, bySlotsLine, pairs-yes, pairs-none, pairs-no, byPairLine, pair-lines, no-lines, some-lines}
+use Rattle.model.proofs.Demand2.{WellFormed, well-frame, overloads, light-fits, fits-clear}
 use Rattle.model.proofs.Answers.{Exactly, exactly, rack, refused, input-5, output-6, In, ReadsPairs, ended, form-7, port-8, pair-9, taken, Reads, line-1-7, line-1-1, line-2-7, line-2-2, from-3, Responds, sheet-10, lines-refused, frame}
+use Rattle.model.proofs.Sheets.{ports-yes, ports-no, byPortsLine, slots-yes, slots-no, bySlotsLine, pairs-yes, pairs-none, pairs-no, byPairLine, pair-lines, no-lines, some-lines}
 
 -- 8: both ports are ports of the switch
 port-tells : (n ports i o : ℕ) → Tells (bad-port n ports i o) (Within 1 ports i × Within 1 ports o)
@@ -117,6 +119,29 @@ reads-some bytes =
     Some : List ℕ → Type 0
     Some bytes = (given : Asked) × Reads bytes given
 
+-- what is read is a well-formed load
+abbrev Well : Asked → Type 0
+Well (loads ports slots m) = WellFormed ports slots m
+Well (asked.refused r) = Unit {0}
+
+pairs-well : {ports slots n : ℕ} {named m bytes : List ℕ} {given : Asked} → Within 1 16 ports → Power slots → length m ≡ ports * ports
+    → ReadsPairs ports slots n named m bytes given → Well given
+pairs-well w p e ended = record { rack = w; power = p; square = e }
+pairs-well w p e (form-7 some none) = tt
+pairs-well w p e (port-8 i o c rest a b d out) = tt
+pairs-well w p e (pair-9 i o c rest a b d twice) = tt
+pairs-well {ports} {m = m} w p e (taken i o c rest a b d new r) = pairs-well w p (length-set m (i * ports + o) c ∙ e) r
+
+asked-well : {bytes : List ℕ} {given : Asked} → Reads bytes given → Well given
+asked-well (line-1-7 none) = tt
+asked-well (line-1-1 ports rest h b) = tt
+asked-well (line-2-7 ports rest w none) = tt
+asked-well (line-2-2 ports slots rest w h b) = tt
+asked-well (from-3 ports slots rest w p r) = pairs-well w p (length-replicate (ports * ports) 0) r
+
+reads-well : {bytes : List ℕ} {ports slots : ℕ} {m : List ℕ} → Reads bytes (loads ports slots m) → WellFormed ports slots m
+reads-well r = asked-well r
+
 -- 5 and 6 come after the lines
 module _ (ports slots : ℕ) (m : List ℕ) where
   overload-asked : {n : ℕ} {values : List ℕ} → 0 < n → ((other : List ℕ) → report (overloads ports slots m) other ≡ n ∷ values)
@@ -147,14 +172,18 @@ module _ (bytes : List ℕ) where
   respond-only given (lines-refused h r) = sym (read-response h r)
   respond-only given (input-5 {ports} {slots} {m} h r x o) = sym (read-response h r ∙ ap asked.printed (input-asked ports slots m x o))
   respond-only given (output-6 {ports} {slots} {m} h r i x o) = sym (read-response h r ∙ ap asked.printed (output-asked ports slots m i x o))
-  respond-only given (frame {ports} {slots} {m} h r f) = sym (read-response h r ∙ rw (fits-clear ports slots m f))
+  respond-only given (frame {ports} {slots} {m} h r f p laid s) =
+      ap (printFrame ports slots) (only-frame ports (p .k) m laid s) ∙ sym (read-response h r ∙ rw (fits-clear ports slots m f, power-level p))
 
   respond-some : length bytes ≤ 16384 → (given : Asked) → Reads bytes given → Exactly (Responds bytes) (response bytes)
   respond-some h (asked.refused r) g = exactly respond-only (lines-refused h g)
   respond-some h (loads ports slots m) g =
       byOver 5 input ports slots m (λ x o. exactly respond-only (input-5 h g x o))
       (λ i. byOver 6 output ports slots m (λ x o. exactly respond-only (output-6 h g i x o))
-      (λ o. exactly respond-only (frame h g (light-fits ports slots m i o))))
+      (λ o.
+      let w = reads-well g in
+      let fits = light-fits ports slots m i o in
+      exactly respond-only (frame h g fits (w .power) (frameOf ports (w .power .k) m) (well-frame ports slots m w fits))))
 
   pub respond-exactly : Exactly (Responds bytes) (response bytes)
   respond-exactly =
