@@ -1,5 +1,5 @@
 -- Each call's definition answers by its cases.
-use Prim.Native.Nat.{ℕ, suc, _-_, _*_, _<_, zero}
+use Prim.Native.Nat.{ℕ, suc, _-_, _*_, _<_}
 use mathlib.Core.Path.{_≡_, sym, ap, ap₂, _∙_}
 use mathlib.Core.List.{List, [], _∷_}
 use mathlib.Core.Bool.{false}
@@ -21,12 +21,13 @@ use Rattle.model.proofs.Levels.{Power, power-level}
 use Rattle.model.proofs.OneFrame.{only-frame}
 use Rattle.model.proofs.Reports.{Tells, ports-tells, slots-tells, matrix-tells, frame-tells, clear-none, clear-some, broken, byFact, slot-tells, length-tells}
 use Rattle.model.proofs.Overloads.{byOver}
-use Rattle.model.proofs.Demand2.{well-frame, WellFormed, overloads, light-fits, admit-answers, build-answers, accepts-yes, build-keeps}
+use Rattle.model.proofs.Demand2.{WellFormed, past-load, well-frame, overloads, light-fits, admit-answers, build-answers, accepts-yes, build-keeps}
 use Rattle.model.proofs.Answers.{Exactly, exactly, RackRefused, ports-1, slots-2, LoadRefused, FrameRefused, SlotRefused, rack, matrix-3, matrix, frame-4, slot-11, SlotFound, Admits, refused, input-5, output-6, accepted, Builds, Inspects, found, Views, seen, Names, of-pair, of-input, of-output, Counts, port-12, length-13, counted, ByCases}
 use Rattle.model.proofs.Clean.{find-only, fault-means}
 use Rattle.model.proofs.Responses.{respond-exactly}
 
 -- ---- 1 to 4 and 11, which calls have in common
+-- what a case says is reported, whatever conditions come after
 module _ (ports slots : ℕ) (cs : List Check) (asked : List ℕ) where
   rack-reported : {n : ℕ} → RackRefused ports slots n → report (bad-ports ports ∷ bad-slots slots ∷ cs) asked ≡ n ∷ []
   rack-reported (ports-1 b) = rw (broken (ports-tells ports) b)
@@ -41,8 +42,7 @@ module _ (ports slots : ℕ) (m : List ℕ) (cs : List Check) (asked : List ℕ)
   frame-reported : (bytes : List ℕ) {n : ℕ} → FrameRefused ports slots m bytes n
       → report (bad-ports ports ∷ bad-slots slots ∷ bad-matrix ports m ∷ bad-frame ports slots bytes ∷ cs) asked ≡ n ∷ []
   frame-reported bytes (matrix r) = load-reported ports slots m (bad-frame ports slots bytes ∷ cs) asked r
-  frame-reported bytes (frame-4 w b) =
-      rw (ports-tells ports .met (w .rack), slots-tells slots .met (w .power), matrix-tells ports m .met (w .square), broken (frame-tells ports slots bytes) b)
+  frame-reported bytes (frame-4 w b) = past-load ports slots m w (bad-frame ports slots bytes ∷ cs) asked ∙ rw (broken (frame-tells ports slots bytes) b)
 
 -- each number is above 0
 rack-low : {ports slots n : ℕ} → RackRefused ports slots n → 0 < n
@@ -60,6 +60,7 @@ slot-low (frame-4 p s b) = omega arith
 slot-low (slot-11 p s e b) = omega arith
 
 module _ (ports slots : ℕ) (bytes : List ℕ) (slot : ℕ) where
+  -- 1, 2, 4, 11, and what comes after
   abbrev slotChecks : List Check → List Check
   slotChecks cs = bad-ports ports ∷ bad-slots slots ∷ bad-frame ports slots bytes ∷ bad-slot slots slot ∷ cs
 
@@ -69,6 +70,7 @@ module _ (ports slots : ℕ) (bytes : List ℕ) (slot : ℕ) where
   slot-reported cs asked (slot-11 p s f b) =
       rw (ports-tells ports .met p, slots-tells slots .met s, frame-tells ports slots bytes .met f, broken (slot-tells slots slot) b)
 
+  -- none of 1, 2, 4 and 11 holds where the slot is found
   slot-clear : {s : ℕ} → SlotFound ports slots bytes slot s → (cs : List Check) (asked : List ℕ) → report (slotChecks cs) asked ≡ report cs asked
   slot-clear f cs asked =
       rw (
@@ -105,6 +107,7 @@ bySlot ports slots bytes slot off on =
 
 -- ---- Admit
 module _ (ports slots : ℕ) (m : List ℕ) where
+  -- what a case says is Admit's answer
   admit-only : (given : List ℕ) → Admits ports slots m given → given ≡ admitted ports slots m
   unfolding admitted
   admit-only given (refused r) = sym (load-reported ports slots m (overloads ports slots m) (0 ∷ []) r)
@@ -132,6 +135,7 @@ module _ (ports slots : ℕ) (m buffer : List ℕ) where
       (sym (build-keeps ports slots m buffer
       (clear-some (buildChecks ports slots m buffer) (λ z. let y = ap (λ (l : List ℕ). getD l 0 0) e in omega arith))))
 
+  -- what a case says is Build's answer and what it leaves
   build-only : (given : List ℕ × List ℕ) → Builds ports slots m buffer given → given ≡ build
   unfolding buildChecks
   build-only given (refused r) = kept (frame-low r) (frame-reported ports slots m (overloads ports slots m) (0 ∷ []) buffer r)
@@ -151,9 +155,11 @@ module _ (ports slots : ℕ) (m buffer : List ℕ) where
 
 -- ---- Inspect
 module _ (ports slots : ℕ) (m bytes : List ℕ) where
+  -- the faults in their order
   abbrev faults : List Check
   faults = byteTooLarge ports slots bytes ∷ outputTwice ports slots bytes ∷ pairCount ports m bytes ∷ unbalancedBlock ports slots bytes ∷ []
 
+  -- what a case says is Inspect's answer
   inspect-only : (given : List ℕ) → Inspects ports slots m bytes given → given ≡ inspected ports slots m bytes
   unfolding inspected
   inspect-only given (refused r) = sym (frame-reported ports slots m faults (0 ∷ []) bytes r)
@@ -170,6 +176,7 @@ module _ (ports slots : ℕ) (bytes : List ℕ) (slot : ℕ) where
   abbrev pub view : ℕ × ℕ × ℕ × List ℕ
   view = (viewNumber ports slots bytes slot, viewStart ports slots bytes slot, viewSize ports slots bytes slot, viewed ports slots bytes slot)
 
+  -- what a case says is what is viewed
   view-only : (given : ℕ × ℕ × ℕ × List ℕ) → Views ports slots bytes slot given → given ≡ view
   unfolding viewChecks
   view-only given (refused r) =
@@ -208,12 +215,15 @@ who-tells ports who = record { met = λ n. met-of who (n .0) (n .1); known = kno
     known-of (Output o) e = from-one (λ o. (c : Class) × Names ports (Output o) c) ports o (within-true 1 ports o (not-false _ e)) (λ x l. (output x, of-output l))
 
 module _ (ports slots : ℕ) (bytes : List ℕ) (who : Who) (start len : ℕ) where
+  -- 12, then 13
   abbrev lastChecks : List Check
   lastChecks = bad-who ports who ∷ bad-length len ∷ []
 
+  -- the count that is asked for
   abbrev count : List ℕ
   count = 0 ∷ cells (classOf who) ports (repeated ports slots bytes (start - 1) len) ∷ []
 
+  -- what a case says is Service count's answer
   count-only : (given : List ℕ) → Counts ports slots bytes who start len given → given ≡ service ports slots bytes who start len
   unfolding service
   count-only given (refused r) = sym (slot-reported ports slots bytes start lastChecks count r)
@@ -234,6 +244,7 @@ module _ (ports slots : ℕ) (bytes : List ℕ) (who : Who) (start len : ℕ) wh
       (λ l. exactly count-only (counted f (n .1) l))))
 
 -- ---- all of them
+-- Every call and the sheet program answer by their cases.
 pub by-cases : ByCases
 by-cases =
     record {

@@ -17,10 +17,10 @@ use Rattle.model.specs.Wire.{Carried, share, Shape, Accurate}
 use Rattle.model.specs.Queue.{HeldOn}
 use Rattle.model.proofs.Cases.{byBool}
 use Rattle.model.proofs.Reports.{report-found, report-on, ports-tells, slots-tells, matrix-tells, frame-tells}
-use Rattle.model.proofs.Demand2.{WellFormed, accepts-is, build-sound}
+use Rattle.model.proofs.Demand2.{WellFormed, past-frame, accepts-is, build-sound}
 use Rattle.model.proofs.Demand3.{Sound, sound-accurate}
 use Rattle.model.proofs.Queues.{sound-held}
-use Rattle.model.proofs.Answers.{rack, matrix, Throughout, ByteLow, OutputOnce, CountRight, Finds, byte-101, output-102, pair-103, block-104, clean-0, found}
+use Rattle.model.proofs.Answers.{Throughout, ByteLow, OutputOnce, CountRight, Finds, byte-101, output-102, pair-103, block-104, clean-0}
 use Rattle.model.proofs.Faults.{bytes-search, outputs-search, counts-search, block-tells, block-reported, byBlock, place-of}
 
 -- ---- a frame of the right size
@@ -38,10 +38,11 @@ module _ (ports slots : ℕ) (m bytes : List ℕ) (w : WellFormed ports slots m)
         once = b;
       }
 
+  -- a legal frame has no byte above ports
   legal-bytes : Legal ports slots m bytes → Throughout slots ports (ByteLow ports bytes)
   legal-bytes l s i a b = l .most (s * ports + i) (omega (arith, digits-lt {q = s} {m = slots} {r = i} {c = ports} a b))
 
-  -- the four checks, and what is reported of them
+  -- the four checks, of which the first that holds is reported
   abbrev one : Check
   one = byteTooLarge ports slots bytes
 
@@ -54,10 +55,10 @@ module _ (ports slots : ℕ) (m bytes : List ℕ) (w : WellFormed ports slots m)
   abbrev four : Check
   four = unbalancedBlock ports slots bytes
 
+  -- 1 to 4 are past, and then each fault where nothing of it is found
   inspected-is : inspected ports slots m bytes ≡ report (one ∷ two ∷ three ∷ four ∷ []) (0 ∷ [])
   unfolding inspected
-  inspected-is =
-      rw (ports-tells ports .met (w .rack), slots-tells slots .met (w .power), matrix-tells ports m .met (w .square), frame-tells ports slots bytes .met size)
+  inspected-is = past-frame ports slots m w bytes size (one ∷ two ∷ three ∷ four ∷ []) (0 ∷ [])
 
   past-one : Throughout slots ports (ByteLow ports bytes) → inspected ports slots m bytes ≡ report (two ∷ three ∷ four ∷ []) (0 ∷ [])
   past-one a = inspected-is ∙ report-on one (two ∷ three ∷ four ∷ []) (0 ∷ []) (bytes-search ports slots bytes .tells .met a)

@@ -35,6 +35,7 @@ pub record OverloadAnswers (ports slots : ℕ) (m given : List ℕ) : Type 0 whe
   -- 6, where no input is, with the lowest output that is asked for more, and its load
   pub output-over : Light input ports slots m → (x : ℕ) → Over output ports slots m x → given ≡ 6 ∷ suc x ∷ load (output x) ports m ∷ []
 
+-- 5, then 6
 abbrev pub overloads : ℕ → ℕ → List ℕ → List Check
 overloads ports slots m = overload 5 input ports slots m ∷ overload 6 output ports slots m ∷ []
 
@@ -43,6 +44,7 @@ module _ (ports slots : ℕ) (m : List ℕ) where
   pub light-fits : Light input ports slots m → Light output ports slots m → Fits ports slots m
   light-fits i o x h = (i x h, o x h)
 
+  -- a load fits exactly where neither holds
   pub clear-fits : clear (overloads ports slots m) ≡ true → Fits ports slots m
   clear-fits e =
       let i = both-true (not (overload 5 input ports slots m .0)) (clear (overload 6 output ports slots m ∷ [])) e in
@@ -53,6 +55,7 @@ module _ (ports slots : ℕ) (m : List ℕ) where
   fits-clear fits =
       rw (overload-tells 5 input ports slots m .met (λ x h. fits x h .0), overload-tells 6 output ports slots m .met (λ x h. fits x h .1))
 
+  -- 5, then 6, answer as they should
   overload-answers : OverloadAnswers ports slots m (report (overloads ports slots m) accepted)
   overload-answers =
       record {
@@ -69,28 +72,38 @@ module _ (ports slots : ℕ) (m : List ℕ) where
           clear-fits (clear-none (overloads ports slots m) (omega arith, (omega arith, tt)) (ap (λ (l : List ℕ). getD l 0 0) e))
 
   module _ (w : WellFormed ports slots m) where
+    -- 1, 2 and 3 are past
+    pub past-load : (cs : List Check) (asked : List ℕ) → report (bad-ports ports ∷ bad-slots slots ∷ bad-matrix ports m ∷ cs) asked ≡ report cs asked
+    past-load cs asked = rw (ports-tells ports .met (w .rack), slots-tells slots .met (w .power), matrix-tells ports m .met (w .square))
+
+    -- 4 is past too where the frame has its size
+    pub past-frame : (bytes : List ℕ) → length bytes ≡ slots * ports → (cs : List Check) (asked : List ℕ)
+        → report (bad-ports ports ∷ bad-slots slots ∷ bad-matrix ports m ∷ bad-frame ports slots bytes ∷ cs) asked ≡ report cs asked
+    past-frame bytes e cs asked =
+        past-load (bad-frame ports slots bytes ∷ cs) asked ∙ report-on (bad-frame ports slots bytes) cs asked (frame-tells ports slots bytes .met e)
+
+    -- Admit's answer
     pub admit-answers : OverloadAnswers ports slots m (admitted ports slots m)
     unfolding admitted
-    admit-answers =
-        rw (ports-tells ports .met (w .rack), slots-tells slots .met (w .power), matrix-tells ports m .met (w .square))
-        overload-answers
+    admit-answers = subst (OverloadAnswers ports slots m) (sym (past-load (overloads ports slots m) accepted)) overload-answers
 
+    -- Build's answer
     pub build-answers : (buffer : List ℕ) → length buffer ≡ slots * ports → OverloadAnswers ports slots m (built ports slots m buffer)
     unfolding buildChecks
-    build-answers buffer e =
-        rw (ports-tells ports .met (w .rack), slots-tells slots .met (w .power), matrix-tells ports m .met (w .square), frame-tells ports slots buffer .met e)
-        overload-answers
+    build-answers buffer e = subst (OverloadAnswers ports slots m) (sym (past-frame buffer e (overloads ports slots m) accepted)) overload-answers
 
 -- the rules' frame of a well-formed load that fits
 pub well-frame : (ports slots : ℕ) (m : List ℕ) (w : WellFormed ports slots m) → Fits ports slots m → Scheduled ports (w .power .k) m (frameOf ports (w .power .k) m)
 well-frame ports slots m w fits = frame-is ports (w .power .k) m (w .square) (subst (λ (n : ℕ). Fits ports n m) (w .power .is) fits)
 
 -- ---- Build
+-- What Build accepts: a well-formed load that fits, and a frame of the right size.
 pub record Accepts (ports slots : ℕ) (m buffer : List ℕ) : Type 0 where
   pub well : WellFormed ports slots m
   pub size : length buffer ≡ slots * ports
   pub fits : Fits ports slots m
 
+-- it is accepted exactly there
 pub accepts-is : (ports slots : ℕ) (m buffer : List ℕ) → buildAccepts ports slots m buffer ≡ true → Accepts ports slots m buffer
 unfolding buildChecks
 accepts-is ports slots m buffer e =

@@ -81,6 +81,7 @@ broken {c} t n = byBool (c .0) (λ e. e) (λ e. absurd (n (t .known e)))
 pub byFact : {P : Type 0} {c : Check} {fact : Type 0} → Tells c fact → ((fact → ⊥) → P) → (fact → P) → P
 byFact {P} {c} t off on = byBool (c .0) (λ e. off (λ f. true≢false (sym e ∙ t .met f))) (λ e. on (t .known e))
 
+-- a range, a size, a limit
 range-tells : (low high n : ℕ) (answer : List ℕ) → Tells (not (within low high n), answer) (Within low high n)
 range-tells low high n answer =
     record {

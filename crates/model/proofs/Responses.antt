@@ -19,9 +19,10 @@ use Rattle.model.proofs.OneFrame.{only-frame}
 use Rattle.model.proofs.Reports.{report-found, report-on, Tells, ports-tells, slots-tells, clear-some, broken, byFact, sheet-tells}
 use Rattle.model.proofs.Overloads.{Light, Over, over-reported, overload-tells, byOver}
 use Rattle.model.proofs.Demand2.{WellFormed, well-frame, overloads, light-fits, fits-clear}
-use Rattle.model.proofs.Answers.{Exactly, exactly, rack, refused, input-5, output-6, In, ReadsPairs, ended, form-7, port-8, pair-9, taken, Reads, line-1-7, line-1-1, line-2-7, line-2-2, from-3, Responds, sheet-10, lines-refused, frame}
+use Rattle.model.proofs.Answers.{Exactly, exactly, input-5, output-6, In, ReadsPairs, ended, form-7, port-8, pair-9, taken, Reads, line-1-7, line-1-1, line-2-7, line-2-2, from-3, Responds, sheet-10, lines-refused, frame}
 use Rattle.model.proofs.Sheets.{ports-yes, ports-no, byPortsLine, slots-yes, slots-no, bySlotsLine, pairs-yes, pairs-none, pairs-no, byPairLine, pair-lines, no-lines, some-lines}
 
+-- ---- pair lines
 -- 8: both ports are ports of the switch
 port-tells : (n ports i o : ℕ) → Tells (bad-port n ports i o) (Within 1 ports i × Within 1 ports o)
 port-tells n ports i o =
@@ -42,14 +43,17 @@ pair-tells n p (q ∷ l) =
       known = λ e. ⊎-elim d (r .known (rw (ne-eqb p q d) at e));
     })
 
+-- a position is listed, or not
 byIn : {P : Type 0} (p : ℕ) (l : List ℕ) → (In p l → P) → ((In p l → ⊥) → P) → P
 byIn p [] on off = off (λ f. f)
 byIn p (q ∷ l) on off = byEq p q (λ d. on (inl d)) (λ d. byIn p l (λ i. on (inr i)) (λ n. off (⊎-elim d n)))
 
 module _ (ports slots : ℕ) (rack : Within 1 16 ports) where
+  -- ports of the switch are no refusal 8
   port-met : (n i o : ℕ) → i < ports → o < ports → bad-port n ports (suc i) (suc o) .0 ≡ false
   port-met n i o a b = port-tells n ports (suc i) (suc o) .met ((omega arith, a), (omega arith, b))
 
+  -- a line that names ports of the switch is 9 or taken
   line-of : (n : ℕ) (named m : List ℕ) (i o c : ℕ) (rest : List ℕ) → i < ports → o < ports → c ≤ 65535
       → readPairs ports slots n named m (lines (pairLine (suc i) (suc o) c ++ rest))
       ≡ asked.unless (bad-port n ports (suc i) (suc o) ∷ bad-pair n (i * ports + o) named ∷ [])
@@ -59,6 +63,7 @@ module _ (ports slots : ℕ) (rack : Within 1 16 ports) where
       let y : suc o - 1 ≡ o = omega arith in
       rw (x, y) at (pairs-yes ports slots n named m (suc i) (suc o) c rest (omega arith) (omega arith) d)
 
+  -- what a case says is what is read
   pairs-only : {n : ℕ} {named m bytes : List ℕ} {given : Asked} → ReadsPairs ports slots n named m bytes given → given ≡ readPairs ports slots n named m (lines bytes)
   pairs-only {n} {named} {m} ended = sym (pairs-none ports slots n named m)
   pairs-only {n} {named} {m} {bytes} (form-7 some none) = sym (pairs-no ports slots n named m bytes some none)
@@ -70,6 +75,7 @@ module _ (ports slots : ℕ) (rack : Within 1 16 ports) where
       pairs-only r
       ∙ sym (line-of n named m i o c rest a b d ∙ rw (port-met n i o a b, pair-tells n (i * ports + o) named .met new))
 
+  -- and some case holds
   pairs-some : (ls : List (List ℕ)) (n : ℕ) (named m bytes : List ℕ) → lines bytes ≡ ls → (given : Asked) × ReadsPairs ports slots n named m bytes given
   pairs-some [] n named m bytes e =
       (loads ports slots m, subst (λ (b : List ℕ). ReadsPairs ports slots n named m b (loads ports slots m)) (sym (no-lines bytes e)) ended)
@@ -89,6 +95,8 @@ module _ (ports slots : ℕ) (rack : Within 1 16 ports) where
       Some : ℕ → List ℕ → List ℕ → List ℕ → Type 0
       Some n named m bytes = (given : Asked) × ReadsPairs ports slots n named m bytes given
 
+-- ---- lines 1 and 2
+-- what a case says is what is read
 reads-only : {bytes : List ℕ} {given : Asked} → Reads bytes given → given ≡ readPorts (lines bytes)
 reads-only {bytes} (line-1-7 none) = sym (ports-no bytes none)
 reads-only (line-1-1 ports rest h b) = sym (ports-yes ports rest h ∙ rw (broken (ports-tells ports) b))
@@ -102,6 +110,7 @@ reads-only (from-3 ports slots rest w p r) =
     ∙ sym (ports-yes ports (slotsLine slots ++ rest) (omega arith)
     ∙ rw (ports-tells ports .met w) (slots-yes ports slots rest (omega (arith, power-most p)) ∙ rw (slots-tells slots .met p)))
 
+-- and some case holds
 reads-some : (bytes : List ℕ) → (given : Asked) × Reads bytes given
 reads-some bytes =
     byPortsLine bytes
@@ -142,7 +151,7 @@ asked-well (from-3 ports slots rest w p r) = pairs-well w p (length-replicate (p
 reads-well : {bytes : List ℕ} {ports slots : ℕ} {m : List ℕ} → Reads bytes (loads ports slots m) → WellFormed ports slots m
 reads-well r = asked-well r
 
--- 5 and 6 come after the lines
+-- ---- 5 and 6, after the lines
 module _ (ports slots : ℕ) (m : List ℕ) where
   overload-asked : {n : ℕ} {values : List ℕ} → 0 < n → ((other : List ℕ) → report (overloads ports slots m) other ≡ n ∷ values)
       → asked.overloads (loads ports slots m) ≡ asked.refused (n ∷ values)
@@ -162,10 +171,12 @@ module _ (ports slots : ℕ) (m : List ℕ) where
       ∙ report-found (overload 6 output ports slots m) [] other (over-reported 6 output ports slots m x o))
 
 module _ (bytes : List ℕ) where
+  -- a sheet that is not too long is answered by what is read
   read-response : {given : Asked} → length bytes ≤ 16384 → Reads bytes given → response bytes ≡ asked.printed (asked.overloads given)
   unfolding readSheet response
   read-response h r = rw (sheet-tells bytes .met h, ← (reads-only r))
 
+  -- what a case says is printed
   respond-only : (given : List ℕ) → Responds bytes given → given ≡ response bytes
   unfolding readSheet response digits
   respond-only given (sheet-10 h) = rw (broken (sheet-tells bytes) (λ l. omega arith))
@@ -175,6 +186,7 @@ module _ (bytes : List ℕ) where
   respond-only given (frame {ports} {slots} {m} h r f p laid s) =
       ap (printFrame ports slots) (only-frame ports (p .k) m laid s) ∙ sym (read-response h r ∙ rw (fits-clear ports slots m f, power-level p))
 
+  -- and some case holds
   respond-some : length bytes ≤ 16384 → (given : Asked) → Reads bytes given → Exactly (Responds bytes) (response bytes)
   respond-some h (asked.refused r) g = exactly respond-only (lines-refused h g)
   respond-some h (loads ports slots m) g =
@@ -185,6 +197,7 @@ module _ (bytes : List ℕ) where
       let fits = light-fits ports slots m i o in
       exactly respond-only (frame h g fits (w .power) (frameOf ports (w .power .k) m) (well-frame ports slots m w fits))))
 
+  -- the response is that of the cases
   pub respond-exactly : Exactly (Responds bytes) (response bytes)
   respond-exactly =
       byFact (sheet-tells bytes) (λ b. exactly respond-only (sheet-10 (byLt 16384 (length bytes) (λ l. l) (λ l. absurd (b l)))))

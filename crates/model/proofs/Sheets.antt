@@ -237,6 +237,7 @@ bad-form s l form v ls e never =
 -- a line of a form, with numbers that are not too large, or none: s begins with it or with no such line
 module _ (X : Type 0) (form : X → List ℕ) (numbers : List ℕ → X) (largest : X → ℕ) (whole : (x : X) → Whole (form x))
     (read : (x : X) → numbers (form x) ≡ x) where
+  -- the first line passes the test where s begins with one of the form
   form-holds : (s l : List ℕ) (ls : List (List ℕ)) → lines s ≡ l ∷ ls → (x : X) (t : List ℕ) → largest x ≤ 65535 → s ≡ form x ++ t
       → both (same l (form (numbers l))) (leb (largest (numbers l)) 65535) ≡ true
   unfolding Whole
@@ -248,6 +249,7 @@ module _ (X : Type 0) (form : X → List ℕ) (numbers : List ℕ → X) (larges
       both-yes (same l (form (numbers l))) (leb (largest (numbers l)) 65535)
       (subst (λ (z : List ℕ). same l z ≡ true) f (same-self l)) (ap (λ (z : X). leb (largest z) 65535) n ∙ le-leb (largest x) 65535 h)
 
+  -- a goal by cases on that
   byForm : {P : Type 0} (s : List ℕ) → ((x : X) (t : List ℕ) → largest x ≤ 65535 → s ≡ form x ++ t → P)
       → (((x : X) (t : List ℕ) → largest x ≤ 65535 → s ≡ form x ++ t → ⊥) → P) → P
   unfolding Whole
@@ -279,6 +281,7 @@ ports-no-of s (l ∷ ls) e never = rw (bad-form s l (portsLine (numberIn 0 l)) (
 pub ports-no : (s : List ℕ) → ((n : ℕ) (t : List ℕ) → n ≤ 65535 → s ≡ portsLine n ++ t → ⊥) → readPorts (lines s) ≡ refused (7 ∷ 1 ∷ [])
 ports-no s never = ports-no-of s (lines s) refl never
 
+-- a ports line comes first, or none
 pub byPortsLine : {P : Type 0} (s : List ℕ) → ((n : ℕ) (t : List ℕ) → n ≤ 65535 → s ≡ portsLine n ++ t → P)
     → (((n : ℕ) (t : List ℕ) → n ≤ 65535 → s ≡ portsLine n ++ t → ⊥) → P) → P
 byPortsLine s on off = byForm ℕ portsLine (numberIn 0) (λ n. n) ports-whole ports-number s on off
@@ -297,6 +300,7 @@ slots-no-of ports s (l ∷ ls) e never = rw (bad-form s l (slotsLine (numberIn 0
 pub slots-no : (ports : ℕ) (s : List ℕ) → ((n : ℕ) (t : List ℕ) → n ≤ 65535 → s ≡ slotsLine n ++ t → ⊥) → readSlots ports (lines s) ≡ refused (7 ∷ 2 ∷ [])
 slots-no ports s never = slots-no-of ports s (lines s) refl never
 
+-- a slots line comes first, or none
 pub bySlotsLine : {P : Type 0} (s : List ℕ) → ((n : ℕ) (t : List ℕ) → n ≤ 65535 → s ≡ slotsLine n ++ t → P)
     → (((n : ℕ) (t : List ℕ) → n ≤ 65535 → s ≡ slotsLine n ++ t → ⊥) → P) → P
 bySlotsLine s on off = byForm ℕ slotsLine (numberIn 0) (λ n. n) slots-whole slots-number s on off
@@ -340,6 +344,7 @@ module _ (ports slots number : ℕ) (named matrix : List ℕ) where
       → readPairs ports slots number named matrix (lines s) ≡ refused (7 ∷ number ∷ [])
   pairs-no s some never = pairs-no-of s (lines s) refl some never
 
+-- a pair line comes first, or none
 pub byPairLine : {P : Type 0} (s : List ℕ) → ((i o m : ℕ) (t : List ℕ) → i ≤ 65535 → o ≤ 65535 → m ≤ 65535 → s ≡ pairLine i o m ++ t → P)
     → (((i o m : ℕ) (t : List ℕ) → i ≤ 65535 → o ≤ 65535 → m ≤ 65535 → s ≡ pairLine i o m ++ t → ⊥) → P) → P
 byPairLine s on off =
@@ -353,13 +358,16 @@ byPairLine s on off =
     (λ never. off (λ i o m t a b c e. never (i, o, m) t (most-high i (most o m) 65535 a (most-high o m 65535 b c)) e))
 
 -- ---- what is left where lines are taken
+-- behind a pair line
 pub pair-lines : (i o m : ℕ) (t : List ℕ) → lines (pairLine i o m ++ t) ≡ pairLine i o m ∷ lines t
 unfolding Whole
 pair-lines i o m t = pair-whole i o m t
 
+-- where no line is left, no byte is
 pub no-lines : (s : List ℕ) → lines s ≡ [] → s ≡ []
 no-lines s e = sym (join-lines s) ∙ ap join e
 
+-- where a line is left, some byte is
 pub some-lines : (s l : List ℕ) (ls : List (List ℕ)) → lines s ≡ l ∷ ls → s ≡ [] → ⊥
 some-lines s l ls e f =
     let a : _≡_ {A = List (List ℕ)} [] (l ∷ ls) = sym lines-none ∙ (sym (ap lines f) ∙ e) in
