@@ -16,7 +16,7 @@ use Rattle.model.specs.Inspect.{byteTooLarge, outputTwice, pairCount, un
 use Rattle.model.specs.Wire.{Carried, share, Shape, Accurate}
 use Rattle.model.specs.Queue.{HeldOn}
 use Rattle.model.proofs.Cases.{byBool}
-use Rattle.model.proofs.Reports.{report-found, report-on, ports-tells, slots-tells, matrix-tells, frame-tells}
+use Rattle.model.proofs.Reports.{report-found, report-on}
 use Rattle.model.proofs.Demand2.{WellFormed, past-frame, accepts-is, build-sound}
 use Rattle.model.proofs.Demand3.{Sound, sound-accurate}
 use Rattle.model.proofs.Queues.{sound-held}
