@@ -13,7 +13,7 @@ use Rattle.model.specs.Words.{if, both, Near, upFrom, keep, sumTo, Every
 use Rattle.model.specs.Loads.{Class, pair, input, output, Of, countOf, load, Fits}
 use Rattle.model.specs.Rules.{Side, inputs, outputs, portOf, odd, oddsAt, Partners, these, later, favoursFirst, Split}
 use Rattle.model.proofs.Cases.{byBool}
-use Rattle.model.proofs.Sums.{sum-ext, sum-add, sum-zero, sum-one, sum-rows}
+use Rattle.model.proofs.Sums.{sum-ext, sum-shift, sum-add, sum-zero, sum-one, sum-rows}
 use Rattle.model.proofs.Partners.{every-map, AtPort, odds-every}
 use Rattle.model.proofs.Splits.{more, less, alike}
 
@@ -42,11 +42,6 @@ load-side outputs ports x m h =
 abbrev pub sumOver : (ℕ → ℕ) → List ℕ → ℕ
 sumOver f [] = 0
 sumOver f (p ∷ l) = f p + sumOver f l
-
-sum-shift : (n : ℕ) (f : ℕ → ℕ) → sumTo (suc n) f ≡ f 0 + sumTo n (λ p. f (suc p))
-unfolding sumTo
-sum-shift zero f = omega arith
-sum-shift (suc n) f = let r = sum-shift n f in omega arith
 
 keep-sum : (t : ℕ → Bool) (f : ℕ → ℕ) (a n : ℕ) → sumOver f (keep t (upFrom a n)) ≡ sumTo n (λ p. if (t (a + p)) (f (a + p)) 0)
 keep-sum t f a zero = sym (sum-zero 0 (λ p. if (t (a + p)) (f (a + p)) 0) (λ p h. absurd (omega arith)))

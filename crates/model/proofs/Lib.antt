@@ -29,4 +29,5 @@ pub mod Clean
 pub mod Sheets
 pub mod Responses
 pub mod Answered
+pub mod Lengths
 pub mod Bench

@@ -62,9 +62,13 @@ digits-most (suc k) (suc f) n h =
     let e = pow-suc 10 (suc k) in
     rw (digits-go f n g, length-append (digits f (n / 10)) ((48 + n % 10) ∷ [])) (omega (arith, digits-most k f (n / 10) (omega arith))))
 
+-- a number below 10 ^ d has no more than d digits, d not 0
+pub decimal-short : (k n : ℕ) → n < 10 ^ suc k → length (decimal n) ≤ suc k
+decimal-short k n h = digits-most k (suc n) n h
+
 -- a number of 64 bits has no more than 20 digits
 pub decimal-most : (n : ℕ) → n < 2 ^ 64 → length (decimal n) ≤ 20
-decimal-most n h = digits-most 19 (suc n) n (omega arith)
+decimal-most n h = decimal-short 19 n (omega arith)
 
 -- what the first digit is, and that it is no 0 where the number is none
 pub record Lead (n h : ℕ) : Type 0 where
@@ -139,6 +143,17 @@ join-lines [] = rw lines-none
 join-lines (b ∷ s) =
     byBool (eqb b 10) (λ e. rw (lines-end b s e) (ap (λ l. b ∷ l) (join-lines s)))
     (λ e. rw (lines-go b s e) (join-first b (lines s) ∙ ap (λ l. b ∷ l) (join-lines s)))
+
+lines-first : (b : ℕ) (ls : List (List ℕ)) → length (onFirst b ls) ≤ suc (length ls)
+lines-first b [] = omega arith
+lines-first b (l ∷ ls) = omega arith
+
+-- a sheet has no more lines than bytes
+pub lines-most : (s : List ℕ) → length (lines s) ≤ length s
+lines-most [] = rw lines-none (omega arith)
+lines-most (b ∷ s) =
+    let r = lines-most s in
+    byBool (eqb b 10) (λ e. rw (lines-end b s e) (omega arith)) (λ e. rw (lines-go b s e) (omega (arith, lines-first b (lines s))))
 
 -- no byte 10
 abbrev plain : List ℕ → Bool
@@ -306,7 +321,8 @@ pub bySlotsLine : {P : Type 0} (s : List ℕ) → ((n : ℕ) (t : List ℕ) → 
 bySlotsLine s on off = byForm ℕ slotsLine (numberIn 0) (λ n. n) slots-whole slots-number s on off
 
 -- ---- a pair line
-most-low : (a b n : ℕ) → most a b ≤ n → (a ≤ n) × (b ≤ n)
+-- what is at most n where the most of two is
+pub most-low : (a b n : ℕ) → most a b ≤ n → (a ≤ n) × (b ≤ n)
 most-low a b n =
     byBool (leb a b) (λ e. rw e (λ h. (let z = leb-true a b e in omega arith, h)))
     (λ e. rw e (λ h. (h, let z = leb-false a b e in omega arith)))

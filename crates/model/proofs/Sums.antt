@@ -20,6 +20,12 @@ unfolding sumTo
 sum-ext zero f g h = refl
 sum-ext (suc n) f g h = ap₂ _+_ (sum-ext n f g (λ t l. h t (omega arith))) (h n (omega arith))
 
+-- the first term apart
+pub sum-shift : (n : ℕ) (f : ℕ → ℕ) → sumTo (suc n) f ≡ f 0 + sumTo n (λ p. f (suc p))
+unfolding sumTo
+sum-shift zero f = omega arith
+sum-shift (suc n) f = let r = sum-shift n f in omega arith
+
 pub sum-append : (a b : ℕ) (f : ℕ → ℕ) → sumTo (a + b) f ≡ sumTo a f + sumTo b (λ t. f (a + t))
 unfolding sumTo
 sum-append a zero f = rw add-zero (omega arith)
@@ -34,6 +40,12 @@ pub sum-le : (n : ℕ) (f g : ℕ → ℕ) → ((t : ℕ) → t < n → f t ≤ 
 unfolding sumTo
 sum-le zero f g h = omega arith
 sum-le (suc n) f g h = omega (arith, sum-le n f g (λ t l. h t (omega arith)), h n (omega arith))
+
+-- a sum of terms that are at most m
+pub sum-most : (n m : ℕ) (f : ℕ → ℕ) → ((t : ℕ) → t < n → f t ≤ m) → sumTo n f ≤ n * m
+unfolding sumTo
+sum-most zero m f h = omega arith
+sum-most (suc n) m f h = omega (arith, sum-most n m f (λ t l. h t (omega arith)), h n (omega arith))
 
 pub sum-zero : (n : ℕ) (f : ℕ → ℕ) → ((t : ℕ) → t < n → f t ≡ 0) → sumTo n f ≡ 0
 unfolding sumTo
