@@ -1,9 +1,11 @@
 // The sheet program: a reservation sheet on standard input, the frame or one refusal on standard output.
+ghost use Prim.Native.Nat.{_<_};
+ghost use lib.ListN.{length};
 ghost use Rattle.io.specs.Counts.{Counts};
-use libc::STDERR_FILENO;
 use libc::STDIN_FILENO;
 use libc::STDOUT_FILENO;
-use sheet::Response;
+use sheet::RESPONSE_MOST;
+use sheet::SHEET_MOST;
 
 // Reads once: 0 where the input ends or the read fails, and which of the two goes to the lent flag.
 fn read_some(part: &mut [u8], failed: &mut bool) -> usize
@@ -42,37 +44,31 @@ fn skip_rest(failed: &mut bool) {
     }
 }
 
-// Prints the first n bytes of a buffer, and answers whether all were written.
-fn print(out: &[u8], n: usize) -> bool {
-    if n <= out.len() {
-        return io::write_all(STDOUT_FILENO, &out[..n]);
+// Reads a sheet to its end, and answers how many bytes of it are in the buffer: a sheet that fills it is too long.
+fn take_sheet(buffer: &mut [u8], failed: &mut bool) -> usize
+    requires { ⌜ 16384 < length (now buffer) ⌝ }
+    ensures { λ r. ⌜ Counts r (now (buffer .exit)) ⌝ }
+{
+    let n = fill(buffer, failed);
+    if n == buffer.len() {
+        skip_rest(failed);
     }
-    false
+    n
 }
 
-// Prints the response; the buffer holds that of a full frame of 16 × 1,024.
+// Prints the response to a sheet.
 fn answer(sheet: &[u8]) {
-    let mut out = [0u8; 147456];
-    let response = sheet::respond(sheet, &mut out);
-    match response {
-        Response::Written(n) => {
-            if !print(&out, n) {
-                os::fail(b"standard output");
-            }
-        }
-        Response::TooSmall(_) => {
-            io::write_all(STDERR_FILENO, b"the response is longer than any frame's\n");
-        }
+    let mut out = [0u8; RESPONSE_MOST];
+    let n = sheet::respond_whole(sheet, &mut out);
+    if !io::write_all(STDOUT_FILENO, &out[..n]) {
+        os::fail(b"standard output");
     }
 }
 
 fn main() {
-    let mut bytes = [0u8; 16385];
+    let mut bytes = [0u8; SHEET_MOST + 1];
     let mut failed = false;
-    let n = fill(&mut bytes, &mut failed);
-    if n == 16385 {
-        skip_rest(&mut failed);
-    }
+    let n = take_sheet(&mut bytes, &mut failed);
     if failed {
         os::fail(b"standard input");
         return;

@@ -26,11 +26,12 @@ use Rattle.model.specs.declared.Answer.{Answer}
 use Rattle.model.specs.declared.Answer.the-variants as answers
 use Rattle.model.proofs.Cases.{byBool, within-yes}
 use Rattle.model.proofs.Reports.{Refuses, clear-none, clear-some, slots-known}
+use Rattle.model.proofs.Lengths.{response-most}
 use Rattle.reading.proofs.Reading.{the-type}
 use Rattle.reading.specs.Reading.{LoadsRead, SheetOf}
 use Rattle.printing.specs.Printing.{Printed, Sized, frameBytes}
 use Rattle.printing.proofs.Prints.{frame-bytes}
-use Rattle.sheet.specs.Response.{Readable, bytesOf, Lies, Printable, Answered, responded, holding}
+use Rattle.sheet.specs.Response.{Readable, bytesOf, Lies, Printable, Answered, responded, holding, Whole}
 use Rattle.reading.specs.declared.Reading.{Reading}
 use Rattle.reading.specs.declared.Reading.the-variants.{Ports, Slots, Pair, Loads, Refused}
 use Rattle.sheet.specs.declared.Response as declared
@@ -207,11 +208,27 @@ module _ (s frame : List ℕ) (r : Reading) (x : Answered (readSheet s) frame r)
       let e = lt-ltb (length out) (length (response s)) (let c = counted in omega arith) in
       (rw (e, counted), rw e)
 
+  response-in : (out filled : List ℕ) (m : ℕ) → n ≤ length out → Printed out 0 (bytesOf r frame) filled m → filled ≡ response s ++ drop (length (response s)) out
+  response-in out filled m h z =
+      z .is ∙ (ap (sets out 0) (sym response-is) ∙ (sets-eq (response s) out 0 (let c = counted in omega arith)
+      ∙ ap (λ k. response s ++ drop k out) (let k : 0 + length (response s) ≡ length (response s) = omega arith in k)))
+
   pub written : (out filled : List ℕ) (m : ℕ) → n ≤ length out → Printed out 0 (bytesOf r frame) filled m
       → (Written n ≡ responded (response s) out) × (filled ≡ holding (response s) out)
   written out filled m h z =
-      let e = le-ltb (length out) (length (response s)) (let c = counted in omega arith) in (
-        rw (e, counted),
-        rw e (z .is ∙ (ap (sets out 0) (sym response-is) ∙ (sets-eq (response s) out 0 (let c = counted in omega arith)
-            ∙ ap (λ k. response s ++ drop k out) (let k : 0 + length (response s) ≡ length (response s) = omega arith in k)))),
-      )
+      let e = le-ltb (length out) (length (response s)) (let c = counted in omega arith) in
+      (rw (e, counted), rw e (response-in out filled m h z))
+
+  -- a buffer of 123,853 bytes holds any response
+  pub whole : 123853 ≤ length one → Whole (response s) one new n
+  whole h =
+      let c = counted in
+      let l = response-most s in
+      record { size = c; most = omega arith; is = response-in one new n (omega arith) y ∙ ap (λ k. response s ++ drop k one) (sym c) }
+
+-- the whole response lies in its buffer
+pub whole-inside : {bytes out new : List ℕ} {r : ℕ} → Whole bytes out new r → r ≤ length new
+whole-inside {bytes} {out} {new} {r} x =
+    let a = x .size in
+    let e = ap length (x .is) ∙ length-append bytes (drop r out) in
+    omega arith

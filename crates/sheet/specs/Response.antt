@@ -53,3 +53,10 @@ responded bytes out = if (ltb (length out) (length bytes)) (TooSmall (length byt
 
 abbrev pub holding : List ℕ → List ℕ → List ℕ
 holding bytes out = if (ltb (length out) (length bytes)) out (bytes ++ drop (length bytes) out)
+
+-- The whole response stands at the front of a buffer, before the bytes that stood behind it; no response is longer than
+-- 123,853 bytes.
+pub record Whole (bytes out new : List ℕ) (r : ℕ) : Type 0 where
+  pub size : r ≡ length bytes
+  pub most : r ≤ 123853
+  pub is : new ≡ bytes ++ drop r out

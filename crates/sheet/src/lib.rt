@@ -4,13 +4,18 @@ ghost use Prim.Native.Nat.{_*_};
 ghost use lib.ListN.{length, take};
 ghost use Rattle.model.specs.Sheet.{loads, overloads, readSheet, response};
 ghost use Rattle.printing.specs.Printing.{Printed};
-ghost use Rattle.sheet.specs.Response.{Readable, bytesOf, Printable, Answered, responded, holding};
+ghost use Rattle.sheet.specs.Response.{Readable, bytesOf, Printable, Answered, responded, holding, Whole};
 use model::Answer;
 use model::Refusal;
 use printing::put_frame;
 use printing::put_refusal;
 use reading::Reading;
 use reading::read_lines;
+
+// The longest sheet that is read, and the longest response to any sheet, in bytes.
+pub const SHEET_MOST: usize = 16384;
+
+pub const RESPONSE_MOST: usize = 123853;
 
 // How many bytes the response has: they are written, or the buffer is too small for them.
 pub enum Response {
@@ -37,7 +42,7 @@ fn read_sheet(sheet: &[u8], frame: &mut [u8]) -> Reading
     requires { ⌜ length (now frame) ≡ 16384 ⌝ }
     ensures { λ r. ⌜ Answered (readSheet (now (sheet .entry))) (now (frame .exit)) r ⌝ }
 {
-    if 16384 < sheet.len() {
+    if SHEET_MOST < sheet.len() {
         return Reading::Refused(Refusal::SheetLength);
     }
     let mut matrix = [0u16; 256];
@@ -77,4 +82,13 @@ pub fn respond(sheet: &[u8], out: &mut [u8]) -> Response
     }
     put_answer(out, answer, &frame);
     Response::Written(length)
+}
+
+// The response to a sheet, written to the front of a buffer that holds any response.
+pub fn respond_whole(sheet: &[u8], out: &mut [u8; RESPONSE_MOST]) -> usize
+    ensures { λ r. ⌜ Whole (response (now (sheet .entry))) (now (out .entry)) (now (out .exit)) r ⌝ }
+{
+    let mut frame = [0u8; 16384];
+    let answer = read_sheet(sheet, &mut frame);
+    put_answer(out, answer, &frame)
 }

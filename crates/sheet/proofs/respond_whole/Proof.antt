@@ -1,0 +1,15 @@
+use Rattle.sheet.proofs.Responses.{whole}
+use borrow.Author.Needs.{needs}
+use native.Mathlib.Omega.{arith}
+use Rattle.sheet.proofs.respond_whole.Statement.{statement}
+use Rattle.sheet.proofs.respond_whole.Tie as tie
+
+pub respond-whole-spec : {M : Type 1} → statement M
+respond-whole-spec =
+    tie.close
+    (tie.spec
+    (λ c. search needs)
+    (λ c κs. search needs)
+    (λ c. search needs)
+    (λ c κs. search needs)
+    (λ c. whole _ _ _ (c .before .before .before .before .read-sheet .ensures) _ _ _ (c .put-answer .ensures) (omega (arith, c .before .before .put-answer-arg .given .0 .1))))
