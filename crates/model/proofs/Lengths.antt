@@ -18,13 +18,12 @@ use Rattle.model.specs.Sheet.{text, decimal, portsLine, slotsLine, pairL
 use Rattle.model.proofs.Cases.{byBool, byEq, byLt, both-true, within-true}
 use Rattle.model.proofs.Sums.{sum-shift, sum-le, sum-most, sum-zero, sum-has, sum-swap}
 use Rattle.model.proofs.Searches.{first-high}
-use Rattle.model.proofs.Levels.{levels-power}
+use Rattle.model.proofs.Levels.{levels-power, known-power, power-known, power-most}
 use Rattle.model.proofs.Settled.{zero-at}
 use Rattle.model.proofs.Splits.{is-yes, is-no}
 use Rattle.model.proofs.Cells.{cells-slot, run-length}
 use Rattle.model.proofs.OneFrame.{one-frame}
 use Rattle.model.proofs.Demand2.{WellFormed, clear-fits}
-use Rattle.model.proofs.Reports.{slots-known}
 use Rattle.model.proofs.Sheets.{decimal-short, lines-most, most-low}
 
 -- ---- numbers
@@ -230,7 +229,7 @@ pairs-read ports slots number named matrix (line ∷ ls) h x =
     let d = most-low o m 65535 (c .1) in
     let w = x .well in
     pairs-read ports slots (suc number) (p ∷ named) (set matrix p m) ls (omega arith)
-    (record { well = record { low = w .low; high = w .high; power = w .power; square = length-set matrix p m ∙ w .square }; low = set-low matrix p m (d .1) (x .low) }))
+    (record { well = record { rack = w .rack; power = w .power; square = length-set matrix p m ∙ w .square }; low = set-low matrix p m (d .1) (x .low) }))
 
 -- line 2 and what follows are read so, or refused
 slots-read : (ports : ℕ) (ls : List (List ℕ)) → 1 ≤ ports → ports ≤ 16 → length ls ≤ 16383 → Asks Read (readSlots ports ls)
@@ -244,7 +243,7 @@ slots-read ports (line ∷ ls) a b h =
     let d = both-true (not (eqb (levels slots) 11)) true (c .1) in
     pairs-read ports slots 3 [] (replicate (ports * ports) 0) ls (omega arith)
     (record {
-      well = record { low = a; high = b; power = eqb-false (levels slots) 11 (not-true _ (d .0)); square = length-replicate (ports * ports) 0 };
+      well = record { rack = (a, b); power = known-power slots (eqb-false (levels slots) 11 (not-true _ (d .0))); square = length-replicate (ports * ports) 0 };
       low = λ p. omega (arith, zero-at (ports * ports) p);
     }))
 
@@ -267,7 +266,7 @@ load-most : (kind : ℕ → Class) (ports slots : ℕ) (matrix : List ℕ) → R
     → (number : ℕ) → number < 10 → Short (overload number kind ports slots matrix .1)
 load-most kind ports slots matrix x most number h =
     let f = first-high (λ x. ltb slots (load (kind x) ports matrix)) ports 0 in
-    let w = x .well in
+    let w = x .well .rack in
     (omega arith, (omega arith, (omega (arith, most (overloaded kind ports slots matrix)), tt)))
 
 -- loads that are accepted
@@ -289,11 +288,10 @@ loads-fit (loads ports slots matrix) x =
 printed-most : (asked : Asked) → Asks Fitting asked → length (printed asked) ≤ 123853
 printed-most (refused r) s = refusal-most r s
 printed-most (loads ports slots matrix) (w, f) =
-    let p = levels-power slots (w .power) in
-    let k = slots-known {slots = slots} {r = false} (sym (ne-eqb (levels slots) 11 (w .power))) refl in
+    let p = levels-power slots (power-known (w .power)) in
     let l = one-frame ports (levels slots) matrix (w .square) (subst (λ (n : ℕ). Fits ports n matrix) p f) .legal in
     let frame = frameOf ports (levels slots) matrix in
-    frame-most ports slots matrix frame (subst (λ (n : ℕ). Legal ports n matrix frame) (sym p) l) (w .high) (k .1)
+    frame-most ports slots matrix frame (subst (λ (n : ℕ). Legal ports n matrix frame) (sym p) l) (w .rack .1) (power-most (w .power))
 
 -- No response is longer than 123,853 bytes, whatever the sheet.
 pub response-most : (bytes : List ℕ) → length (response bytes) ≤ 123853
