@@ -5,38 +5,71 @@ use mathlib.Core.List.{List}
 use native.Mathlib.Nat.{mul-le-mul-left, mul-le-mul-right, zero-add}
 use native.Mathlib.Omega.{arith}
 use native.Mathlib.Decide.{decLe}
+use lib.Pow.{pow-add}
 use Rattle.model.specs.Words.{Near}
 use Rattle.model.specs.Loads.{Class, Of, load}
 use Rattle.model.specs.Frames.{cells, runOf, Legal, Block, whole, front, back, Balanced}
+use Rattle.model.specs.Wire.{deviation}
 use Rattle.model.proofs.Cells.{cells-none, cells-run, run-none, run-all}
 use Rattle.model.proofs.Blocks.{block-fits}
 use Rattle.model.proofs.Legal.{legal-exact}
 use Rattle.model.proofs.OneFrame.{double}
 
--- in the middle of each block, f is at most 3 d / 2 further above g than it is on average at the block's two ends
-abbrev pub Middles : ℕ → ℕ → (ℕ → ℕ) → (ℕ → ℕ) → Type 0
-Middles slots d f g = (start half : ℕ) → Block slots start (2 * half)
-    → 2 * f (start + half) + g start + g (start + half + half) ≤ f start + f (start + half + half) + 2 * g (start + half) + 3 * d
+-- ---- the deviation: twice as much at least with each halving, so that in cells it rises, and by less than a cell
+pub deviation-rises : (d : ℕ) → (2 * deviation d ≤ deviation (suc d)) × (deviation (suc d) ≤ 2 * deviation d + 2 ^ suc d)
+unfolding deviation
+deviation-rises zero = (omega arith, omega arith)
+deviation-rises (suc d) = let r = deviation-rises d in (omega arith, omega (arith, double (suc d)))
 
--- so inside a block of 2 ^ j slots f is at most d j further above g than the ends allow
-pub block-law : (slots d : ℕ) (f g : ℕ → ℕ) → Middles slots d f g → (j lo hi e : ℕ) → Block slots lo (2 ^ j) → hi ≡ lo + 2 ^ j
-    → f lo ≤ g lo + e → f hi ≤ g hi + e → f lo + f hi + d ≤ g lo + g hi + 2 * e
-    → (x : ℕ) → lo ≤ x → x ≤ hi → f x ≤ g x + e + d * j
-block-law slots d f g mids zero lo hi e b at low high ends x from to =
-    elim (decLe x lo) as (λ _. f x ≤ g x + e + d * 0) [
-      | yes h ↦ (let q : lo ≡ x = omega arith in subst (λ y. f y ≤ g y + e + d * 0) q (omega arith))
-      | no h ↦ (let q : hi ≡ x = omega arith in subst (λ y. f y ≤ g y + e + d * 0) q (omega arith))
+-- at most (2 k + 1) / 6 cells
+pub deviation-most : (k : ℕ) → 6 * deviation k ≤ (2 * k + 1) * 2 ^ k
+unfolding deviation
+deviation-most zero = omega arith
+deviation-most (suc zero) = omega arith
+deviation-most (suc (suc k)) =
+    let n = 2 ^ k in
+    let one : 2 ^ suc k ≡ 2 * n = double k in
+    let two : 2 ^ suc (suc k) ≡ 4 * n = omega (arith, double (suc k)) in
+    let a : 6 * deviation (suc k) ≤ (2 * suc k + 1) * (2 * n) = rw one at (deviation-most (suc k)) in
+    rw (two, one) (omega (arith, deviation-most k))
+
+-- in scale with a block of 2 ^ j slots, d halvings down a frame of 2 ^ (d + suc j)
+deviation-next : (k j d : ℕ) → d + suc j ≡ k → 2 ^ j * deviation (suc (suc d)) ≡ 2 ^ j * deviation (suc d) + 2 ^ suc j * deviation d + 2 ^ k
+unfolding deviation
+deviation-next k j d e =
+    let power : 2 ^ k ≡ 2 ^ j * 2 ^ suc d = ap (λ z. 2 ^ z) (omega arith) ∙ pow-add 2 j (suc d) in
+    omega (arith, ap (λ z. z * deviation d) (double j))
+
+-- ---- a block
+-- in the middle of each block, f is at most half a cell further above g than it is on average at the block's two ends
+abbrev pub Middles : ℕ → (ℕ → ℕ) → (ℕ → ℕ) → Type 0
+Middles slots f g = (start half : ℕ) → Block slots start (2 * half)
+    → 2 * f (start + half) + g start + g (start + half + half) ≤ f start + f (start + half + half) + 2 * g (start + half) + slots
+
+-- so inside a block f is at most as far above g as its two ends allow, each by itself and both together
+pub block-law : (k : ℕ) (f g : ℕ → ℕ) → Middles (2 ^ k) f g → (j d lo hi : ℕ) → d + j ≡ k → Block (2 ^ k) lo (2 ^ j) → hi ≡ lo + 2 ^ j
+    → f lo ≤ g lo + 2 ^ j * deviation d → f hi ≤ g hi + 2 ^ j * deviation d → f lo + f hi + 2 ^ k ≤ g lo + g hi + 2 ^ j * deviation (suc d)
+    → (x : ℕ) → lo ≤ x → x ≤ hi → f x ≤ g x + deviation k
+block-law k f g mids zero d lo hi deep b at low high ends x from to =
+    let e : deviation d ≡ deviation k = ap deviation (omega arith) in
+    elim (decLe x lo) as (λ _. f x ≤ g x + deviation k) [
+      | yes h ↦ (let q : lo ≡ x = omega arith in subst (λ y. f y ≤ g y + deviation k) q (omega arith))
+      | no h ↦ (let q : hi ≡ x = omega arith in subst (λ y. f y ≤ g y + deviation k) q (omega arith))
     ]
-block-law slots d f g mids (suc j) lo hi e b at low high ends x from to =
+block-law k f g mids (suc j) d lo hi deep b at low high ends x from to =
     let mid = lo + 2 ^ j in
-    let b2 : Block slots lo (2 * 2 ^ j) = rw (double j) at b in
+    let b2 : Block (2 ^ k) lo (2 * 2 ^ j) = rw (double j) at b in
     let top : hi ≡ mid + 2 ^ j = omega (arith, double j) in
-    let half : 2 * f mid + g lo + g hi ≤ f lo + f hi + 2 * g mid + 3 * d
-    = subst (λ y. 2 * f mid + g lo + g y ≤ f lo + f y + 2 * g mid + 3 * d) (sym top) (mids lo (2 ^ j) b2) in
-    let middle : f mid ≤ g mid + (e + d) = omega arith in
-    elim (decLe x mid) as (λ _. f x ≤ g x + e + d * suc j) [
-      | yes h ↦ (let r = block-law slots d f g mids j lo mid (e + d) (front lo (2 ^ j) b2) refl (omega arith) middle (omega arith) x from h in omega arith)
-      | no h ↦ (let r = block-law slots d f g mids j mid hi (e + d) (back lo (2 ^ j) b2) top middle (omega arith) (omega arith) x (omega arith) to in omega arith)
+    let half : 2 * f mid + g lo + g hi ≤ f lo + f hi + 2 * g mid + 2 ^ k
+    = subst (λ y. 2 * f mid + g lo + g y ≤ f lo + f y + 2 * g mid + 2 ^ k) (sym top) (mids lo (2 ^ j) b2) in
+    let new : 2 ^ suc j * deviation (suc d) ≡ 2 * (2 ^ j * deviation (suc d)) = omega (arith, ap (λ z. z * deviation (suc d)) (double j)) in
+    let old : 2 ^ suc j * deviation d ≤ 2 ^ j * deviation (suc d)
+    = omega (arith, ap (λ z. z * deviation d) (double j), mul-le-mul-left (2 ^ j) (deviation-rises d .0)) in
+    let next = deviation-next k j d deep in
+    let middle : f mid ≤ g mid + 2 ^ j * deviation (suc d) = omega arith in
+    elim (decLe x mid) as (λ _. f x ≤ g x + deviation k) [
+      | yes h ↦ block-law k f g mids j (suc d) lo mid (omega arith) (front lo (2 ^ j) b2) refl (omega arith) middle (omega arith) x from h
+      | no h ↦ block-law k f g mids j (suc d) mid hi (omega arith) (back lo (2 ^ j) b2) top middle (omega arith) (omega arith) x (omega arith) to
     ]
 
 module _ {ports slots : ℕ} {matrix bytes : List ℕ} (legal : Legal ports slots matrix bytes) (balanced : Balanced ports slots bytes) (c : Class) (of : Of ports c) where
@@ -61,12 +94,13 @@ module _ {ports slots : ℕ} {matrix bytes : List ℕ} (legal : Legal ports slot
   before-none : before 0 ≡ 0
   before-none = ap (cells c ports) (run-none ports 0 bytes) ∙ cells-none ports c
 
-  pub prefix-accurate : (k : ℕ) → slots ≡ 2 ^ k → (t : ℕ) → t ≤ slots
-      → Near ((2 * k + 1) * slots) (6 * (slots * before t)) (6 * (load c ports matrix * t))
-  prefix-accurate k power t fits =
+  -- the first t slots of a frame of 2 ^ k are off by at most the deviation
+  pub prefix-sharp : (k : ℕ) → slots ≡ 2 ^ k → (t : ℕ) → t ≤ slots → Near (deviation k) (slots * before t) (load c ports matrix * t)
+  unfolding deviation
+  prefix-sharp k power t fits =
       let m = load c ports matrix in
-      let up : ℕ → ℕ = λ x. 6 * (slots * before x) in
-      let line : ℕ → ℕ = λ x. 6 * (m * x) in
+      let up : ℕ → ℕ = λ x. slots * before x in
+      let line : ℕ → ℕ = λ x. m * x in
       let full : slots * before slots ≡ m * slots = omega (arith, ap (λ z. slots * z) before-all) in
       let none : slots * before 0 ≡ 0 = omega (arith, ap (λ z. slots * z) before-none) in
       let parts : (start half : ℕ) → Block slots start (2 * half)
@@ -75,9 +109,9 @@ module _ {ports slots : ℕ} {matrix bytes : List ℕ} (legal : Legal ports slot
       = λ start half b.
       let x = middle-near start half b in
       (omega arith, omega (arith, mul-le-mul-left slots (x .0), mul-le-mul-left slots (x .1))) in
-      let top : Block slots 0 (2 ^ k) = subst (λ n. Block slots 0 n) power whole in
-      let above = block-law slots (2 * slots) up line (λ start half b. let x = parts start half b in omega arith)
-      k 0 slots slots top (omega arith) (omega arith) (omega arith) (omega arith) t (omega arith) fits in
-      let below = block-law slots (2 * slots) line up (λ start half b. let x = parts start half b in omega arith)
-      k 0 slots slots top (omega arith) (omega arith) (omega arith) (omega arith) t (omega arith) fits in
+      let size : (start z : ℕ) → Block (2 ^ k) start z → Block slots start z = λ start z b. subst (λ n. Block n start z) (sym power) b in
+      let above = block-law k up line (λ start half b. let x = parts start half (size start (2 * half) b) in omega arith)
+      k 0 0 slots (omega arith) whole (omega arith) (omega arith) (omega arith) (omega arith) t (omega arith) fits in
+      let below = block-law k line up (λ start half b. let x = parts start half (size start (2 * half) b) in omega arith)
+      k 0 0 slots (omega arith) whole (omega arith) (omega arith) (omega arith) (omega arith) t (omega arith) fits in
       (omega (arith, above), omega (arith, below))

@@ -13,12 +13,12 @@ use Rattle.model.specs.Frames.{Legal, Balanced}
 use Rattle.model.specs.Refusals.{Check, report}
 use Rattle.model.specs.Build.{buildAccepts, left}
 use Rattle.model.specs.Inspect.{byteTooLarge, outputTwice, pairCount, unbalancedBlock, inspected}
-use Rattle.model.specs.Wire.{Carried, share, Shape, Accurate}
+use Rattle.model.specs.Wire.{Carried, share, Shape, Accurate, SharpOn}
 use Rattle.model.specs.Queue.{HeldOn}
 use Rattle.model.proofs.Cases.{byBool}
 use Rattle.model.proofs.Reports.{report-found, report-on}
 use Rattle.model.proofs.Demand2.{WellFormed, past-frame, accepts-is, build-sound}
-use Rattle.model.proofs.Demand3.{Sound, sound-accurate}
+use Rattle.model.proofs.Demand3.{Sound, sound-sharp, sound-accurate}
 use Rattle.model.proofs.Queues.{sound-held}
 use Rattle.model.proofs.Answers.{Throughout, ByteLow, OutputOnce, CountRight, Finds, byte-101, output-102, pair-103, block-104, clean-0}
 use Rattle.model.proofs.Faults.{bytes-search, outputs-search, counts-search, block-tells, block-reported, byBlock, place-of}
@@ -128,7 +128,10 @@ all-sound [] h = tt
 all-sound (f ∷ fs) h =
     (clean-sound (f .call .ports) (f .call .slots) (f .call .matrix) (f .bytes) (h .0 .well) (h .0 .size) (h .0 .clean), all-sound fs (h .1))
 
--- Frames that Inspect calls clean, whoever made them, are accurate end to end, as demand 3 says,
+-- Frames that Inspect calls clean, whoever made them, keep the sharp bound end to end, are accurate, as demand 3 says,
+pub clean-sharp : (ports k : ℕ) (frames : List Carried) → Every Inspected frames → Every (Shape ports (2 ^ k)) frames → SharpOn ports k frames
+clean-sharp ports k frames clean shape = sound-sharp ports k frames (all-sound frames clean) shape
+
 pub clean-accurate : (ports k : ℕ) (frames : List Carried) → Every Inspected frames → Every (Shape ports (2 ^ k)) frames → Accurate ports k frames
 clean-accurate ports k frames clean shape = sound-accurate ports k frames (all-sound frames clean) shape
 

@@ -1,20 +1,20 @@
--- Demand 3: every list of Build calls is accurate on the wire.
-use Prim.Native.Nat.{ℕ, suc, zero, _+_, _*_, _-_, _^_, _≤_, min}
+-- Demand 3: every list of Build calls is accurate on the wire, by the sharp bound.
+use Prim.Native.Nat.{ℕ, suc, zero, _+_, _*_, _-_, _/_, _%_, _^_, _≤_, min}
 use mathlib.Core.Path.{_≡_, refl, ap, subst, sym, _∙_}
 use mathlib.Core.List.{List, [], _∷_, _++_}
 use mathlib.Core.Bool.{Bool, true, false}
-use native.Mathlib.Nat.{mul-le-mul-right, zero-add}
+use native.Mathlib.Nat.{mul-le-mul-right, zero-add, mod-lt, div-add-mod'}
 use native.Mathlib.Omega.{arith}
-use native.Mathlib.Decide.{decLe}
+use lib.Pow.{pow-pos}
 use lib.ListN.{length, length-append, replicate}
 use Rattle.model.specs.Words.{Near, Every}
 use Rattle.model.specs.Loads.{Class, Of, load}
 use Rattle.model.specs.Frames.{cells, runOf, Legal, Balanced}
 use Rattle.model.specs.Build.{buildAccepts, left}
-use Rattle.model.specs.Wire.{Call, Carried, Last, none, last, carry, next, chain, wire, inside, share, Shape, Accurate, Demand3}
+use Rattle.model.specs.Wire.{Call, Carried, Last, none, last, carry, next, chain, wire, inside, share, Shape, Accurate, Demand3, deviation, Within, SharpRun, SharpOn, Sharp}
 use Rattle.model.proofs.Cells.{cells-none, cells-run, run-none, run-first, run-second, run-all}
 use Rattle.model.proofs.Legal.{legal-exact}
-use Rattle.model.proofs.Accuracy.{prefix-accurate}
+use Rattle.model.proofs.Accuracy.{deviation-most, prefix-sharp}
 use Rattle.model.proofs.Demand2.{build-sound, build-keeps}
 
 -- a carried frame is legal for its load, and balanced
@@ -65,15 +65,33 @@ wire-length (f ∷ fs) ports slots good =
     omega (arith, length-append (f .bytes) (wire fs), good .0 .legal .size, wire-length fs ports slots (good .1))
 
 module _ (c : Class) (ports k : ℕ) (of : Of ports c) where
-  -- the cells of the first t slots of a chain, and the share of as many slots that end where they end
-  prefix-chain : (fs : List Carried) → Every (Good ports (2 ^ k)) fs → (lo start len t : ℕ) → start ≤ lo → start + len ≡ lo + t → t ≤ length fs * 2 ^ k
-      → Near ((2 * k + 1) * 2 ^ k) (6 * (2 ^ k * cells c ports (runOf ports 0 t (wire fs)))) (6 * share c lo fs start len)
+  -- in a frame, the first r slots are off by at most gap
+  abbrev Off : ℕ → ℕ → Type 0
+  Off r gap = (f : Carried) → Good ports (2 ^ k) f → Near gap (2 ^ k * cells c ports (runOf ports 0 r (f .bytes))) (load c ports (f .call .matrix) * r)
+
+  -- so are the first t slots of a chain, b frames and r slots, from the share of as many slots that end where they end
+  prefix-chain : (r gap : ℕ) → r ≤ 2 ^ k → Off r gap → (fs : List Carried) → Every (Good ports (2 ^ k)) fs → (b lo start len t : ℕ)
+      → t ≡ b * 2 ^ k + r → start ≤ lo → start + len ≡ lo + t → t ≤ length fs * 2 ^ k
+      → Near gap (2 ^ k * cells c ports (runOf ports 0 t (wire fs))) (share c lo fs start len)
   unfolding share wire
-  prefix-chain [] good lo start len t a b fits =
+  prefix-chain r gap less off [] good b lo start len t is before ends fits =
       let e : t ≡ 0 = omega arith in
       let z : cells c ports (runOf ports 0 t []) ≡ 0 = rw e (ap (cells c ports) (run-none ports 0 []) ∙ cells-none ports c) in
       omega (arith, ap (λ x. 2 ^ k * x) z)
-  prefix-chain (f ∷ fs) good lo start len t a b fits =
+  prefix-chain r gap less off (f ∷ fs) good zero lo start len t is before ends fits =
+      let n = 2 ^ k in
+      let m = load c ports (f .call .matrix) in
+      let hi = lo + f .call .slots in
+      let same : load c (f .call .ports) (f .call .matrix) ≡ m = ap (λ p. load c p (f .call .matrix)) (good .0 .shape .ports-are) in
+      let top : f .call .slots ≡ n = good .0 .shape .slots-are in
+      let short : t ≡ r = omega arith in
+      let first : cells c ports (runOf ports 0 t (f .bytes ++ wire fs)) ≡ cells c ports (runOf ports 0 r (f .bytes))
+      = ap (cells c ports) (run-first ports n 0 t (f .bytes) (wire fs) (good .0 .legal .size) (omega arith) ∙ ap (λ x. runOf ports 0 x (f .bytes)) short) in
+      let e : inside lo hi start len ≡ r = omega arith in
+      let none = share-none c fs hi start len (omega arith) in
+      let law = off f (good .0) in
+      rw same (omega (arith, ap (λ x. n * x) first, ap (λ x. m * x) e))
+  prefix-chain r gap less off (f ∷ fs) good (suc b) lo start len t is before ends fits =
       let n = 2 ^ k in
       let m = load c ports (f .call .matrix) in
       let w = f .bytes ++ wire fs in
@@ -81,44 +99,67 @@ module _ (c : Class) (ports k : ℕ) (of : Of ports c) where
       let hi = lo + f .call .slots in
       let same : load c (f .call .ports) (f .call .matrix) ≡ m = ap (λ p. load c p (f .call .matrix)) (good .0 .shape .ports-are) in
       let top : f .call .slots ≡ n = good .0 .shape .slots-are in
-      rw same (elim (decLe t n) as (λ _. Near ((2 * k + 1) * n) (6 * (n * cells c ports (runOf ports 0 t w))) (6 * (m * inside lo hi start len + share c hi fs start len))) [
-        | yes h ↦ (
-            let first : cells c ports (runOf ports 0 t w) ≡ cells c ports (runOf ports 0 t (f .bytes)) = ap (cells c ports) (run-first ports n 0 t (f .bytes) (wire fs) size (omega arith)) in
-            let e : inside lo hi start len ≡ t = omega arith in
-            let none = share-none c fs hi start len (omega arith) in
-            let law = prefix-accurate (good .0 .legal) (good .0 .balanced) c of k refl t h in
-            omega (arith, ap (λ x. n * x) first, ap (λ x. m * x) e))
-        | no h ↦ (
-            let later = t - n in
-            let e : inside lo hi start len ≡ n = omega arith in
-            let at : t ≡ n + later = omega arith in
-            let sum : cells c ports (runOf ports 0 (n + later) w) ≡ cells c ports (runOf ports 0 n w) + cells c ports (runOf ports n later w)
-            = rw zero-add at (cells-run ports c 0 n later w (omega (arith, length-append (f .bytes) (wire fs)))) in
-            let first : cells c ports (runOf ports 0 n w) ≡ m
-            = ap (cells c ports) (run-first ports n 0 n (f .bytes) (wire fs) size (omega arith) ∙ run-all ports n (f .bytes) size) ∙ legal-exact (good .0 .legal) c of in
-            let shift : n + 0 ≡ n = omega arith in
-            let second : cells c ports (runOf ports n later w) ≡ cells c ports (runOf ports 0 later (wire fs))
-            = ap (cells c ports) (rw shift at (run-second ports n 0 later (f .bytes) (wire fs) size)) in
-            let law = prefix-chain fs (good .1) hi start len later (omega arith) (omega arith) (omega arith) in
-            let whole : cells c ports (runOf ports 0 t w) ≡ m + cells c ports (runOf ports 0 later (wire fs))
-            = ap (λ x. cells c ports (runOf ports 0 x w)) at ∙ omega arith in
-            omega (arith, ap (λ x. n * x) whole, ap (λ x. m * x) e, law .0, law .1))
-      ])
+      let later = b * n + r in
+      let at : t ≡ n + later = omega arith in
+      let e : inside lo hi start len ≡ n = omega arith in
+      let sum : cells c ports (runOf ports 0 (n + later) w) ≡ cells c ports (runOf ports 0 n w) + cells c ports (runOf ports n later w)
+      = rw zero-add at (cells-run ports c 0 n later w (omega (arith, length-append (f .bytes) (wire fs)))) in
+      let first : cells c ports (runOf ports 0 n w) ≡ m
+      = ap (cells c ports) (run-first ports n 0 n (f .bytes) (wire fs) size (omega arith) ∙ run-all ports n (f .bytes) size) ∙ legal-exact (good .0 .legal) c of in
+      let shift : n + 0 ≡ n = omega arith in
+      let second : cells c ports (runOf ports n later w) ≡ cells c ports (runOf ports 0 later (wire fs))
+      = ap (cells c ports) (rw shift at (run-second ports n 0 later (f .bytes) (wire fs) size)) in
+      let law = prefix-chain r gap less off fs (good .1) b hi start len later refl (omega arith) (omega arith) (omega arith) in
+      let whole : cells c ports (runOf ports 0 t w) ≡ m + cells c ports (runOf ports 0 later (wire fs))
+      = ap (λ x. cells c ports (runOf ports 0 x w)) at ∙ omega arith in
+      rw same (omega (arith, ap (λ x. n * x) whole, ap (λ x. m * x) e, law .0, law .1))
 
-  -- a run is what is left of one prefix after another
-  pub run-accurate : (fs : List Carried) → Every (Good ports (2 ^ k)) fs → (start len : ℕ) → start + len ≤ length fs * 2 ^ k
-      → Near ((2 * k + 1) * 2 ^ k) (3 * 2 ^ k * cells c ports (runOf ports start len (wire fs))) (3 * share c 0 fs start len)
-  run-accurate fs good start len fits =
-      let one = prefix-chain fs good 0 0 start start (omega arith) refl (omega arith) in
-      let two = prefix-chain fs good 0 0 (start + len) (start + len) (omega arith) refl fits in
-      let long : start * ports ≤ length fs * 2 ^ k * ports = mul-le-mul-right ports (omega arith) in
-      let sum : cells c ports (runOf ports 0 (start + len) (wire fs)) ≡ cells c ports (runOf ports 0 start (wire fs)) + cells c ports (runOf ports start len (wire fs))
-      = rw zero-add at (cells-run ports c 0 start len (wire fs) (omega (arith, wire-length fs ports (2 ^ k) good))) in
-      omega (arith, ap (λ x. 2 ^ k * x) sum, share-split c fs 0 start len)
+  module _ (fs : List Carried) (good : Every (Good ports (2 ^ k)) fs) where
+    -- the first t slots of the chain are off by at most gap
+    abbrev OffAt : ℕ → ℕ → Type 0
+    OffAt gap t = Near gap (2 ^ k * cells c ports (runOf ports 0 t (wire fs))) (share c 0 fs 0 t)
 
--- Frames that are legal and balanced, whoever made them, are accurate end to end.
+    anywhere : (t : ℕ) → t ≤ length fs * 2 ^ k → OffAt (deviation k) t
+    anywhere t fits =
+        let r = t % 2 ^ k in
+        let less = mod-lt t (pow-pos k) in
+        prefix-chain r (deviation k) (omega arith) (λ f g. prefix-sharp (g .legal) (g .balanced) c of k refl r (omega arith)) fs good
+        (t / 2 ^ k) 0 0 t t (sym (div-add-mod' t (2 ^ k))) (omega arith) (omega arith) fits
+
+    at-seam : (b t : ℕ) → t ≡ b * 2 ^ k → t ≤ length fs * 2 ^ k → OffAt 0 t
+    at-seam b t e fits =
+        prefix-chain 0 0 (omega arith)
+        (λ f g. omega (arith, ap (λ x. 2 ^ k * x) (ap (cells c ports) (run-none ports 0 (f .bytes)) ∙ cells-none ports c))) fs good
+        b 0 0 t t (omega arith) (omega arith) (omega arith) fits
+
+    -- a run is what is left of one prefix after another
+    run-off : (start len x y gap : ℕ) → start + len ≤ length fs * 2 ^ k → OffAt x start → OffAt y (start + len) → x + y ≤ gap
+        → Within gap c ports k fs start len
+    run-off start len x y gap fits one two most =
+        let long : start * ports ≤ length fs * 2 ^ k * ports = mul-le-mul-right ports (omega arith) in
+        let sum : cells c ports (runOf ports 0 (start + len) (wire fs)) ≡ cells c ports (runOf ports 0 start (wire fs)) + cells c ports (runOf ports start len (wire fs))
+        = rw zero-add at (cells-run ports c 0 start len (wire fs) (omega (arith, wire-length fs ports (2 ^ k) good))) in
+        omega (arith, ap (λ x. 2 ^ k * x) sum, share-split c fs 0 start len)
+
+    pub run-sharp : (start len : ℕ) → start + len ≤ length fs * 2 ^ k → SharpRun c ports k fs start len
+    run-sharp start len fits =
+        let one = anywhere start (omega arith) in
+        let two = anywhere (start + len) fits in
+        record {
+          any = run-off start len (deviation k) (deviation k) (2 * deviation k) fits one two (omega arith);
+          begins-frame = λ b e. run-off start len 0 (deviation k) (deviation k) fits (at-seam b start e (omega arith)) two (omega arith);
+          ends-frame = λ b e. run-off start len (deviation k) 0 (deviation k) fits one (at-seam b (start + len) e fits) (omega arith);
+        }
+
+-- Frames that are legal and balanced, whoever made them, keep the sharp bound end to end,
+pub sound-sharp : (ports k : ℕ) (fs : List Carried) → Every Sound fs → Every (Shape ports (2 ^ k)) fs → SharpOn ports k fs
+sound-sharp ports k fs sound shape start len fits c of = run-sharp c ports k of fs (good-of ports (2 ^ k) fs sound shape) start len fits
+
+-- and so are accurate.
 pub sound-accurate : (ports k : ℕ) (fs : List Carried) → Every Sound fs → Every (Shape ports (2 ^ k)) fs → Accurate ports k fs
-sound-accurate ports k fs sound shape start len fits c of = let law = run-accurate c ports k of fs (good-of ports (2 ^ k) fs sound shape) start len fits in omega (arith, law)
+sound-accurate ports k fs sound shape start len fits c of =
+    let law = sound-sharp ports k fs sound shape start len fits c of .any in
+    omega (arith, law, deviation-most k)
 
 -- ---- every frame that a list of Build calls carries is sound
 abbrev Known : Last → List ℕ → Type 0
@@ -152,6 +193,9 @@ chain-sound l buffer (c ∷ calls) p =
     every-append Sound (carry (next ok c l) after (c .times)) (chain (next ok c l) after calls)
     (carry-sound (next ok c l) after (c .times) q) (chain-sound (next ok c l) after calls q)
 
--- Demand 3.
+-- The sharp bound, and demand 3.
+pub sharp : Sharp
+sharp buffer calls ports k shape = sound-sharp ports k (chain none buffer calls) (chain-sound none buffer calls tt) shape
+
 pub accurate : Demand3
 accurate buffer calls ports k shape = sound-accurate ports k (chain none buffer calls) (chain-sound none buffer calls tt) shape

@@ -9,11 +9,11 @@ use lib.ListN.{length}
 use Rattle.model.specs.Words.{sumTo, Every}
 use Rattle.model.specs.Loads.{Class, Of, load}
 use Rattle.model.specs.Frames.{cells, runOf}
-use Rattle.model.specs.Wire.{Call, Carried, none, chain, wire, inside, share, Shape}
+use Rattle.model.specs.Wire.{Call, Carried, none, chain, wire, inside, share, Shape, deviation}
 use Rattle.model.specs.Queue.{waiting, scheduledOn, arrived, Paced, Held, HeldOn, Buffers, BuffersAtSeams}
 use Rattle.model.proofs.Sums.{sum-more}
 use Rattle.model.proofs.Cells.{cells-none, cells-run, run-none}
-use Rattle.model.proofs.Demand3.{Sound, Good, good-of, wire-length, share-split, run-accurate, chain-sound}
+use Rattle.model.proofs.Demand3.{Sound, Good, good-of, wire-length, share-split, run-sharp, chain-sound}
 
 -- ---- the run since the queue was last empty: what waits now arrived in it and has not left
 pub record Since (arrive scheduled : ℕ → ℕ) (t : ℕ) : Type 0 where
@@ -99,10 +99,10 @@ module _ (c : Class) (ports k : ℕ) (of : Of ports c) (fs : List Carried) (good
 
   -- what has been scheduled since the queue was last empty, and the share of that run
   module _ (a : ℕ) (arrive : ℕ → ℕ) (paced : Paced k a (length fs * 2 ^ k) (share c 0 fs) arrive) (t : ℕ) (s : Since arrive (scheduledOn c ports fs) t) where
-    after : t ≤ length fs * 2 ^ k → 3 * 2 ^ k * waiting arrive (scheduledOn c ports fs) t ≤ 3 * 2 ^ k * a + (2 * k + 1) * 2 ^ k
+    after : t ≤ length fs * 2 ^ k → 2 ^ k * waiting arrive (scheduledOn c ports fs) t ≤ a + 2 * deviation k
     after h =
         let fits : s .start + s .len ≤ length fs * 2 ^ k = omega (arith, s .ends) in
-        let near = run-accurate c ports k of fs good (s .start) (s .len) fits in
+        let near = run-sharp c ports k of fs good (s .start) (s .len) fits .any in
         omega (
           arith,
           near .1,
@@ -111,11 +111,10 @@ module _ (c : Class) (ports k : ℕ) (of : Of ports c) (fs : List Carried) (good
           ap (λ x. 2 ^ k * x) (served (s .start) (s .len) fits),
         )
 
-    before : t < length fs * 2 ^ k
-        → 3 * 2 ^ k * (waiting arrive (scheduledOn c ports fs) t + arrive t) ≤ 3 * 2 ^ k * a + (2 * k + 1) * 2 ^ k + 3 * share c 0 fs t 1
+    before : t < length fs * 2 ^ k → 2 ^ k * (waiting arrive (scheduledOn c ports fs) t + arrive t) ≤ a + 2 * deviation k + share c 0 fs t 1
     before h =
         let fits : s .start + s .len ≤ length fs * 2 ^ k = omega (arith, s .ends) in
-        let near = run-accurate c ports k of fs good (s .start) (s .len) fits in
+        let near = run-sharp c ports k of fs good (s .start) (s .len) fits .any in
         let last : arrived arrive (s .start) (s .len + 1) ≡ arrived arrive (s .start) (s .len) + arrive t
         = arrived-more arrive (s .start) (s .len) ∙ ap (λ z. arrived arrive (s .start) (s .len) + arrive z) (s .ends) in
         let shares : share c 0 fs (s .start) (s .len + 1) ≡ share c 0 fs (s .start) (s .len) + share c 0 fs t 1

@@ -4,13 +4,13 @@ use Prim.Native.Nat.{ℕ, suc, zero, _+_, _*_, _-_, _^_, _≤_, min}
 use mathlib.Core.Path.{_≡_, refl}
 use mathlib.Core.List.{List, [], _∷_}
 use native.Mathlib.Omega.{arith}
-use lib.ListN.{length}
+use lib.ListN.{length, replicate}
 use Rattle.model.specs.Words.{sumTo, Every}
 use Rattle.model.specs.Loads.{pair, load}
 use Rattle.model.specs.Frames.{cells, runOf}
 use Rattle.model.specs.Schedule.{walk, settleAt, favours, slotOf, frameOf}
 use Rattle.model.specs.Build.{buildChecks}
-use Rattle.model.specs.Wire.{Call, Carried, none, chain, wire, share}
+use Rattle.model.specs.Wire.{Call, Carried, none, chain, wire, share, deviation}
 use Rattle.model.specs.Queue.{waiting, scheduledOn, arrived, Paced}
 use Rattle.model.proofs.Sums.{sum-append}
 
@@ -31,6 +31,21 @@ pub tight : 3 * share (pair 0 1) 0 seam 1 2 ≡ 3 * 2 ^ 1 * cells (pair 0 1) 2 (
 unfolding chain wire share cells runOf buildChecks sumTo load walk settleAt favours slotOf frameOf
 tight = refl
 
+-- The sharp bound is reached for k = 1 to 8: a frame of (1, 1) and (1, 2) that fill input 1, then one of (1, 2) alone; the
+-- run is the last x slots of the first and the first x of the second.
+abbrev pub filled : ℕ → ℕ → List Carried
+filled k m =
+    chain none (replicate (2 ^ k * 2) 7)
+    (record { ports = 2; slots = 2 ^ k; matrix = (2 ^ k - m) ∷ m ∷ 0 ∷ 0 ∷ []; times = 1 } ∷ record { ports = 2; slots = 2 ^ k; matrix = 0 ∷ m ∷ 0 ∷ 0 ∷ []; times = 1 } ∷ [])
+
+abbrev pub Reached : ℕ → ℕ → ℕ → Type 0
+Reached k m x =
+    2 ^ k * cells (pair 0 1) 2 (runOf 2 (2 ^ k - x) (2 * x) (wire (filled k m))) ≡ share (pair 0 1) 0 (filled k m) (2 ^ k - x) (2 * x) + 2 * deviation k
+
+pub sharpest : Reached 1 1 1 × Reached 2 1 1 × Reached 3 5 3 × Reached 4 5 5 × Reached 5 21 11 × Reached 6 21 21 × Reached 7 85 43 × Reached 8 85 85
+unfolding chain wire share cells runOf buildChecks sumTo load walk settleAt favours slotOf frameOf deviation
+sharpest = (refl, refl, refl, refl, refl, refl, refl, refl)
+
 -- the pair has 1 cell in each frame of the seam
 pub seam-steady : Every (λ f. load (pair 0 1) 2 (f .call .matrix) ≡ 1) seam
 unfolding chain buildChecks sumTo load walk settleAt favours slotOf frameOf
@@ -46,13 +61,13 @@ arriving-first zero = refl
 arriving-first (suc t) = omega (arith, arriving-first t)
 
 -- in L slots at most L / 2 + 1 cells arrive
-pub arriving-paced : Paced 1 1 (length seam * 2 ^ 1) (λ start len. len * 1) arriving
+pub arriving-paced : Paced 1 2 (length seam * 2 ^ 1) (λ start len. len * 1) arriving
 unfolding arrived
 arriving-paced start len h =
     let sum = sum-append start len arriving in
     omega (arith, arriving-first (start + len), arriving-first start)
 
--- after the second of them a + (2 k + 1)/3 cells wait, k = 1 and a = 1
-pub deepest : 3 * 2 ^ 1 * waiting arriving (scheduledOn (pair 0 1) 2 seam) 3 ≡ 3 * 2 ^ 1 * 1 + (2 * 1 + 1) * 2 ^ 1
-unfolding waiting chain wire cells runOf buildChecks sumTo load walk settleAt favours slotOf frameOf
+-- after the second of them a + 2 × deviation k parts of 1 / 2 ^ k of a cell wait, k = 1 and a = 2, which is one cell
+pub deepest : 2 ^ 1 * waiting arriving (scheduledOn (pair 0 1) 2 seam) 3 ≡ 2 + 2 * deviation 1
+unfolding waiting chain wire cells runOf buildChecks sumTo load walk settleAt favours slotOf frameOf deviation
 deepest = refl

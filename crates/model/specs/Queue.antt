@@ -6,7 +6,7 @@ use lib.ListN.{length}
 use Rattle.model.specs.Words.{sumTo, Every}
 use Rattle.model.specs.Loads.{Class, Of, load}
 use Rattle.model.specs.Frames.{cells, runOf}
-use Rattle.model.specs.Wire.{Call, Carried, none, chain, wire, share, Shape}
+use Rattle.model.specs.Wire.{Call, Carried, none, chain, wire, share, Shape, deviation}
 
 -- How many cells wait after the first t slots. The cells that arrive in a slot join before that slot's cell leaves, and a
 -- flow scheduled with none waiting sends nothing: what is taken away stops at 0.
@@ -22,16 +22,16 @@ scheduledOn c ports frames t = cells c ports (runOf ports t 1 (wire frames))
 unfoldable pub arrived : (ℕ → ℕ) → ℕ → ℕ → ℕ
 arrived arrive start len = sumTo len (λ t. arrive (start + t))
 
--- In no run of the first slots do more cells arrive than the run's share and a more; shares are times 2 ^ k.
+-- In no run of the first slots do more cells arrive than the run's share and an allowance a; the share and a are times 2 ^ k.
 abbrev pub Paced : ℕ → ℕ → ℕ → (ℕ → ℕ → ℕ) → (ℕ → ℕ) → Type 0
 Paced k a slots shareOf arrive =
-    (start len : ℕ) → start + len ≤ slots → 2 ^ k * arrived arrive start len ≤ shareOf start len + 2 ^ k * a
+    (start len : ℕ) → start + len ≤ slots → 2 ^ k * arrived arrive start len ≤ shareOf start len + a
 
--- After slot t at most a + (2k + 1)/3 cells wait, and just before its cell leaves at most the share of that slot more.
--- Nothing is rounded: both sides are times 3 × 2 ^ k.
+-- After slot t at most a + 2 × deviation k wait, and just before its cell leaves at most the share of that slot more; nothing
+-- is rounded: both sides are times 2 ^ k. 2 × deviation k is never above (2k + 1) × 2 ^ k / 3, demand 3's bound.
 pub record Held (k a : ℕ) (shareOf : ℕ → ℕ → ℕ) (arrive scheduled : ℕ → ℕ) (t : ℕ) : Type 0 where
-  pub after : 3 * 2 ^ k * waiting arrive scheduled (suc t) ≤ 3 * 2 ^ k * a + (2 * k + 1) * 2 ^ k
-  pub before : 3 * 2 ^ k * (waiting arrive scheduled t + arrive t) ≤ 3 * 2 ^ k * a + (2 * k + 1) * 2 ^ k + 3 * shareOf t 1
+  pub after : 2 ^ k * waiting arrive scheduled (suc t) ≤ a + 2 * deviation k
+  pub before : 2 ^ k * (waiting arrive scheduled t + arrive t) ≤ a + 2 * deviation k + shareOf t 1
 
 -- A flow that is paced by its share is held, in every slot of the chain.
 abbrev pub HeldOn : Class → ℕ → ℕ → List Carried → (ℕ → ℕ → ℕ) → Type 0

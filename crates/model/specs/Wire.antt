@@ -1,5 +1,5 @@
 -- The wire: what a list of Build calls puts on it, and demand 3 as one statement about the list.
-use Prim.Native.Nat.{ℕ, _+_, _*_, _-_, _^_, _≤_, min, max}
+use Prim.Native.Nat.{ℕ, suc, zero, _+_, _*_, _-_, _^_, _≤_, min, max}
 use mathlib.Core.Path.{_≡_}
 use mathlib.Core.List.{List, [], _∷_, _++_}
 use mathlib.Core.Bool.{Bool, true, false}
@@ -79,3 +79,29 @@ abbrev pub Demand3 : Type 0
 Demand3 =
     (buffer : List ℕ) (calls : List Call) (ports k : ℕ)
     → Every (Shape ports (2 ^ k)) (chain none buffer calls) → Accurate ports k (chain none buffer calls)
+
+-- How far the cells of a frame's first slots may be from their share, in parts of 1 / 2 ^ k of a cell: the middle of a balanced
+-- block is within half a cell of the mean of its ends, one of which the halving before made, and the other an earlier one.
+unfoldable pub deviation : ℕ → ℕ
+deviation zero = 0
+deviation (suc zero) = 1
+deviation (suc (suc k)) = deviation (suc k) + 2 * deviation k + 2 ^ suc k
+
+-- 2 ^ k × the cells of a run differ by at most gap, either way, from its share times 2 ^ k.
+abbrev pub Within : ℕ → Class → ℕ → ℕ → List Carried → ℕ → ℕ → Type 0
+Within gap c ports k frames start len = Near gap (2 ^ k * cells c ports (runOf ports start len (wire frames))) (share c 0 frames start len)
+
+-- A run has two ends, each of which may be off by one deviation; an end where a frame begins or ends is off by nothing.
+pub record SharpRun (c : Class) (ports k : ℕ) (frames : List Carried) (start len : ℕ) : Type 0 where
+  pub any : Within (2 * deviation k) c ports k frames start len
+  pub begins-frame : (b : ℕ) → start ≡ b * 2 ^ k → Within (deviation k) c ports k frames start len
+  pub ends-frame : (b : ℕ) → start + len ≡ b * 2 ^ k → Within (deviation k) c ports k frames start len
+
+abbrev pub SharpOn : ℕ → ℕ → List Carried → Type 0
+SharpOn ports k frames = (start len : ℕ) → start + len ≤ length frames * 2 ^ k → (c : Class) → Of ports c → SharpRun c ports k frames start len
+
+-- The sharp bound, for the lists of demand 3, which follows from it: 6 × deviation k is at most (2k + 1) × 2 ^ k.
+abbrev pub Sharp : Type 0
+Sharp =
+    (buffer : List ℕ) (calls : List Call) (ports k : ℕ)
+    → Every (Shape ports (2 ^ k)) (chain none buffer calls) → SharpOn ports k (chain none buffer calls)
