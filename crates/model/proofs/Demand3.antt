@@ -146,9 +146,9 @@ module _ (c : Class) (ports k : ℕ) (of : Of ports c) where
         let one = anywhere start (omega arith) in
         let two = anywhere (start + len) fits in
         record {
-          any = run-off start len (deviation k) (deviation k) (2 * deviation k) fits one two (omega arith);
-          begins-frame = λ b e. run-off start len 0 (deviation k) (deviation k) fits (at-seam b start e (omega arith)) two (omega arith);
-          ends-frame = λ b e. run-off start len (deviation k) 0 (deviation k) fits one (at-seam b (start + len) e fits) (omega arith);
+          any = run-off start len (deviation k) (deviation k) _ fits one two (omega arith);
+          begins-frame = λ b e. run-off start len 0 (deviation k) _ fits (at-seam b start e (omega arith)) two (omega arith);
+          ends-frame = λ b e. run-off start len (deviation k) 0 _ fits one (at-seam b (start + len) e fits) (omega arith);
         }
 
 -- Frames that are legal and balanced, whoever made them, keep the sharp bound end to end,

@@ -132,7 +132,7 @@ module _ (c : Class) (ports k : ℕ) (of : Of ports c) (fs : List Carried) (good
   pub chain-held : HeldOn c ports k fs (share c 0 fs)
   chain-held a arrive paced t h =
       let s = since arrive (scheduledOn c ports fs) in
-      record { after = after a arrive paced (suc t) (s (suc t)) (omega arith); before = before a arrive paced t (s t) h }
+      record { after = omega (arith, after a arrive paced (suc t) (s (suc t)) (omega arith)); before = omega (arith, before a arrive paced t (s t) h) }
 
 -- Frames that are legal and balanced, whoever made them, hold a flow that keeps to its share,
 pub sound-held : (ports k : ℕ) (fs : List Carried) → Every Sound fs → Every (Shape ports (2 ^ k)) fs → (c : Class) → Of ports c
@@ -148,7 +148,7 @@ sound-steady ports k fs sound shape c of m same a arrive paced t h =
     let e : inside 0 (0 + length fs * 2 ^ k) start len ≡ len = omega arith in
     omega (arith, share-steady c ports (2 ^ k) m fs shape same 0 start len, ap (λ z. m * z) e) in
     let law = sound-held ports k fs sound shape c of a arrive (λ start len fits. omega (arith, paced start len fits, is start len fits)) t h in
-    record { after = law .after; before = omega (arith, law .before, is t 1 (omega arith)) }
+    record { after = omega (arith, law .after); before = omega (arith, law .before, is t 1 (omega arith)) }
 
 -- How deep a buffer to order, where the flow's load is the same in every frame, and where it changes at seams.
 pub buffers : Buffers
