@@ -4,8 +4,8 @@ use mathlib.Core.Path.{_≡_, refl, ap, _∙_}
 use mathlib.Core.List.{List, [], _++_}
 use native.Mathlib.Omega.{arith}
 use native.Mathlib.Nat.{mul-le-mul-right, mul-add-mod-self-right, mod-eq-of-lt}
-use lib.ListN.{length, getD, drop, length-append, length-take, length-drop, List·getD-append}
-use lib.Seq.{getD-append-add, take-add, drop-drop, take-all, take-append-le, drop-append-le, drop-append-add}
+use lib.ListN.{length, getD, drop, length-append, length-take, length-drop, drop-of-length-le, List·getD-append}
+use lib.Seq.{getD-append-add, take-nil, take-add, drop-drop, take-all, take-append-le, drop-append-le, drop-append-add}
 use Rattle.model.specs.Words.{bit, sumTo}
 use Rattle.model.specs.Loads.{Class}
 use Rattle.model.specs.Frames.{counts, cells, runOf}
@@ -44,6 +44,11 @@ module _ (ports : ℕ) where
   pub run-none : (start : ℕ) (bytes : List ℕ) → runOf ports start 0 bytes ≡ []
   unfolding runOf
   run-none start bytes = let e : 0 * ports ≡ 0 = omega arith in rw e
+
+  -- beyond the last slot there are no cells
+  pub cells-beyond : (c : Class) (start len : ℕ) (bytes : List ℕ) → length bytes ≤ start * ports → cells c ports (runOf ports start len bytes) ≡ 0
+  unfolding runOf
+  cells-beyond c start len bytes h = rw (drop-of-length-le bytes h, take-nil) (cells-none c)
 
   pub run-length : (start len : ℕ) (bytes : List ℕ) → (start + len) * ports ≤ length bytes → length (runOf ports start len bytes) ≡ len * ports
   unfolding runOf

@@ -21,6 +21,7 @@ pub mod Accuracy
 pub mod Demand3
 pub mod Tight
 pub mod Queues
+pub mod Rows
 pub mod Runs
 pub mod Inspected
 pub mod Answers

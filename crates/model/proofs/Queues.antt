@@ -76,6 +76,13 @@ share-steady c ports n m (f ∷ fs) shape same lo start len =
     let law : share c hi fs start len ≡ m * inside hi end start len = rw tail at (share-steady c ports n m fs (shape .1) (same .1) hi start len) in
     rw (is, shape .0 .slots-are, law) (omega (arith, ap (λ z. m * z) sum))
 
+-- so the share of a run is its slots times the load
+pub share-is : (c : Class) (ports k m : ℕ) (fs : List Carried) → Every (Shape ports (2 ^ k)) fs → Every (λ f. load c ports (f .call .matrix) ≡ m) fs
+    → (start len : ℕ) → start + len ≤ length fs * 2 ^ k → share c 0 fs start len ≡ len * m
+share-is c ports k m fs shape same start len fits =
+    let e : inside 0 (0 + length fs * 2 ^ k) start len ≡ len = omega arith in
+    omega (arith, share-steady c ports (2 ^ k) m fs shape same 0 start len, ap (λ z. m * z) e)
+
 share-more : (c : Class) (fs : List Carried) (start len : ℕ) → share c 0 fs start (len + 1) ≡ share c 0 fs start len + share c 0 fs (start + len) 1
 share-more c fs start len =
     let all : share c 0 fs 0 (start + (len + 1)) ≡ share c 0 fs 0 (start + len) + share c 0 fs (start + len) 1
@@ -90,7 +97,7 @@ arrived-more arrive start len =
 
 -- ---- every slot of a chain of sound frames
 module _ (c : Class) (ports k : ℕ) (of : Of ports c) (fs : List Carried) (good : Every (Good ports (2 ^ k)) fs) where
-  served : (start len : ℕ) → start + len ≤ length fs * 2 ^ k
+  pub served : (start len : ℕ) → start + len ≤ length fs * 2 ^ k
       → arrived (scheduledOn c ports fs) start len ≡ cells c ports (runOf ports start len (wire fs))
   unfolding arrived
   served start len h =
@@ -143,10 +150,7 @@ sound-held ports k fs sound shape c of = chain-held c ports k of fs (good-of por
 pub sound-steady : (ports k : ℕ) (fs : List Carried) → Every Sound fs → Every (Shape ports (2 ^ k)) fs → (c : Class) → Of ports c
     → (m : ℕ) → Every (λ f. load c ports (f .call .matrix) ≡ m) fs → HeldOn c ports k fs (λ start len. len * m)
 sound-steady ports k fs sound shape c of m same a arrive paced t h =
-    let is : (start len : ℕ) → start + len ≤ length fs * 2 ^ k → share c 0 fs start len ≡ len * m
-    = λ start len fits.
-    let e : inside 0 (0 + length fs * 2 ^ k) start len ≡ len = omega arith in
-    omega (arith, share-steady c ports (2 ^ k) m fs shape same 0 start len, ap (λ z. m * z) e) in
+    let is = share-is c ports k m fs shape same in
     let law = sound-held ports k fs sound shape c of a arrive (λ start len fits. omega (arith, paced start len fits, is start len fits)) t h in
     record { after = omega (arith, law .after); before = omega (arith, law .before, is t 1 (omega arith)) }
 

@@ -10,16 +10,20 @@ use Rattle.model.specs.Loads.{pair, load}
 use Rattle.model.specs.Frames.{cells, runOf}
 use Rattle.model.specs.Schedule.{walk, settleAt, favours, slotOf, frameOf}
 use Rattle.model.specs.Build.{buildChecks}
-use Rattle.model.specs.Wire.{Call, Carried, none, chain, wire, share, deviation}
+use Rattle.model.specs.Wire.{Call, Carried, none, chain, wire, share, Shape, deviation}
 use Rattle.model.specs.Queue.{waiting, scheduledOn, arrived, Paced}
+use Rattle.model.specs.Row.{Hop, scheduledAt, Reserved, onward}
 use Rattle.model.proofs.Sums.{sum-append}
 
 -- a call of two ports and two slots, carried once, and one that is refused, carried once more
 abbrev pub once : List ℕ → Call
 once matrix = record { ports = 2; slots = 2; matrix = matrix; times = 1 }
 
+abbrev pub seamCalls : List Call
+seamCalls = once (3 ∷ 0 ∷ 0 ∷ 0 ∷ []) ∷ once (0 ∷ 1 ∷ 0 ∷ 0 ∷ []) ∷ once (1 ∷ 1 ∷ 0 ∷ 0 ∷ []) ∷ once (0 ∷ 9 ∷ 0 ∷ 0 ∷ []) ∷ []
+
 abbrev pub seam : List Carried
-seam = chain none (7 ∷ 7 ∷ 7 ∷ 7 ∷ []) (once (3 ∷ 0 ∷ 0 ∷ 0 ∷ []) ∷ once (0 ∷ 1 ∷ 0 ∷ 0 ∷ []) ∷ once (1 ∷ 1 ∷ 0 ∷ 0 ∷ []) ∷ once (0 ∷ 9 ∷ 0 ∷ 0 ∷ []) ∷ [])
+seam = chain none (7 ∷ 7 ∷ 7 ∷ 7 ∷ []) seamCalls
 
 -- the wire: the first call is refused and nothing is carried; the last one is, and the frame before it is carried again
 pub seam-wire : wire seam ≡ 2 ∷ 0 ∷ 0 ∷ 0 ∷ 1 ∷ 0 ∷ 2 ∷ 0 ∷ 1 ∷ 0 ∷ 2 ∷ 0 ∷ []
@@ -71,3 +75,25 @@ arriving-paced start len h =
 pub deepest : 2 ^ 1 * waiting arriving (scheduledOn (pair 0 1) 2 seam) 3 ≡ 2 + 2 * deviation 1
 unfolding waiting chain wire cells runOf buildChecks sumTo load walk settleAt favours slotOf frameOf deviation
 deepest = refl
+
+-- A switch whose frames give the pair those two slots, and behind it, in step, one with the frames of the seam.
+abbrev pub ahead : Hop
+ahead = record { buffer = 7 ∷ 7 ∷ 7 ∷ 7 ∷ []; calls = once (1 ∷ 1 ∷ 0 ∷ 0 ∷ []) ∷ once (0 ∷ 1 ∷ 0 ∷ 0 ∷ []) ∷ []; ports = 2; flow = pair 0 1; delay = 0 }
+
+abbrev pub behind : Hop
+behind = record { buffer = 7 ∷ 7 ∷ 7 ∷ 7 ∷ []; calls = seamCalls; ports = 2; flow = pair 0 1; delay = 0 }
+
+two-by-two : (f : Carried) → f .call .ports ≡ 2 → f .call .slots ≡ 2 → Shape 2 2 f
+two-by-two f p s = record { ports-are = p; slots-are = s }
+
+pub row-reserved : Every (Reserved 1 1) (ahead ∷ behind ∷ [])
+unfolding chain buildChecks sumTo load walk settleAt favours slotOf frameOf
+row-reserved = (
+  record { shape = (two-by-two _ refl refl, (two-by-two _ refl refl, tt)); flow-of = (omega arith, omega arith); steady = (refl, (refl, tt)) },
+  (record { shape = (two-by-two _ refl refl, (two-by-two _ refl refl, (two-by-two _ refl refl, tt))); flow-of = (omega arith, omega arith); steady = seam-steady }, tt),
+)
+
+-- after the second of them the other holds 4 × deviation k
+pub deepest-behind : 2 ^ 1 * waiting (onward ahead arriving) (scheduledAt behind) 3 ≡ 4 * deviation 1
+unfolding waiting chain wire cells runOf buildChecks sumTo load walk settleAt favours slotOf frameOf deviation
+deepest-behind = refl

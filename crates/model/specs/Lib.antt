@@ -11,4 +11,5 @@ pub mod Inspect
 pub mod Service
 pub mod Wire
 pub mod Queue
+pub mod Row
 pub mod Sheet
