@@ -66,6 +66,13 @@ pub record Shape (ports slots : ℕ) (f : Carried) : Type 0 where
   pub ports-are : f .call .ports ≡ ports
   pub slots-are : f .call .slots ≡ slots
 
+-- How far the cells of a frame's first slots may be from their share, times 2 ^ k: half a cell in the middle of the frame, and at each
+-- further halving half a cell more than the mean of the two depths before.
+unfoldable pub deviation : ℕ → ℕ
+deviation zero = 0
+deviation (suc zero) = 1
+deviation (suc (suc k)) = deviation (suc k) + 2 * deviation k + 2 ^ suc k
+
 -- Over a chain of frames of 2 ^ k slots: over any run of consecutive slots, none too, and for every pair, input and output,
 -- 3 × 2 ^ k × cells differs by at most (2k + 1) × 2 ^ k, either way, from three times the share times 2 ^ k.
 abbrev pub Accurate : ℕ → ℕ → List Carried → Type 0

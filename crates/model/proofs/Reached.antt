@@ -1,0 +1,136 @@
+-- The bound of accuracy is reached at every k: two frames of 2 ^ k slots, and a run over their seam that is 2 × deviation k short of its share.
+use Prim.Native.Nat.{ℕ, suc, zero, _+_, _*_, _-_, _/_, _%_, _^_, _≤_, _<_}
+use mathlib.Core.Path.{_≡_, refl, ap, sym, _∙_}
+use mathlib.Core.List.{List, [], _∷_, _++_}
+use native.Mathlib.Omega.{arith}
+use native.Mathlib.Nat.{two-pow-succ, add-zero, zero-add}
+use mathlib.Core.Logic.{_≢_}
+use mathlib.Core.Bool.{true, false}
+use lib.Dec.{eqb}
+use lib.ListN.{length, getD, set, replicate, length-append}
+use Rattle.model.specs.Words.{both, sumTo, upFrom, Every}
+use Rattle.model.specs.Loads.{Class, pair, load, Fits}
+use Rattle.model.specs.Frames.{cells, runOf}
+use Rattle.model.specs.Rules.{Side, inputs, outputs, portOf, odd}
+use Rattle.model.specs.Schedule.{partner, walk, tieHalf, settleAt, settle, favours, slotOf, frameOf}
+use Rattle.model.specs.Wire.{deviation}
+use Rattle.model.proofs.Walks.{walk-on, walk-off}
+use Rattle.model.proofs.Settled.{groupOf}
+use Rattle.model.proofs.OneFrame.{double, frame-length}
+
+-- ---- the numbers of the path
+-- the cells of the flow in each of the two frames of 2 ^ k slots: 0, 1, 1, 5, 5, 21, 21, ..
+unfoldable pub count : ℕ → ℕ
+count zero = 0
+count (suc j) = 2 ^ suc j - suc (2 * count j)
+
+-- the slots from the end of a frame that has more than its share: 0, 1, 1, 3, 5, 11, 21, ..
+unfoldable pub edge : ℕ → ℕ
+edge zero = 0
+edge (suc j) = 2 ^ j - edge j
+
+-- the flow leaves cells free
+count-less : (j : ℕ) → count j < 2 ^ j
+unfolding count
+count-less zero = omega arith
+count-less (suc j) = omega (arith, count-less j, two-pow-succ j)
+
+edge-most : (j : ℕ) → edge j ≤ 2 ^ j
+unfolding edge
+edge-most zero = omega arith
+edge-most (suc j) = omega (arith, edge-most j, two-pow-succ j)
+
+-- the deviation of a block, by that of its half
+deviation-more : (j : ℕ) → deviation (suc j) + edge j ≡ 2 * deviation j + 2 ^ j
+unfolding deviation edge
+deviation-more zero = refl
+deviation-more (suc j) = omega (arith, deviation-more j, edge-most j, two-pow-succ j)
+
+-- deviation at each k that a frame may have
+deviations : (deviation 1 ≡ 1) × (deviation 2 ≡ 3) × (deviation 3 ≡ 9) × (deviation 4 ≡ 23) × (deviation 5 ≡ 57) × (deviation 6 ≡ 135) × (deviation 7 ≡ 313) × (deviation 8 ≡ 711)
+    × (deviation 9 ≡ 1593) × (deviation 10 ≡ 3527)
+unfolding deviation
+deviations = (refl, refl, refl, refl, refl, refl, refl, refl, refl, refl)
+
+-- ---- splits of one row
+abbrev row : ℕ → ℕ → List ℕ
+row d c = d ∷ c ∷ 0 ∷ 0 ∷ []
+
+
+-- a walk whose first step comes to a settled count changes nothing
+still : (n : ℕ) (go back : ℕ → ℕ) (p q h : ℕ) (c : List ℕ) → go p ≡ q → getD c q 0 ≢ 0 → walk (suc n) go back p h c ≡ c
+still n go back p q h c e s = walk-off n go back p h c (rw e s)
+
+settle-on : (i o : ℕ → ℕ) (m : List ℕ) (p : ℕ) (c : List ℕ) → both (odd m p) (eqb (getD c p 0) 0) ≡ true → settleAt i o m p c ≡ groupOf m i o tieHalf p c
+unfolding settleAt
+settle-on i o m p c e = rw (e, settleAt)
+
+alone-settled : (i o : ℕ → ℕ) (c : ℕ) → c % 2 ≡ 1 → i 1 ≡ 1 → o 1 ≡ 1 → settle i o (row 0 c) (upFrom 0 4) (replicate 4 0) ≡ row 0 1
+unfolding settleAt
+alone-settled i o c e f g =
+    settle-on i o (row 0 c) 1 (replicate 4 0) (rw e)
+    ∙ ap (walk 4 o i 1 1) (still 3 i o 1 1 1 (row 0 1) f (omega arith))
+    ∙ still 3 o i 1 1 1 (row 0 1) g (omega arith)
+
+full-settled : (i o : ℕ → ℕ) (d c : ℕ) → d % 2 ≡ 1 → c % 2 ≡ 1 → i 0 ≡ 1 → o 0 ≡ 0 → o 1 ≡ 1 → settle i o (row d c) (upFrom 0 4) (replicate 4 0) ≡ row 1 2
+unfolding settleAt
+full-settled i o d c e f g h k =
+    ap (settleAt i o (row d c) 1)
+    (settle-on i o (row d c) 0 (replicate 4 0) (rw e)
+    ∙ ap (walk 4 o i 0 1) (walk-on 3 i o 0 1 (row 1 0) (rw g) ∙ rw g (still 2 o i 1 1 2 (row 1 2) k (omega arith)))
+    ∙ still 3 o i 0 0 1 (row 1 2) h (omega arith))
+    ∙ rw (f, settleAt)
+
+alone-favours : (c : ℕ) → c % 2 ≡ 1 → favours (portOf 2) (row 0 c) ≡ row 0 1
+unfolding favours
+alone-favours c e = alone-settled (partner (portOf 2 inputs) (row 0 c)) (partner (portOf 2 outputs) (row 0 c)) c e (rw e) (rw e)
+
+full-favours : (d c : ℕ) → d % 2 ≡ 1 → c % 2 ≡ 1 → favours (portOf 2) (row d c) ≡ row 1 2
+unfolding favours
+full-favours d c e f = full-settled (partner (portOf 2 inputs) (row d c)) (partner (portOf 2 outputs) (row d c)) d c e f (rw (e, f)) (rw (e, f)) (rw (e, f))
+
+-- a flow alone in its row: the first half gets the odd cell
+alone-halves : (j x : ℕ) → frameOf 2 (suc j) (row 0 (2 * x + 1)) ≡ frameOf 2 j (row 0 (x + 1)) ++ frameOf 2 j (row 0 x)
+unfolding frameOf
+alone-halves j x =
+    let h : (2 * x + 1) / 2 ≡ x = omega arith in
+    rw (alone-favours (2 * x + 1) (omega arith), h, add-zero x)
+
+-- a flow behind another of its row: the second half gets the odd cell
+full-halves : (j x y : ℕ) → frameOf 2 (suc j) (row (2 * y + 1) (2 * x + 1)) ≡ frameOf 2 j (row (y + 1) x) ++ frameOf 2 j (row y (x + 1))
+unfolding frameOf
+full-halves j x y =
+    let h : (2 * x + 1) / 2 ≡ x = omega arith in
+    let g : (2 * y + 1) / 2 ≡ y = omega arith in
+    rw (full-favours (2 * y + 1) (2 * x + 1) (omega arith) (omega arith), h, g, add-zero x, add-zero y)
+
+-- ---- counts that lean to one end of every block
+-- a j c t: the cells of a flow of c cells in the t slots at one end of a block of 2 ^ j slots. The half at that end gets the odd cell.
+record Leans (a : ℕ → ℕ → ℕ → ℕ) : Type 0 where
+  none : a 0 0 0 ≡ 0
+  one : a 0 1 1 ≡ 1
+  near : (j x t : ℕ) → x < 2 ^ j → t ≤ 2 ^ j → a (suc j) (2 * x + 1) t ≡ a j (x + 1) t
+  far : (j x t : ℕ) → x < 2 ^ j → t ≤ 2 ^ j → a (suc j) (2 * x + 1) (2 ^ j + t) ≡ x + 1 + a j x t
+
+module _ (a : ℕ → ℕ → ℕ → ℕ) (l : Leans a) where
+  mutual
+    unfolding count edge deviation
+    early : (j c e : ℕ) → c ≡ count j → e ≡ edge j → 2 ^ j * a j c e ≡ c * e + deviation j
+    early zero c e p q = rw (p, q) (omega (arith, l .none))
+    early (suc j) c e p q =
+        let x = 2 ^ j - suc (count j) in
+        let z : c ≡ 2 * x + 1 = omega (arith, count-less j, double j) in
+        let s = ap (λ y. a (suc j) y e) z ∙ l .near j x e (omega (arith, count-less j)) (omega (arith, edge-most j)) in
+        let r = late j (x + 1) e (omega (arith, count-less j)) (omega (arith, edge-most j)) in
+        omega (arith, ap (λ y. y * a (suc j) c e) (double j), ap (λ y. 2 ^ j * y) s, ap (λ y. y * e) z, deviation-more j, edge-most j)
+
+    late : (j c e : ℕ) → c + count j ≡ 2 ^ j → e + edge j ≡ 2 ^ j → 2 ^ j * a j c e ≡ c * e + deviation j
+    late zero c e p q = let x : c ≡ 1 = omega arith in let y : e ≡ 1 = omega arith in rw (x, y) (omega (arith, l .one))
+    late (suc j) c e p q =
+        let x = count j in
+        let t = edge j in
+        let z : c ≡ 2 * x + 1 = omega (arith, count-less j, double j) in
+        let y : e ≡ 2 ^ j + t = omega (arith, edge-most j, double j) in
+        let s = ap (λ u. a (suc j) u e) z ∙ ap (λ u. a (suc j) (2 * x + 1) u) y ∙ l .far j x t (count-less j) (edge-most j) in
+        let r = early j x t refl refl in
+        omega (arith, ap (λ u. u * a (suc j) c e) (double j), ap (λ u. 2 ^ j * u) s, ap (λ u. u * e) z, ap (λ u. (2 * x + 1) * u) y, deviation-more j)
