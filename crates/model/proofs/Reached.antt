@@ -1,6 +1,6 @@
 -- The bound of accuracy is reached at every k: two frames of 2 ^ k slots, and a run over their seam that is 2 × deviation k short of its share.
 use Prim.Native.Nat.{ℕ, suc, zero, _+_, _*_, _-_, _/_, _%_, _^_, _≤_, _<_}
-use mathlib.Core.Path.{_≡_, refl, ap, sym, _∙_}
+use mathlib.Core.Path.{_≡_, refl, ap, ap₂, sym, _∙_}
 use mathlib.Core.List.{List, [], _∷_, _++_}
 use native.Mathlib.Omega.{arith}
 use native.Mathlib.Nat.{two-pow-succ, add-zero, zero-add}
@@ -16,7 +16,8 @@ use Rattle.model.specs.Schedule.{partner, walk, tieHalf, settleAt, settl
 use Rattle.model.specs.Wire.{deviation}
 use Rattle.model.proofs.Walks.{walk-on, walk-off}
 use Rattle.model.proofs.Settled.{groupOf}
-use Rattle.model.proofs.OneFrame.{double, frame-length}
+use Rattle.model.proofs.Cells.{cells-run, run-first, run-second, run-all}
+use Rattle.model.proofs.OneFrame.{double, frame-length, one-frame}
 
 -- ---- the numbers of the path
 -- the cells of the flow in each of the two frames of 2 ^ k slots: 0, 1, 1, 5, 5, 21, 21, ..
@@ -134,3 +135,85 @@ module _ (a : ℕ → ℕ → ℕ → ℕ) (l : Leans a) where
         let s = ap (λ u. a (suc j) u e) z ∙ ap (λ u. a (suc j) (2 * x + 1) u) y ∙ l .far j x t (count-less j) (edge-most j) in
         let r = early j x t refl refl in
         omega (arith, ap (λ u. u * a (suc j) c e) (double j), ap (λ u. 2 ^ j * u) s, ap (λ u. u * e) z, ap (λ u. (2 * x + 1) * u) y, deviation-more j)
+
+-- ---- the two frames
+-- input 1, output 2
+abbrev pub flow : Class
+flow = pair 0 1
+
+-- a row of no more cells than slots fits
+row-fits : (n d c : ℕ) → d + c ≤ n → Fits 2 n (row d c)
+unfolding load sumTo
+row-fits n d c h zero l = (omega arith, omega arith)
+row-fits n d c h (suc zero) l = (omega arith, omega arith)
+row-fits n d c h (suc (suc x)) l = absurd (omega arith)
+
+-- its frame has the flow's cells
+row-cells : (j d c : ℕ) → d + c ≤ 2 ^ j → cells flow 2 (frameOf 2 j (row d c)) ≡ c
+unfolding load
+row-cells j d c h = one-frame 2 j (row d c) refl (row-fits (2 ^ j) d c h) .legal .exact 0 1 (omega arith) (omega arith)
+
+-- a run over the seam of two frames
+seam-cells : (n s t r : ℕ) (v w : List ℕ) → length v ≡ n * 2 → s + t ≡ n → cells flow 2 (runOf 2 s (t + r) (v ++ w)) ≡ cells flow 2 (runOf 2 s t v) + cells flow 2 (runOf 2 0 r w)
+seam-cells n s t r v w e h =
+    let z : s + t ≡ n + 0 = omega arith in
+    cells-run 2 flow s t r (v ++ w) (omega (arith, length-append v w))
+    ∙ ap₂ _+_ (ap (cells flow 2) (run-first 2 n s t v w e (omega arith))) (ap (λ y. cells flow 2 (runOf 2 y r (v ++ w))) z ∙ ap (cells flow 2) (run-second 2 n 0 r v w e))
+
+-- the flow alone: the cells of the first t slots
+abbrev first-of : ℕ → ℕ → ℕ → ℕ
+first-of j c t = cells flow 2 (runOf 2 0 t (frameOf 2 j (row 0 c)))
+
+-- the flow behind another that fills the row: the cells of the last t slots
+abbrev last-of : ℕ → ℕ → ℕ → ℕ
+last-of j c t = cells flow 2 (runOf 2 (2 ^ j - t) t (frameOf 2 j (row (2 ^ j - c) c)))
+
+first-leans : Leans first-of
+unfolding cells runOf sumTo slotOf frameOf
+first-leans = record { none = refl; one = refl; near = near; far = far }
+  where
+    near : (j x t : ℕ) → x < 2 ^ j → t ≤ 2 ^ j → first-of (suc j) (2 * x + 1) t ≡ first-of j (x + 1) t
+    near j x t h l =
+        let v = frameOf 2 j (row 0 (x + 1)) in
+        ap (λ b. cells flow 2 (runOf 2 0 t b)) (alone-halves j x)
+        ∙ ap (cells flow 2) (run-first 2 (2 ^ j) 0 t v (frameOf 2 j (row 0 x)) (frame-length 2 j (row 0 (x + 1))) (omega arith))
+
+    far : (j x t : ℕ) → x < 2 ^ j → t ≤ 2 ^ j → first-of (suc j) (2 * x + 1) (2 ^ j + t) ≡ x + 1 + first-of j x t
+    far j x t h l =
+        let v = frameOf 2 j (row 0 (x + 1)) in
+        let size = frame-length 2 j (row 0 (x + 1)) in
+        ap (λ b. cells flow 2 (runOf 2 0 (2 ^ j + t) b)) (alone-halves j x)
+        ∙ seam-cells (2 ^ j) 0 (2 ^ j) t v (frameOf 2 j (row 0 x)) size (omega arith)
+        ∙ ap (λ y. y + first-of j x t) (ap (cells flow 2) (run-all 2 (2 ^ j) v size) ∙ row-cells j 0 (x + 1) (omega arith))
+
+last-leans : Leans last-of
+unfolding cells runOf sumTo slotOf frameOf
+last-leans = record { none = refl; one = refl; near = near; far = far }
+  where
+    halves : (j x : ℕ) → x < 2 ^ j → frameOf 2 (suc j) (row (2 ^ suc j - (2 * x + 1)) (2 * x + 1)) ≡ frameOf 2 j (row (2 ^ j - x) x) ++ frameOf 2 j (row (2 ^ j - (x + 1)) (x + 1))
+    halves j x h =
+        let y = 2 ^ j - (x + 1) in
+        let e : 2 ^ suc j - (2 * x + 1) ≡ 2 * y + 1 = omega (arith, double j) in
+        let f : y + 1 ≡ 2 ^ j - x = omega arith in
+        ap (λ d. frameOf 2 (suc j) (row d (2 * x + 1))) e ∙ full-halves j x y ∙ ap (λ d. frameOf 2 j (row d x) ++ frameOf 2 j (row y (x + 1))) f
+
+    near : (j x t : ℕ) → x < 2 ^ j → t ≤ 2 ^ j → last-of (suc j) (2 * x + 1) t ≡ last-of j (x + 1) t
+    near j x t h l =
+        let v = frameOf 2 j (row (2 ^ j - x) x) in
+        let w = frameOf 2 j (row (2 ^ j - (x + 1)) (x + 1)) in
+        let s : 2 ^ suc j - t ≡ 2 ^ j + (2 ^ j - t) = omega (arith, double j) in
+        ap (λ b. cells flow 2 (runOf 2 (2 ^ suc j - t) t b)) (halves j x h)
+        ∙ ap (λ y. cells flow 2 (runOf 2 y t (v ++ w))) s
+        ∙ ap (cells flow 2) (run-second 2 (2 ^ j) (2 ^ j - t) t v w (frame-length 2 j (row (2 ^ j - x) x)))
+
+    far : (j x t : ℕ) → x < 2 ^ j → t ≤ 2 ^ j → last-of (suc j) (2 * x + 1) (2 ^ j + t) ≡ x + 1 + last-of j x t
+    far j x t h l =
+        let v = frameOf 2 j (row (2 ^ j - x) x) in
+        let w = frameOf 2 j (row (2 ^ j - (x + 1)) (x + 1)) in
+        let s : 2 ^ suc j - (2 ^ j + t) ≡ 2 ^ j - t = omega (arith, double j) in
+        let r : 2 ^ j + t ≡ t + 2 ^ j = omega arith in
+        let all : cells flow 2 (runOf 2 0 (2 ^ j) w) ≡ x + 1 = ap (cells flow 2) (run-all 2 (2 ^ j) w (frame-length 2 j (row (2 ^ j - (x + 1)) (x + 1)))) ∙ row-cells j (2 ^ j - (x + 1)) (x + 1) (omega arith) in
+        ap (λ b. cells flow 2 (runOf 2 (2 ^ suc j - (2 ^ j + t)) (2 ^ j + t) b)) (halves j x h)
+        ∙ ap₂ (λ y z. cells flow 2 (runOf 2 y z (v ++ w))) s r
+        ∙ seam-cells (2 ^ j) (2 ^ j - t) t (2 ^ j) v w (frame-length 2 j (row (2 ^ j - x) x)) (omega arith)
+        ∙ omega arith
