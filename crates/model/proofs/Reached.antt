@@ -13,7 +13,7 @@ use Rattle.model.specs.Loads.{Class, pair, load, Fits}
 use Rattle.model.specs.Frames.{cells, runOf}
 use Rattle.model.specs.Rules.{Side, inputs, outputs, portOf, odd}
 use Rattle.model.specs.Schedule.{partner, walk, tieHalf, settleAt, settle, favours, slotOf, frameOf}
-use Rattle.model.specs.Wire.{deviation}
+use Rattle.model.specs.Wire.{Call, Carried, none, chain, wire, inside, share, deviation, Shape}
 use Rattle.model.proofs.Walks.{walk-on, walk-off}
 use Rattle.model.proofs.Settled.{groupOf}
 use Rattle.model.proofs.Cells.{cells-run, run-first, run-second, run-all}
@@ -54,7 +54,7 @@ unfolding deviation
 deviations = (refl, refl, refl, refl, refl, refl, refl, refl, refl, refl)
 
 -- ---- splits of one row
-abbrev row : ℕ → ℕ → List ℕ
+abbrev pub row : ℕ → ℕ → List ℕ
 row d c = d ∷ c ∷ 0 ∷ 0 ∷ []
 
 
@@ -217,3 +217,70 @@ last-leans = record { none = refl; one = refl; near = near; far = far }
         ∙ ap₂ (λ y z. cells flow 2 (runOf 2 y z (v ++ w))) s r
         ∙ seam-cells (2 ^ j) (2 ^ j - t) t (2 ^ j) v w (frame-length 2 j (row (2 ^ j - x) x)) (omega arith)
         ∙ omega arith
+
+-- the flow's cells before a slot and from it on
+row-parts : (j d c s t : ℕ) → d + c ≤ 2 ^ j → s + t ≡ 2 ^ j → cells flow 2 (runOf 2 0 s (frameOf 2 j (row d c))) + cells flow 2 (runOf 2 s t (frameOf 2 j (row d c))) ≡ c
+row-parts j d c s t h e =
+    let f = frameOf 2 j (row d c) in
+    let size = frame-length 2 j (row d c) in
+    let sum : cells flow 2 (runOf 2 0 (s + t) f) ≡ cells flow 2 (runOf 2 0 s f) + cells flow 2 (runOf 2 s t f) = rw zero-add at (cells-run 2 flow 0 s t f (omega arith)) in
+    let all : cells flow 2 (runOf 2 0 (s + t) f) ≡ c = ap (cells flow 2) (run-all 2 (s + t) f (omega arith)) ∙ row-cells j d c h in
+    omega arith
+
+-- ---- the chains
+-- a call of two ports and 2 ^ k slots, carried once
+abbrev pub once : ℕ → List ℕ → Call
+once k matrix = record { ports = 2; slots = 2 ^ k; matrix = matrix; times = 1 }
+
+-- the two frames of two such calls
+abbrev pub framed : ℕ → List ℕ → List ℕ → List Carried
+framed k a b = record { call = once k a; bytes = frameOf 2 k a } ∷ record { call = once k b; bytes = frameOf 2 k b } ∷ []
+
+-- the flow alone, and behind another that fills the row
+abbrev pub alone : ℕ → List ℕ
+alone k = row 0 (count k)
+
+abbrev pub behind : ℕ → List ℕ
+behind k = row (2 ^ k - count k) (count k)
+
+-- a run over the seam of two frames with one load of the flow
+module _ (k m s t r : ℕ) (a b : List ℕ) (la : load flow 2 a ≡ m) (lb : load flow 2 b ≡ m) (e : s + t ≡ 2 ^ k) (h : r ≤ 2 ^ k) where
+  over-share : share flow 0 (framed k a b) s (t + r) ≡ m * t + m * r
+  unfolding share
+  over-share =
+      let n = 2 ^ k in
+      let x : inside 0 (0 + n) s (t + r) ≡ t = omega arith in
+      let y : inside (0 + n) (0 + n + n) s (t + r) ≡ r = omega arith in
+      rw (la, lb) (omega (arith, ap (λ z. m * z) x, ap (λ z. m * z) y))
+
+  over-cells : cells flow 2 (runOf 2 s (t + r) (wire (framed k a b))) ≡ cells flow 2 (runOf 2 s t (frameOf 2 k a)) + cells flow 2 (runOf 2 0 r (frameOf 2 k b))
+  unfolding wire
+  over-cells =
+      seam-cells (2 ^ k) s t r (frameOf 2 k a) (frameOf 2 k b ++ []) (frame-length 2 k a) e
+      ∙ ap (λ z. cells flow 2 (runOf 2 s t (frameOf 2 k a)) + z) (ap (cells flow 2) (run-first 2 (2 ^ k) 0 r (frameOf 2 k b) [] (frame-length 2 k b) (omega arith)))
+
+-- Frames of 2 ^ k slots that have one load of the flow, and a run of them.
+pub record Over (k : ℕ) (frames : List Carried) : Type 0 where
+  pub shape : Every (Shape 2 (2 ^ k)) frames
+  pub steady : Every (λ f. load flow 2 (f .call .matrix) ≡ count k) frames
+  pub start : ℕ
+  pub len : ℕ
+  pub fits : start + len ≤ length frames * 2 ^ k
+
+framed-short : (k : ℕ) → let n = 2 ^ k - edge k in share flow 0 (framed k (alone k) (behind k)) (edge k) (n + n) ≡ 2 ^ k * cells flow 2 (runOf 2 (edge k) (n + n) (wire (framed k (alone k) (behind k)))) + 2 * deviation k
+unfolding load
+framed-short k =
+    let n = 2 ^ k in
+    let m = count k in
+    let e = edge k in
+    let u = n - e in
+    let c = count-less k in
+    let g = edge-most k in
+    let s = over-share k m e u u (alone k) (behind k) refl refl (omega arith) (omega arith) in
+    let r = over-cells k m e u u (alone k) (behind k) refl refl (omega arith) (omega arith) in
+    let x = row-parts k 0 m e u (omega arith) (omega arith) in
+    let y = row-parts k (n - m) m u e (omega arith) (omega arith) in
+    let p = early first-of first-leans k m e refl refl in
+    let q = early last-of last-leans k m e refl refl in
+    let f : e + u ≡ n = omega arith in
+    omega (arith, ap (λ z. n * z) r, ap (λ z. n * z) x, ap (λ z. n * z) y, ap (λ z. z * m) f)
