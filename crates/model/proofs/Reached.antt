@@ -7,17 +7,20 @@ use native.Mathlib.Nat.{two-pow-succ, add-zero, zero-add}
 use mathlib.Core.Logic.{_≢_}
 use mathlib.Core.Bool.{true, false}
 use lib.Dec.{eqb}
-use lib.ListN.{length, getD, set, replicate, length-append}
-use Rattle.model.specs.Words.{both, sumTo, upFrom, Every}
-use Rattle.model.specs.Loads.{Class, pair, load, Fits}
+use lib.ListN.{length, getD, set, replicate, length-append, length-replicate}
+use Rattle.model.specs.Words.{both, sumTo, upFrom, Near, Every}
+use Rattle.model.specs.Loads.{Class, pair, Of, load, Fits}
 use Rattle.model.specs.Frames.{cells, runOf}
 use Rattle.model.specs.Rules.{Side, inputs, outputs, portOf, odd}
 use Rattle.model.specs.Schedule.{partner, walk, tieHalf, settleAt, settle, favours, slotOf, frameOf}
+use Rattle.model.specs.Build.{buildAccepts}
 use Rattle.model.specs.Wire.{Call, Carried, none, chain, wire, inside, share, deviation, Shape}
+use Rattle.model.proofs.Levels.{levels-of}
 use Rattle.model.proofs.Walks.{walk-on, walk-off}
 use Rattle.model.proofs.Settled.{groupOf}
 use Rattle.model.proofs.Cells.{cells-run, run-first, run-second, run-all}
 use Rattle.model.proofs.OneFrame.{double, frame-length, one-frame}
+use Rattle.model.proofs.Demand2.{accepts-yes}
 
 -- ---- the numbers of the path
 -- the cells of the flow in each of the two frames of 2 ^ k slots: 0, 1, 1, 5, 5, 21, 21, ..
@@ -259,17 +262,27 @@ module _ (k m s t r : ℕ) (a b : List ℕ) (la : load flow 2 a ≡ m) (lb : loa
       seam-cells (2 ^ k) s t r (frameOf 2 k a) (frameOf 2 k b ++ []) (frame-length 2 k a) e
       ∙ ap (λ z. cells flow 2 (runOf 2 s t (frameOf 2 k a)) + z) (ap (cells flow 2) (run-first 2 (2 ^ k) 0 r (frameOf 2 k b) [] (frame-length 2 k b) (omega arith)))
 
--- Frames of 2 ^ k slots that have one load of the flow, and a run of them.
-pub record Over (k : ℕ) (frames : List Carried) : Type 0 where
+-- The frames have two ports, 2 ^ k slots and one load of the flow, and the run is a run of them.
+pub record Steady (k start len : ℕ) (frames : List Carried) : Type 0 where
   pub shape : Every (Shape 2 (2 ^ k)) frames
-  pub steady : Every (λ f. load flow 2 (f .call .matrix) ≡ count k) frames
-  pub start : ℕ
-  pub len : ℕ
+  pub same : Every (λ f. load flow 2 (f .call .matrix) ≡ count k) frames
   pub fits : start + len ≤ length frames * 2 ^ k
 
-framed-short : (k : ℕ) → let n = 2 ^ k - edge k in share flow 0 (framed k (alone k) (behind k)) (edge k) (n + n) ≡ 2 ^ k * cells flow 2 (runOf 2 (edge k) (n + n) (wire (framed k (alone k) (behind k)))) + 2 * deviation k
+-- the flow's share of a run is 2 × deviation k more than 2 ^ k times its cells
+abbrev pub Short : ℕ → ℕ → ℕ → List Carried → Type 0
+Short k start len frames = Steady k start len frames × (share flow 0 frames start len ≡ 2 ^ k * cells flow 2 (runOf 2 start len (wire frames)) + 2 * deviation k)
+
+-- it is as much less
+abbrev pub Long : ℕ → ℕ → ℕ → List Carried → Type 0
+Long k start len frames = Steady k start len frames × (2 ^ k * cells flow 2 (runOf 2 start len (wire frames)) ≡ share flow 0 frames start len + 2 * deviation k)
+
+framed-shape : (k : ℕ) (a b : List ℕ) → Every (Shape 2 (2 ^ k)) (framed k a b)
+framed-shape k a b = (record { ports-are = refl; slots-are = refl }, (record { ports-are = refl; slots-are = refl }, tt))
+
+-- what is left after the first of the two edges, and what is before the second
+pub frames-short : (k : ℕ) → let rest = 2 ^ k - edge k in Short k (edge k) (rest + rest) (framed k (alone k) (behind k))
 unfolding load
-framed-short k =
+frames-short k =
     let n = 2 ^ k in
     let m = count k in
     let e = edge k in
@@ -283,4 +296,62 @@ framed-short k =
     let p = early first-of first-leans k m e refl refl in
     let q = early last-of last-leans k m e refl refl in
     let f : e + u ≡ n = omega arith in
-    omega (arith, ap (λ z. n * z) r, ap (λ z. n * z) x, ap (λ z. n * z) y, ap (λ z. z * m) f)
+    (record { shape = framed-shape k (alone k) (behind k); same = (refl, (refl, tt)); fits = omega arith },
+    omega (arith, ap (λ z. n * z) r, ap (λ z. n * z) x, ap (λ z. n * z) y, ap (λ z. z * m) f))
+
+-- from one edge to the other
+pub frames-long : (k : ℕ) → Long k (2 ^ k - edge k) (edge k + edge k) (framed k (behind k) (alone k))
+unfolding load
+frames-long k =
+    let n = 2 ^ k in
+    let m = count k in
+    let e = edge k in
+    let u = n - e in
+    let c = count-less k in
+    let g = edge-most k in
+    let s = over-share k m u e e (behind k) (alone k) refl refl (omega arith) (omega arith) in
+    let r = over-cells k m u e e (behind k) (alone k) refl refl (omega arith) (omega arith) in
+    let p = early first-of first-leans k m e refl refl in
+    let q = early last-of last-leans k m e refl refl in
+    (record { shape = framed-shape k (behind k) (alone k); same = (refl, (refl, tt)); fits = omega arith },
+    omega (arith, ap (λ z. n * z) r))
+
+-- ---- Build
+build-row : (k d c : ℕ) (buffer : List ℕ) → k ≤ 10 → d + c ≤ 2 ^ k → length buffer ≡ 2 ^ k * 2 → buildAccepts 2 (2 ^ k) (row d c) buffer ≡ true
+build-row k d c buffer h l e =
+    let v = levels-of k h in
+    accepts-yes 2 (2 ^ k) (row d c) buffer
+    (record { well = record { low = omega arith; high = omega arith; power = omega arith; square = refl }; size = e; fits = row-fits (2 ^ k) d c l })
+
+-- Build accepts a row after a row, and leaves their frames
+pub built-framed : (k d c d′ c′ : ℕ) (buffer : List ℕ) → k ≤ 10 → d + c ≤ 2 ^ k → d′ + c′ ≤ 2 ^ k → length buffer ≡ 2 ^ k * 2
+    → chain none buffer (once k (row d c) ∷ once k (row d′ c′) ∷ []) ≡ framed k (row d c) (row d′ c′)
+unfolding chain
+built-framed k d c d′ c′ buffer h l l′ e =
+    rw (build-row k d c buffer h l e, levels-of k h, build-row k d′ c′ (frameOf 2 k (row d c)) h l′ (frame-length 2 k (row d c)))
+
+-- The bound is reached: two calls of Build, accepted and carried once each, and a run over their seam that is short by all of it.
+pub reached : (k : ℕ) → k ≤ 10 → (buffer : List ℕ) → length buffer ≡ 2 ^ k * 2
+    → let rest = 2 ^ k - edge k in Short k (edge k) (rest + rest) (chain none buffer (once k (alone k) ∷ once k (behind k) ∷ []))
+reached k h buffer e =
+    let c = count-less k in
+    rw (built-framed k 0 (count k) (2 ^ k - count k) (count k) buffer h (omega arith) (omega arith) e) (frames-short k)
+
+-- The same two calls, the other way round: a run over their seam that has as much more than its share.
+pub reached-above : (k : ℕ) → k ≤ 10 → (buffer : List ℕ) → length buffer ≡ 2 ^ k * 2
+    → Long k (2 ^ k - edge k) (edge k + edge k) (chain none buffer (once k (behind k) ∷ once k (alone k) ∷ []))
+reached-above k h buffer e =
+    let c = count-less k in
+    rw (built-framed k (2 ^ k - count k) (count k) 0 (count k) buffer h (omega arith) (omega arith) e) (frames-long k)
+
+-- So no bound that is less holds of every list of Build calls, at any k that Build takes.
+pub none-sharper : (k bound : ℕ) → k ≤ 10
+    → ((buffer : List ℕ) (calls : List Call) → let frames = chain none buffer calls in Every (Shape 2 (2 ^ k)) frames → (start len : ℕ) → start + len ≤ length frames * 2 ^ k
+    → (c : Class) → Of 2 c → Near bound (2 ^ k * cells c 2 (runOf 2 start len (wire frames))) (share c 0 frames start len))
+    → 2 * deviation k ≤ bound
+none-sharper k bound h all =
+    let buffer : List ℕ = replicate (2 ^ k * 2) 0 in
+    let r = reached k h buffer (length-replicate (2 ^ k * 2) 0) in
+    let u = 2 ^ k - edge k in
+    let b = all buffer (once k (alone k) ∷ once k (behind k) ∷ []) (r .0 .shape) (edge k) (u + u) (r .0 .fits) flow (omega arith, omega arith) in
+    omega (arith, r .1, b .1)
