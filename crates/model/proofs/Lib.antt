@@ -20,6 +20,7 @@ pub mod Demand2
 pub mod Accuracy
 pub mod Demand3
 pub mod Tight
+pub mod OneInput
 pub mod Reached
 pub mod Queues
 pub mod Rows
