@@ -1,4 +1,4 @@
--- Rows: frames of two ports in which only the first input sends. Two odd counts of a row favour opposite halves, a lone one the first.
+-- One input: frames of two ports in which only the first input sends. Two odd counts of a row favour opposite halves, a lone one the first.
 use Prim.Native.Nat.{ℕ, suc, zero, _+_, _*_, _/_, _%_, _^_, _≤_}
 use mathlib.Core.Path.{_≡_, refl, ap, ap₂, _∙_}
 use mathlib.Core.Logic.{_≢_}
@@ -36,7 +36,8 @@ still : (n : ℕ) (go back : ℕ → ℕ) (p q h : ℕ) (c : List ℕ) → go p 
 still n go back p q h c e s = walk-off n go back p h c (rw e s)
 
 -- an odd count that is not settled has its group settled
-settle-on : (i o : ℕ → ℕ) (m : List ℕ) (p : ℕ) (c : List ℕ) → both (odd m p) (eqb (getD c p 0) 0) ≡ true → settleAt i o m p c ≡ groupOf m i o tieHalf p c
+settle-on : (i o : ℕ → ℕ) (m : List ℕ) (p : ℕ) (c : List ℕ) → both (odd m p) (eqb (getD c p 0) 0) ≡ true
+    → settleAt i o m p c ≡ groupOf m i o tieHalf p c
 unfolding settleAt
 settle-on i o m p c e = rw (e, settleAt)
 
@@ -47,7 +48,8 @@ alone-settled i o c e f g =
     ∙ ap (walk 4 o i 1 1) (still 3 i o 1 1 1 (row 0 1) f (omega arith))
     ∙ still 3 o i 1 1 1 (row 0 1) g (omega arith)
 
-full-settled : (i o : ℕ → ℕ) (d c : ℕ) → d % 2 ≡ 1 → c % 2 ≡ 1 → i 0 ≡ 1 → o 0 ≡ 0 → o 1 ≡ 1 → settle i o (row d c) (upFrom 0 4) (replicate 4 0) ≡ row 1 2
+full-settled : (i o : ℕ → ℕ) (d c : ℕ) → d % 2 ≡ 1 → c % 2 ≡ 1 → i 0 ≡ 1 → o 0 ≡ 0 → o 1 ≡ 1
+    → settle i o (row d c) (upFrom 0 4) (replicate 4 0) ≡ row 1 2
 unfolding settleAt
 full-settled i o d c e f g h k =
     ap (settleAt i o (row d c) 1)
@@ -100,8 +102,7 @@ pub row-parts : (j d c s t : ℕ) → d + c ≤ 2 ^ j → s + t ≡ 2 ^ j
     → cells flow 2 (runOf 2 0 s (frameOf 2 j (row d c))) + cells flow 2 (runOf 2 s t (frameOf 2 j (row d c))) ≡ c
 row-parts j d c s t h e =
     let f = frameOf 2 j (row d c) in
-    let sum : cells flow 2 (runOf 2 0 (s + t) f) ≡ cells flow 2 (runOf 2 0 s f) + cells flow 2 (runOf 2 s t f)
-    = rw zero-add at (cells-run 2 flow 0 s t f (omega (arith, frame-length 2 j (row d c)))) in
+    let sum : cells flow 2 (runOf 2 0 (s + t) f) ≡ cells flow 2 (runOf 2 0 s f) + cells flow 2 (runOf 2 s t f) = rw zero-add at (cells-run 2 flow 0 s t f (omega (arith, frame-length 2 j (row d c)))) in
     omega (arith, ap (λ z. cells flow 2 (runOf 2 0 z f)) e, row-cells j d c h)
 
 -- a run over the seam of v, of n slots, and w

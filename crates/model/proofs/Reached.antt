@@ -87,15 +87,15 @@ module _ (a : ℕ → ℕ → ℕ → ℕ) (l : Leans a) where
 
 -- ---- the two frames
 -- the pair alone, and behind another that fills the row
-abbrev pub alone : ℕ → ℕ → List ℕ
-alone j c = row 0 c
+abbrev pub alone : ℕ → List ℕ
+alone c = row 0 c
 
 abbrev pub behind : ℕ → ℕ → List ℕ
 behind j c = row (2 ^ j - c) c
 
 -- its cells in the first t slots of the one and in the last t slots of the other
 abbrev first-of : ℕ → ℕ → ℕ → ℕ
-first-of j c t = cells flow 2 (runOf 2 0 t (frameOf 2 j (alone j c)))
+first-of j c t = cells flow 2 (runOf 2 0 t (frameOf 2 j (alone c)))
 
 abbrev last-of : ℕ → ℕ → ℕ → ℕ
 last-of j c t = cells flow 2 (runOf 2 (2 ^ j - t) t (frameOf 2 j (behind j c)))
@@ -151,13 +151,14 @@ module _ (k m s t r : ℕ) (a b : List ℕ) (la : load flow 2 a ≡ m) (lb : loa
       let y : inside (0 + n) (0 + n + n) s (t + r) ≡ r = omega arith in
       rw (la, lb) (omega (arith, ap (λ z. m * z) x, ap (λ z. m * z) y))
 
-  over-cells : cells flow 2 (runOf 2 s (t + r) (wire (framed k a b))) ≡ cells flow 2 (runOf 2 s t (frameOf 2 k a)) + cells flow 2 (runOf 2 0 r (frameOf 2 k b))
+  over-cells : cells flow 2 (runOf 2 s (t + r) (wire (framed k a b)))
+      ≡ cells flow 2 (runOf 2 s t (frameOf 2 k a)) + cells flow 2 (runOf 2 0 r (frameOf 2 k b))
   unfolding wire
   over-cells =
       seam-cells (2 ^ k) s t r (frameOf 2 k a) (frameOf 2 k b ++ []) (frame-length 2 k a) e
       ∙ ap (λ z. cells flow 2 (runOf 2 s t (frameOf 2 k a)) + cells flow 2 z) (run-first 2 (2 ^ k) 0 r (frameOf 2 k b) [] (frame-length 2 k b) (omega arith))
 
--- The frames have two ports, 2 ^ k slots and one load of the pair, and the run is one of them.
+-- The frames have two ports, 2 ^ k slots and one load of the pair, and the run is inside them.
 pub record Steady (k start len : ℕ) (frames : List Carried) : Type 0 where
   pub shape : Every (Shape 2 (2 ^ k)) frames
   pub same : Every (λ f. load flow 2 (f .call .matrix) ≡ count k) frames
@@ -177,7 +178,7 @@ framed-shape : (k : ℕ) (a b : List ℕ) → Every (Shape 2 (2 ^ k)) (framed k 
 framed-shape k a b = (record { ports-are = refl; slots-are = refl }, (record { ports-are = refl; slots-are = refl }, tt))
 
 -- the run that is left of the first frame after its edge, and of the second before its edge
-pub frames-short : (k : ℕ) → let rest = 2 ^ k - edge k in Short k (edge k) (rest + rest) (framed k (alone k (count k)) (behind k (count k)))
+pub frames-short : (k : ℕ) → let rest = 2 ^ k - edge k in Short k (edge k) (rest + rest) (framed k (alone (count k)) (behind k (count k)))
 unfolding load
 frames-short k =
     let n = 2 ^ k in
@@ -186,19 +187,19 @@ frames-short k =
     let u = n - e in
     let small = count-less k in
     let most = edge-most k in
-    let s = over-share k m e u u (alone k m) (behind k m) refl refl (omega arith) (omega arith) in
-    let r = over-cells k m e u u (alone k m) (behind k m) refl refl (omega arith) (omega arith) in
+    let s = over-share k m e u u (alone m) (behind k m) refl refl (omega arith) (omega arith) in
+    let r = over-cells k m e u u (alone m) (behind k m) refl refl (omega arith) (omega arith) in
     let x = row-parts k 0 m e u (omega arith) (omega arith) in
     let y = row-parts k (n - m) m u e (omega arith) (omega arith) in
     let p = peak first-of first-leans k m e refl refl in
     let q = peak last-of last-leans k m e refl refl in
     let f : e + u ≡ n = omega arith in (
-      record { shape = framed-shape k (alone k m) (behind k m); same = (refl, (refl, tt)); fits = omega arith },
+      record { shape = framed-shape k (alone m) (behind k m); same = (refl, (refl, tt)); fits = omega arith },
       omega (arith, ap (λ z. n * z) r, ap (λ z. n * z) x, ap (λ z. n * z) y, ap (λ z. z * m) f),
     )
 
 -- the run from the edge of the one to the edge of the other
-pub frames-long : (k : ℕ) → Long k (2 ^ k - edge k) (edge k + edge k) (framed k (behind k (count k)) (alone k (count k)))
+pub frames-long : (k : ℕ) → Long k (2 ^ k - edge k) (edge k + edge k) (framed k (behind k (count k)) (alone (count k)))
 unfolding load
 frames-long k =
     let n = 2 ^ k in
@@ -207,25 +208,25 @@ frames-long k =
     let u = n - e in
     let small = count-less k in
     let most = edge-most k in
-    let s = over-share k m u e e (behind k m) (alone k m) refl refl (omega arith) (omega arith) in
-    let r = over-cells k m u e e (behind k m) (alone k m) refl refl (omega arith) (omega arith) in
+    let s = over-share k m u e e (behind k m) (alone m) refl refl (omega arith) (omega arith) in
+    let r = over-cells k m u e e (behind k m) (alone m) refl refl (omega arith) (omega arith) in
     let p = peak first-of first-leans k m e refl refl in
     let q = peak last-of last-leans k m e refl refl in (
-      record { shape = framed-shape k (behind k m) (alone k m); same = (refl, (refl, tt)); fits = omega arith },
+      record { shape = framed-shape k (behind k m) (alone m); same = (refl, (refl, tt)); fits = omega arith },
       omega (arith, ap (λ z. n * z) r),
     )
 
 -- ---- Build
 -- The bound is reached: two calls of Build, both accepted and carried once, and a run over their seam that is short by all of it.
 pub reached : (k : ℕ) → k ≤ 10 → (buffer : List ℕ) → length buffer ≡ 2 ^ k * 2
-    → let rest = 2 ^ k - edge k in Short k (edge k) (rest + rest) (chain none buffer (once k (alone k (count k)) ∷ once k (behind k (count k)) ∷ []))
+    → let rest = 2 ^ k - edge k in Short k (edge k) (rest + rest) (chain none buffer (once k (alone (count k)) ∷ once k (behind k (count k)) ∷ []))
 reached k h buffer e =
     let small = count-less k in
     rw (rows-framed k 0 (count k) (2 ^ k - count k) (count k) buffer h (omega arith) (omega arith) e) (frames-short k)
 
 -- The other way too: the same two calls, the second one first.
 pub reached-above : (k : ℕ) → k ≤ 10 → (buffer : List ℕ) → length buffer ≡ 2 ^ k * 2
-    → Long k (2 ^ k - edge k) (edge k + edge k) (chain none buffer (once k (behind k (count k)) ∷ once k (alone k (count k)) ∷ []))
+    → Long k (2 ^ k - edge k) (edge k + edge k) (chain none buffer (once k (behind k (count k)) ∷ once k (alone (count k)) ∷ []))
 reached-above k h buffer e =
     let small = count-less k in
     rw (rows-framed k (2 ^ k - count k) (count k) 0 (count k) buffer h (omega arith) (omega arith) e) (frames-long k)
@@ -240,5 +241,6 @@ none-sharper k bound h all =
     let buffer : List ℕ = replicate (2 ^ k * 2) 0 in
     let rest = 2 ^ k - edge k in
     let r = reached k h buffer (length-replicate (2 ^ k * 2) 0) in
-    let b = all buffer (once k (alone k (count k)) ∷ once k (behind k (count k)) ∷ []) (r .0 .shape) (edge k) (rest + rest) (r .0 .fits) flow (omega arith, omega arith) in
+    let calls : List Call = once k (alone (count k)) ∷ once k (behind k (count k)) ∷ [] in
+    let b = all buffer calls (r .0 .shape) (edge k) (rest + rest) (r .0 .fits) flow (omega arith, omega arith) in
     omega (arith, r .1, b .1)

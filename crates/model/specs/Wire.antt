@@ -66,13 +66,6 @@ pub record Shape (ports slots : ℕ) (f : Carried) : Type 0 where
   pub ports-are : f .call .ports ≡ ports
   pub slots-are : f .call .slots ≡ slots
 
--- How far the cells of a frame's first slots may be from their share, times 2 ^ k: half a cell in the middle of the frame, and at each
--- further halving half a cell more than the mean of the two depths before.
-unfoldable pub deviation : ℕ → ℕ
-deviation zero = 0
-deviation (suc zero) = 1
-deviation (suc (suc k)) = deviation (suc k) + 2 * deviation k + 2 ^ suc k
-
 -- Over a chain of frames of 2 ^ k slots: over any run of consecutive slots, none too, and for every pair, input and output,
 -- 3 × 2 ^ k × cells differs by at most (2k + 1) × 2 ^ k, either way, from three times the share times 2 ^ k.
 abbrev pub Accurate : ℕ → ℕ → List Carried → Type 0
@@ -95,14 +88,14 @@ deviation (suc zero) = 1
 deviation (suc (suc k)) = deviation (suc k) + 2 * deviation k + 2 ^ suc k
 
 -- 2 ^ k × the cells of a run differ by at most gap, either way, from its share times 2 ^ k.
-abbrev pub Within : ℕ → Class → ℕ → ℕ → List Carried → ℕ → ℕ → Type 0
-Within gap c ports k frames start len = Near gap (2 ^ k * cells c ports (runOf ports start len (wire frames))) (share c 0 frames start len)
+abbrev pub NearShare : ℕ → Class → ℕ → ℕ → List Carried → ℕ → ℕ → Type 0
+NearShare gap c ports k frames start len = Near gap (2 ^ k * cells c ports (runOf ports start len (wire frames))) (share c 0 frames start len)
 
 -- A run has two ends, each of which may be off by one deviation; an end where a frame begins or ends is off by nothing.
 pub record SharpRun (c : Class) (ports k : ℕ) (frames : List Carried) (start len : ℕ) : Type 0 where
-  pub any : Within (2 * deviation k) c ports k frames start len
-  pub begins-frame : (b : ℕ) → start ≡ b * 2 ^ k → Within (deviation k) c ports k frames start len
-  pub ends-frame : (b : ℕ) → start + len ≡ b * 2 ^ k → Within (deviation k) c ports k frames start len
+  pub any : NearShare (2 * deviation k) c ports k frames start len
+  pub begins-frame : (b : ℕ) → start ≡ b * 2 ^ k → NearShare (deviation k) c ports k frames start len
+  pub ends-frame : (b : ℕ) → start + len ≡ b * 2 ^ k → NearShare (deviation k) c ports k frames start len
 
 abbrev pub SharpOn : ℕ → ℕ → List Carried → Type 0
 SharpOn ports k frames = (start len : ℕ) → start + len ≤ length frames * 2 ^ k → (c : Class) → Of ports c → SharpRun c ports k frames start len
