@@ -11,7 +11,7 @@ use Rattle.model.specs.Words.{Near, Every}
 use Rattle.model.specs.Loads.{Class, Of, load}
 use Rattle.model.specs.Frames.{cells, runOf, Legal, Balanced}
 use Rattle.model.specs.Build.{buildAccepts, left}
-use Rattle.model.specs.Wire.{Call, Carried, Last, none, last, carry, next, chain, wire, inside, share, Shape, Accurate, Demand3, deviation, Within, SharpRun, SharpOn, Sharp}
+use Rattle.model.specs.Wire.{Call, Carried, Last, none, last, carry, next, chain, wire, inside, share, Shape, Accurate, Demand3, deviation, NearShare, SharpRun, SharpOn, Sharp}
 use Rattle.model.proofs.Cells.{cells-none, cells-run, run-none, run-first, run-second, run-all}
 use Rattle.model.proofs.Legal.{legal-exact}
 use Rattle.model.proofs.Accuracy.{deviation-most, prefix-sharp}
@@ -134,7 +134,7 @@ module _ (c : Class) (ports k : ℕ) (of : Of ports c) where
 
     -- a run is what is left of one prefix after another
     run-off : (start len x y gap : ℕ) → start + len ≤ length fs * 2 ^ k → OffAt x start → OffAt y (start + len) → x + y ≤ gap
-        → Within gap c ports k fs start len
+        → NearShare gap c ports k fs start len
     run-off start len x y gap fits one two most =
         let long : start * ports ≤ length fs * 2 ^ k * ports = mul-le-mul-right ports (omega arith) in
         let sum : cells c ports (runOf ports 0 (start + len) (wire fs)) ≡ cells c ports (runOf ports 0 start (wire fs)) + cells c ports (runOf ports start len (wire fs))

@@ -127,9 +127,8 @@ framed k a b = record { call = once k a; bytes = frameOf 2 k a } ∷ record { ca
 -- Build accepts a row of no more cells than slots
 pub row-accepted : (k d c : ℕ) (buffer : List ℕ) → k ≤ 10 → d + c ≤ 2 ^ k → length buffer ≡ 2 ^ k * 2 → buildAccepts 2 (2 ^ k) (row d c) buffer ≡ true
 row-accepted k d c buffer h l e =
-    let v = levels-of k h in
     accepts-yes 2 (2 ^ k) (row d c) buffer
-    (record { well = record { low = omega arith; high = omega arith; power = omega arith; square = refl }; size = e; fits = row-fits (2 ^ k) d c l })
+    (record { well = record { rack = (omega arith, omega arith); power = record { k = k; most = h; is = refl }; square = refl }; size = e; fits = row-fits (2 ^ k) d c l })
 
 -- so two such calls put their two frames on the wire
 pub rows-framed : (k d c d′ c′ : ℕ) (buffer : List ℕ) → k ≤ 10 → d + c ≤ 2 ^ k → d′ + c′ ≤ 2 ^ k → length buffer ≡ 2 ^ k * 2
