@@ -41,6 +41,7 @@ settle-on : (i o : ℕ → ℕ) (m : List ℕ) (p : ℕ) (c : List ℕ) → both
 unfolding settleAt
 settle-on i o m p c e = rw (e, settleAt)
 
+-- a lone odd count is the first of its group, and the whole of it
 alone-settled : (i o : ℕ → ℕ) (c : ℕ) → c % 2 ≡ 1 → i 1 ≡ 1 → o 1 ≡ 1 → settle i o (row 0 c) (upFrom 0 4) (replicate 4 0) ≡ row 0 1
 unfolding settleAt
 alone-settled i o c e f g =
@@ -48,6 +49,7 @@ alone-settled i o c e f g =
     ∙ ap (walk 4 o i 1 1) (still 3 i o 1 1 1 (row 0 1) f (omega arith))
     ∙ still 3 o i 1 1 1 (row 0 1) g (omega arith)
 
+-- two odd counts of a row are a group, and the first of them is first in it
 full-settled : (i o : ℕ → ℕ) (d c : ℕ) → d % 2 ≡ 1 → c % 2 ≡ 1 → i 0 ≡ 1 → o 0 ≡ 0 → o 1 ≡ 1
     → settle i o (row d c) (upFrom 0 4) (replicate 4 0) ≡ row 1 2
 unfolding settleAt
@@ -69,12 +71,14 @@ unfolding favours
 full-favours d c e f = full-settled (partner (portOf 2 inputs) (row d c)) (partner (portOf 2 outputs) (row d c)) d c e f (rw (e, f)) (rw (e, f)) (rw (e, f))
 
 -- ---- the halves of a frame
+-- of an odd count alone in its row the first half gets one more
 pub alone-halves : (j x : ℕ) → frameOf 2 (suc j) (row 0 (2 * x + 1)) ≡ frameOf 2 j (row 0 (x + 1)) ++ frameOf 2 j (row 0 x)
 unfolding frameOf
 alone-halves j x =
     let h : (2 * x + 1) / 2 ≡ x = omega arith in
     rw (alone-favours (2 * x + 1) (omega arith), h, add-zero x)
 
+-- of two odd counts of a row the first half gets one more of the first, and the second half one more of the other
 pub full-halves : (j y x : ℕ) → frameOf 2 (suc j) (row (2 * y + 1) (2 * x + 1)) ≡ frameOf 2 j (row (y + 1) x) ++ frameOf 2 j (row y (x + 1))
 unfolding frameOf
 full-halves j y x =

@@ -26,11 +26,13 @@ unfoldable pub edge : ℕ → ℕ
 edge zero = 0
 edge (suc j) = 2 ^ j - edge j
 
+-- the pair does not fill the frame
 count-less : (j : ℕ) → count j < 2 ^ j
 unfolding count
 count-less zero = omega arith
 count-less (suc j) = omega (arith, count-less j)
 
+-- the edge is inside the frame
 edge-most : (j : ℕ) → edge j ≤ 2 ^ j
 unfolding edge
 edge-most zero = omega arith
@@ -100,6 +102,7 @@ first-of j c t = cells flow 2 (runOf 2 0 t (frameOf 2 j (alone c)))
 abbrev last-of : ℕ → ℕ → ℕ → ℕ
 last-of j c t = cells flow 2 (runOf 2 (2 ^ j - t) t (frameOf 2 j (behind j c)))
 
+-- the pair alone leans to the first slots
 first-leans : Leans first-of
 unfolding cells runOf sumTo slotOf frameOf
 first-leans = record { idle = refl; busy = refl; near = near; far = far }
@@ -115,6 +118,7 @@ first-leans = record { idle = refl; busy = refl; near = near; far = far }
         ∙ seam-cells (2 ^ j) 0 (2 ^ j) t (frameOf 2 j (row 0 (x + 1))) (frameOf 2 j (row 0 x)) (frame-length 2 j (row 0 (x + 1))) (omega arith)
         ∙ ap (λ y. y + first-of j x t) (row-cells j 0 (x + 1) (omega arith))
 
+-- behind another, the second half gets the odd cell, and both halves of the row are full
 behind-halves : (j x : ℕ) → x < 2 ^ j → frameOf 2 (suc j) (behind (suc j) (2 * x + 1)) ≡ frameOf 2 j (behind j x) ++ frameOf 2 j (behind j (x + 1))
 behind-halves j x h =
     let y = 2 ^ j - (x + 1) in
@@ -122,6 +126,7 @@ behind-halves j x h =
     let f : y + 1 ≡ 2 ^ j - x = omega arith in
     ap (λ d. frameOf 2 (suc j) (row d (2 * x + 1))) e ∙ full-halves j y x ∙ ap (λ d. frameOf 2 j (row d x) ++ frameOf 2 j (row y (x + 1))) f
 
+-- so it leans to the last slots
 last-leans : Leans last-of
 unfolding cells runOf sumTo slotOf frameOf
 last-leans = record { idle = refl; busy = refl; near = near; far = far }
@@ -143,6 +148,7 @@ last-leans = record { idle = refl; busy = refl; near = near; far = far }
 
 -- ---- runs over the seam
 module _ (k m s t r : ℕ) (a b : List ℕ) (la : load flow 2 a ≡ m) (lb : load flow 2 b ≡ m) (e : s + t ≡ 2 ^ k) (h : r ≤ 2 ^ k) where
+  -- the share is the load times the slots on each side
   over-share : share flow 0 (framed k a b) s (t + r) ≡ m * t + m * r
   unfolding share
   over-share =
@@ -151,6 +157,7 @@ module _ (k m s t r : ℕ) (a b : List ℕ) (la : load flow 2 a ≡ m) (lb : loa
       let y : inside (0 + n) (0 + n + n) s (t + r) ≡ r = omega arith in
       rw (la, lb) (omega (arith, ap (λ z. m * z) x, ap (λ z. m * z) y))
 
+  -- the cells are those of the two sides
   over-cells : cells flow 2 (runOf 2 s (t + r) (wire (framed k a b)))
       ≡ cells flow 2 (runOf 2 s t (frameOf 2 k a)) + cells flow 2 (runOf 2 0 r (frameOf 2 k b))
   unfolding wire
@@ -174,6 +181,7 @@ abbrev pub Long : ℕ → ℕ → ℕ → List Carried → Type 0
 Long k start len frames =
     Steady k start len frames × (2 ^ k * cells flow 2 (runOf 2 start len (wire frames)) ≡ share flow 0 frames start len + 2 * deviation k)
 
+-- the two frames have one shape
 framed-shape : (k : ℕ) (a b : List ℕ) → Every (Shape 2 (2 ^ k)) (framed k a b)
 framed-shape k a b = (record { ports-are = refl; slots-are = refl }, (record { ports-are = refl; slots-are = refl }, tt))
 
