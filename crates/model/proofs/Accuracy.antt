@@ -15,7 +15,7 @@ use Rattle.model.proofs.Blocks.{block-fits}
 use Rattle.model.proofs.Legal.{legal-exact}
 use Rattle.model.proofs.OneFrame.{double}
 
--- ---- the deviation: twice as much at least with each halving, so that in cells it rises, and by less than a cell
+-- ---- the deviation: with each halving twice as much at least, so that in cells it rises, and by a cell at most
 pub deviation-rises : (d : ℕ) → (2 * deviation d ≤ deviation (suc d)) × (deviation (suc d) ≤ 2 * deviation d + 2 ^ suc d)
 unfolding deviation
 deviation-rises zero = (omega arith, omega arith)

@@ -22,13 +22,13 @@ scheduledOn c ports frames t = cells c ports (runOf ports t 1 (wire frames))
 unfoldable pub arrived : (ℕ → ℕ) → ℕ → ℕ → ℕ
 arrived arrive start len = sumTo len (λ t. arrive (start + t))
 
--- In no run of the first slots do more cells arrive than the run's share and an allowance a; the share and a are times 2 ^ k.
+-- In no run of the first slots do more cells arrive than the run's share and an allowance a, both in parts of 1 / 2 ^ k of a cell.
 abbrev pub Paced : ℕ → ℕ → ℕ → (ℕ → ℕ → ℕ) → (ℕ → ℕ) → Type 0
 Paced k a slots shareOf arrive =
     (start len : ℕ) → start + len ≤ slots → 2 ^ k * arrived arrive start len ≤ shareOf start len + a
 
--- After slot t at most a + 2 × deviation k wait, and just before its cell leaves at most the share of that slot more; nothing
--- is rounded: both sides are times 2 ^ k. 2 × deviation k is never above (2k + 1) × 2 ^ k / 3, demand 3's bound.
+-- After slot t at most a + 2 × deviation k parts of 1 / 2 ^ k of a cell wait, and just before its cell leaves at most the share
+-- of that slot more. Nothing is rounded. With demand 3's bound, never below that: a / 2 ^ k + (2k + 1)/3 cells.
 pub record Held (k a : ℕ) (shareOf : ℕ → ℕ → ℕ) (arrive scheduled : ℕ → ℕ) (t : ℕ) : Type 0 where
   pub after : 2 ^ k * waiting arrive scheduled (suc t) ≤ a + 2 * deviation k
   pub before : 2 ^ k * (waiting arrive scheduled t + arrive t) ≤ a + 2 * deviation k + shareOf t 1

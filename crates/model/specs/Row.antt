@@ -18,8 +18,8 @@ abbrev pub Sends : Type 0
 Sends =
     (buffer : List ℕ) (calls : List Call) (ports k : ℕ) → Every (Shape ports (2 ^ k)) (chain none buffer calls)
     → (c : Class) → Of ports c → (arrive : ℕ → ℕ)
-    → Paced k (2 * deviation k) (length (chain none buffer calls) * 2 ^ k) (share c 0 (chain none buffer calls))
-    (sent arrive (scheduledOn c ports (chain none buffer calls)))
+    → let frames = chain none buffer calls in
+    Paced k (2 * deviation k) (length frames * 2 ^ k) (share c 0 frames) (sent arrive (scheduledOn c ports frames))
 
 -- A switch of the row: its frame buffer and its list of Build calls, its ports, the flow as it is counted there, and how many
 -- slots later what it sends is at the next switch.
@@ -55,7 +55,7 @@ HeldAlong k m a (h ∷ hops) arrive =
     × HeldAlong k m a hops (onward h arrive)
 
 -- Behind a switch, whatever comes to that one, every switch of a row of any length holds the flow with the allowance
--- 2 × deviation k: after each slot at most 4 × deviation k wait, times 1 / 2 ^ k, at the last switch as at the second.
+-- 2 × deviation k: after each slot at most 4 × deviation k parts of 1 / 2 ^ k of a cell wait, at the last switch as at the second.
 abbrev pub Row : Type 0
 Row =
     (k m : ℕ) (h : Hop) (hops : List Hop) → Every (Reserved k m) (h ∷ hops)

@@ -80,18 +80,18 @@ Demand3 =
     (buffer : List ℕ) (calls : List Call) (ports k : ℕ)
     → Every (Shape ports (2 ^ k)) (chain none buffer calls) → Accurate ports k (chain none buffer calls)
 
--- How far the cells of a frame's first slots may be from their share, in parts of 1 / 2 ^ k of a cell: the middle of a balanced
--- block is within half a cell of the mean of its ends, one of which the halving before made, and the other an earlier one.
+-- How far the cells of the first slots of a frame of 2 ^ k may be from their share, in parts of 1 / 2 ^ k of a cell: the middle of
+-- a block is within half a cell of the mean of its ends, one of which the halving before made, and the other an earlier one.
 unfoldable pub deviation : ℕ → ℕ
 deviation zero = 0
 deviation (suc zero) = 1
 deviation (suc (suc k)) = deviation (suc k) + 2 * deviation k + 2 ^ suc k
 
--- 2 ^ k × the cells of a run differ by at most gap, either way, from its share times 2 ^ k.
+-- The cells of a run differ by at most gap, either way, from its share, in parts of 1 / 2 ^ k of a cell.
 abbrev pub NearShare : ℕ → Class → ℕ → ℕ → List Carried → ℕ → ℕ → Type 0
 NearShare gap c ports k frames start len = Near gap (2 ^ k * cells c ports (runOf ports start len (wire frames))) (share c 0 frames start len)
 
--- A run has two ends, each of which may be off by one deviation; an end where a frame begins or ends is off by nothing.
+-- Each end of a run may be off by one deviation; an end that is the beginning or the end of a frame is not off at all.
 pub record SharpRun (c : Class) (ports k : ℕ) (frames : List Carried) (start len : ℕ) : Type 0 where
   pub any : NearShare (2 * deviation k) c ports k frames start len
   pub begins-frame : (b : ℕ) → start ≡ b * 2 ^ k → NearShare (deviation k) c ports k frames start len
