@@ -1,6 +1,6 @@
 -- Queues: how many cells of a flow wait at most, for every list of Build calls.
 use Prim.Native.Nat.{ℕ, suc, zero, _+_, _*_, _-_, _^_, _≤_, _<_, min, max}
-use mathlib.Core.Path.{_≡_, refl, ap, subst, sym, _∙_}
+use mathlib.Core.Path.{_≡_, refl, ap, sym, _∙_}
 use mathlib.Core.List.{List, [], _∷_}
 use native.Mathlib.Nat.{mul-le-mul-right, mul-le-mul-left}
 use native.Mathlib.Omega.{arith}
@@ -9,8 +9,8 @@ use lib.ListN.{length}
 use Rattle.model.specs.Words.{sumTo, Every}
 use Rattle.model.specs.Loads.{Class, Of, load}
 use Rattle.model.specs.Frames.{cells, runOf}
-use Rattle.model.specs.Wire.{Call, Carried, none, chain, wire, inside, share, Shape, deviation}
-use Rattle.model.specs.Queue.{waiting, scheduledOn, arrived, Paced, Held, HeldOn, Buffers, BuffersAtSeams}
+use Rattle.model.specs.Wire.{Carried, none, chain, wire, inside, share, Shape, deviation}
+use Rattle.model.specs.Queue.{waiting, scheduledOn, arrived, Paced, HeldOn, Buffers, BuffersAtSeams}
 use Rattle.model.proofs.Sums.{sum-more}
 use Rattle.model.proofs.Cells.{cells-none, cells-run, run-none}
 use Rattle.model.proofs.Demand3.{Sound, Good, good-of, wire-length, share-split, run-sharp, chain-sound}

@@ -1,6 +1,6 @@
 -- Rows: what a switch sends keeps to the flow's share, so the next switch holds it, and so does every one after that.
-use Prim.Native.Nat.{ℕ, suc, zero, _+_, _*_, _-_, _^_, _≤_, _<_}
-use mathlib.Core.Path.{_≡_, refl, ap, _∙_}
+use Prim.Native.Nat.{ℕ, suc, zero, _+_, _*_, _-_, _^_, _≤_}
+use mathlib.Core.Path.{_≡_, ap}
 use mathlib.Core.List.{List, [], _∷_}
 use native.Mathlib.Nat.{mul-le-mul-right, mul-le-mul-left}
 use native.Mathlib.Omega.{arith}
@@ -8,14 +8,14 @@ use lib.Dec.{ltb}
 use lib.ListN.{length}
 use borrow.Author.Tests.{le-ltb, lt-ltb}
 use Rattle.model.specs.Words.{if, sumTo, Every}
-use Rattle.model.specs.Loads.{Class, Of, load}
-use Rattle.model.specs.Wire.{Call, Carried, none, chain, wire, share, Shape, deviation}
-use Rattle.model.specs.Queue.{waiting, scheduledOn, arrived, Paced, Held}
+use Rattle.model.specs.Loads.{Class, Of}
+use Rattle.model.specs.Wire.{Carried, none, chain, wire, share, deviation}
+use Rattle.model.specs.Queue.{waiting, scheduledOn, arrived, Paced}
 use Rattle.model.specs.Row.{sent, Sends, Hop, framesAt, scheduledAt, Reserved, onward, HeldAlong, Row}
 use Rattle.model.proofs.Cases.{byLt}
 use Rattle.model.proofs.Sums.{sum-append, sum-le}
 use Rattle.model.proofs.Cells.{cells-beyond}
-use Rattle.model.proofs.Demand3.{Sound, Good, good-of, wire-length, run-sharp, chain-sound}
+use Rattle.model.proofs.Demand3.{Good, good-of, wire-length, run-sharp, chain-sound}
 use Rattle.model.proofs.Queues.{served, share-is, sound-steady}
 
 module _ (arrive scheduled : ℕ → ℕ) where
@@ -106,7 +106,8 @@ module _ (k m : ℕ) where
       (always (h .flow) (h .ports) k (r .flow-of) (framesAt h) good arrive m is) start len
 
   -- and every switch after the first holds the flow.
-  pub row-held : (a : ℕ) → 2 * deviation k ≤ a → (h : Hop) (hops : List Hop) → Every (Reserved k m) (h ∷ hops) → (arrive : ℕ → ℕ) → HeldAlong k m a hops (onward h arrive)
+  pub row-held : (a : ℕ) → 2 * deviation k ≤ a → (h : Hop) (hops : List Hop) → Every (Reserved k m) (h ∷ hops) → (arrive : ℕ → ℕ)
+      → HeldAlong k m a hops (onward h arrive)
   row-held a enough h [] r arrive = tt
   row-held a enough h (g ∷ hops) r arrive = (
     sound-steady (g .ports) k (framesAt g) (chain-sound none (g .buffer) (g .calls) tt) (r .1 .0 .shape) (g .flow) (r .1 .0 .flow-of) m (r .1 .0 .steady)

@@ -1,5 +1,6 @@
--- The bound of demand 3 is reached, and a flow's queue is as deep as it allows: document 01's seam load, k = 1, two ports. A frame of pair (1, 2) alone with 1 cell, then
--- a frame of (1, 1) and (1, 2) with 1 each: the last slot of the first and the first slot of the second have no cell of (1, 2).
+-- The bound of demand 3 is reached, and a flow's queue is as deep as it allows, behind another switch too: document 01's seam
+-- load, k = 1, two ports. A frame of pair (1, 2) alone with 1 cell, then a frame of (1, 1) and (1, 2) with 1 each: the last slot
+-- of the first and the first slot of the second have no cell of (1, 2). The sharp bound is reached for larger k besides.
 use Prim.Native.Nat.{ℕ, suc, zero, _+_, _*_, _-_, _^_, _≤_, min}
 use mathlib.Core.Path.{_≡_, refl}
 use mathlib.Core.List.{List, [], _∷_}
