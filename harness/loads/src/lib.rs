@@ -25,13 +25,17 @@ macro_rules! kinds {
 }
 
 mod damage;
+mod flow;
 mod hostile;
 mod load;
 mod random;
+mod seam;
 mod sheet;
 
 pub use damage::{damage, Damage};
+pub use flow::{Company, Flow};
 pub use hostile::{hostile_length, hostile_number, LengthKind, HOSTILE};
 pub use load::{full_load, junk_number, load, load_of_shape, random_shape, Call, LoadKind, Shape};
 pub use random::Random;
+pub use seam::{Seam, SEAMS};
 pub use sheet::{sheet, SheetKind};

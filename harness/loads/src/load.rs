@@ -133,20 +133,20 @@ pub fn full_load(shape: Shape, cells: usize, random: &mut Random) -> Call {
 }
 
 /// A matrix under construction, ports counted from 0.
-struct Grid {
+pub(crate) struct Grid {
     shape: Shape,
     counts: Vec<u16>,
 }
 
 impl Grid {
-    fn new(shape: Shape) -> Grid {
+    pub(crate) fn new(shape: Shape) -> Grid {
         Grid {
             shape,
             counts: vec![0; shape.ports * shape.ports],
         }
     }
 
-    fn into_call(self) -> Call {
+    pub(crate) fn into_call(self) -> Call {
         Call {
             ports: self.shape.ports as u64,
             slots: self.shape.slots as u64,
@@ -155,7 +155,7 @@ impl Grid {
         }
     }
 
-    fn at(&mut self, input: usize, output: usize) -> &mut u16 {
+    pub(crate) fn at(&mut self, input: usize, output: usize) -> &mut u16 {
         &mut self.counts[input * self.shape.ports + output]
     }
 
@@ -178,12 +178,24 @@ impl Grid {
 
     /// Gives random pairs a random part of the room their two ports have left.
     fn scatter(&mut self, pairs: usize, random: &mut Random) {
+        let room = vec![self.shape.slots; self.shape.ports];
+        self.scatter_in(pairs, [room.clone(), room], random);
+    }
+
+    /// The same where each input and each output has so much room; pairs that have cells keep them.
+    pub(crate) fn scatter_in(
+        &mut self,
+        pairs: usize,
+        [mut input_room, mut output_room]: [Vec<usize>; 2],
+        random: &mut Random,
+    ) {
         let ports = self.shape.ports;
-        let mut input_room = vec![self.shape.slots; ports];
-        let mut output_room = input_room.clone();
         for place in random.permutation(ports * ports).into_iter().take(pairs) {
             let (input, output) = (place / ports, place % ports);
             let room = input_room[input].min(output_room[output]);
+            if self.counts[place] > 0 {
+                continue;
+            }
             let count = random.between(0, room as u64) as usize;
             self.counts[place] = count as u16;
             input_room[input] -= count;

@@ -1,17 +1,43 @@
-//! The queue of one flow at a line card, slot by slot.
+//! The queue of one flow at a line card, slot by slot, and along a row of switches.
 
-use crate::query::Class;
-use crate::wire::{bound, chain_length, slots_of, Frame, Run};
+use crate::wire::{deviation, Course};
 
 /// Cells that come in as fast as they may: none before slot `from`, and in no run of slots more than the flow's share of
-/// the run and `ahead` cells more.
+/// the run and `ahead` more, which is in parts of 1/2^k of a cell.
 #[derive(Clone, Copy, Debug)]
 pub struct Source {
     pub from: usize,
     pub ahead: u64,
 }
 
-/// How far the queue stood at most from what is allowed, in 3 × 2^k parts of a cell; above 0 is too deep.
+impl Source {
+    /// The cells that come in in each slot of the course.
+    pub fn arrivals(self, course: &Course) -> Vec<u64> {
+        let mut arrivals = vec![0; course.given.len()];
+        let mut credit = self.ahead;
+        let slots = arrivals.iter_mut().zip(&course.given);
+        for (arrived, slot) in slots.skip(self.from) {
+            credit = credit.min(self.ahead) + slot.load;
+            *arrived = credit / course.slots;
+            credit %= course.slots;
+        }
+        arrivals
+    }
+}
+
+/// What came of the cells that a flow brought to a switch.
+#[derive(Clone, Debug, PartialEq, Eq)]
+pub struct Passed {
+    /// The cells that left in each slot.
+    pub sent: Vec<u64>,
+    /// The most cells that waited after a slot.
+    pub waiting: u64,
+    /// The most that waited just before a slot's cell left, less the slot's share, in parts of 1/2^k of a cell.
+    before: i128,
+    slots: u64,
+}
+
+/// How far the queue stood at most from what is allowed, in parts of 1/2^k of a cell; above 0 is too deep.
 #[derive(Clone, Copy, Debug, PartialEq, Eq)]
 pub struct Depth {
     /// After a slot.
@@ -20,46 +46,59 @@ pub struct Depth {
     pub before: i128,
 }
 
-/// What waits, and what may still come in, in 2^k parts of a cell.
-struct Queue {
-    waiting: u64,
-    credit: u64,
-}
-
-impl Queue {
-    /// One slot: the cells that join it, and how many wait before its cell leaves.
-    fn join(&mut self, source: Source, slots: u64, load: u64) -> u64 {
-        self.credit = u64::min(self.credit, source.ahead * slots) + load;
-        let arrived = self.credit / slots;
-        self.credit -= arrived * slots;
-        self.waiting += arrived;
-        self.waiting
+impl Passed {
+    /// The depth where the cells came in by no more than `ahead` parts of 1/2^k of a cell before their share.
+    pub fn depth(&self, ahead: u64) -> Depth {
+        let allowed = i128::from(ahead) + 2 * deviation(self.slots.trailing_zeros());
+        Depth {
+            after: i128::from(self.slots) * i128::from(self.waiting) - allowed,
+            before: self.before - allowed,
+        }
     }
 }
 
-/// Runs the queue of a class over a chain of frames of one shape.
-pub fn depth_on(chain: &[Frame], class: Class, source: Source) -> Depth {
-    let slots = chain.first().map_or(1, |frame| frame.slots);
-    let parts = |cells: u64| 3 * i128::from(slots) * i128::from(cells);
-    let allowed = parts(source.ahead) + bound(slots);
-    let mut depth = Depth {
-        after: -allowed,
-        before: -allowed,
-    };
-    let mut queue = Queue {
+/// Runs the flow's queue: cells join before the slot's own cell leaves.
+pub fn pass(course: &Course, arrivals: &[u64]) -> Passed {
+    let mut passed = Passed {
+        sent: Vec::with_capacity(arrivals.len()),
         waiting: 0,
-        credit: source.ahead * slots,
+        before: 0,
+        slots: course.slots,
     };
-    let run = Run {
-        start: source.from,
-        length: chain_length(chain).saturating_sub(source.from),
-    };
-    for (frame, slot) in slots_of(chain, run) {
-        let load = frame.load_of(class);
-        let before = parts(queue.join(source, slots, load)) - 3 * i128::from(load);
-        depth.before = depth.before.max(before - allowed);
-        queue.waiting = queue.waiting.saturating_sub(class.cells_in_slot(slot));
-        depth.after = depth.after.max(parts(queue.waiting) - allowed);
+    let mut queue = 0;
+    for (slot, arrived) in course.given.iter().zip(arrivals) {
+        queue += arrived;
+        let parts = i128::from(course.slots) * i128::from(queue);
+        passed.before = passed.before.max(parts - i128::from(slot.load));
+        let sent = slot.cells.min(queue);
+        queue -= sent;
+        passed.waiting = passed.waiting.max(queue);
+        passed.sent.push(sent);
     }
-    depth
+    passed
+}
+
+/// How far ahead of its share a switch can send a flow, in parts of 1/2^k of a cell.
+pub fn ahead_behind_a_switch(k: u32) -> u64 {
+    2 * deviation(k) as u64
+}
+
+/// A switch of a row: what it gives the flow, and how many slots later than sent the cells reach it.
+#[derive(Clone, Debug)]
+pub struct Switch {
+    pub course: Course,
+    pub delay: usize,
+}
+
+/// Runs a flow's queues along a row of switches, each fed with what the one before it sent.
+pub fn pass_row(row: &[Switch], arrivals: &[u64]) -> Vec<Passed> {
+    let mut coming = arrivals.to_vec();
+    let switches = row.iter().map(|switch| {
+        let late = std::iter::repeat_n(0, switch.delay);
+        let arrivals: Vec<u64> = late.chain(coming.iter().copied()).collect();
+        let passed = pass(&switch.course, &arrivals);
+        coming.clone_from(&passed.sent);
+        passed
+    });
+    switches.collect()
 }

@@ -14,7 +14,7 @@ pub struct Frame {
 
 impl Frame {
     /// The load of the class in this frame.
-    pub(crate) fn load_of(&self, class: Class) -> u64 {
+    fn load_of(&self, class: Class) -> u64 {
         match class {
             Class::Pair { input, output } => {
                 u64::from(self.matrix[place_of(self.ports, input, output)])
@@ -24,17 +24,15 @@ impl Frame {
         }
     }
 
-    /// The frame's slots in turn.
-    fn each_slot(&self) -> impl Iterator<Item = &[u8]> {
-        self.bytes.chunks(self.ports as usize)
+    /// What the class is given in each slot.
+    fn each_slot(&self, class: Class) -> impl Iterator<Item = Slot> + '_ {
+        let load = self.load_of(class);
+        let slots = self.bytes.chunks(self.ports as usize);
+        slots.map(move |slot| Slot {
+            load,
+            cells: class.cells_in_slot(slot),
+        })
     }
-}
-
-/// Consecutive slots of a chain; the first slot of the chain is slot 0.
-#[derive(Clone, Copy, Debug, PartialEq, Eq)]
-pub struct Run {
-    pub start: usize,
-    pub length: usize,
 }
 
 /// Whether all frames have one number of ports and one of slots, as the rule asks.
@@ -45,75 +43,147 @@ pub fn is_chain(frames: &[Frame]) -> bool {
     })
 }
 
-/// The slots of the whole chain.
-pub fn chain_length(chain: &[Frame]) -> usize {
-    chain.iter().map(|frame| frame.slots as usize).sum()
+/// Consecutive slots of a chain; the first slot of the chain is slot 0.
+#[derive(Clone, Copy, Debug, PartialEq, Eq)]
+pub struct Run {
+    pub start: usize,
+    pub length: usize,
 }
 
-/// The slots of a run with the frame each lies in.
-pub(crate) fn slots_of(chain: &[Frame], run: Run) -> impl Iterator<Item = (&Frame, &[u8])> {
-    chain
-        .iter()
-        .flat_map(|frame| frame.each_slot().map(move |slot| (frame, slot)))
-        .skip(run.start)
-        .take(run.length)
+/// A class's cells in a slot, and its load in the frame that the slot is in.
+#[derive(Clone, Copy, Debug, PartialEq, Eq)]
+pub struct Slot {
+    pub load: u64,
+    pub cells: u64,
 }
 
-/// The cells of the class in the run.
-pub fn cells(chain: &[Frame], class: Class, run: Run) -> u128 {
-    slots_of(chain, run)
-        .map(|(_, slot)| u128::from(class.cells_in_slot(slot)))
-        .sum()
+/// What a chain gives one class, slot by slot.
+#[derive(Clone, Debug)]
+pub struct Course {
+    /// The slots of a frame, 2^k.
+    pub slots: u64,
+    pub given: Vec<Slot>,
 }
 
-/// The run's share times 2^k: each slot adds its frame's load once.
-pub fn share_sum(chain: &[Frame], class: Class, run: Run) -> u128 {
-    slots_of(chain, run)
-        .map(|(frame, _)| u128::from(frame.load_of(class)))
-        .sum()
-}
+impl Course {
+    /// Counts the bytes of a chain.
+    pub fn of(chain: &[Frame], class: Class) -> Course {
+        Course {
+            slots: chain.first().map_or(1, |frame| frame.slots),
+            given: chain
+                .iter()
+                .flat_map(|frame| frame.each_slot(class))
+                .collect(),
+        }
+    }
 
-/// 3 × 2^k × cells less three times the share sum; nothing is rounded.
-pub fn difference(chain: &[Frame], class: Class, run: Run) -> i128 {
-    let Some(first) = chain.first() else { return 0 };
-    let carried = 3 * u128::from(first.slots) * cells(chain, class, run);
-    carried as i128 - 3 * share_sum(chain, class, run) as i128
-}
+    /// The k of 2^k slots.
+    pub fn k(&self) -> u32 {
+        self.slots.trailing_zeros()
+    }
 
-/// (2k + 1) × 2^k for frames of 2^k slots.
-pub fn bound(slots: u64) -> i128 {
-    let k = i128::from(slots.trailing_zeros());
-    (2 * k + 1) * i128::from(slots)
-}
+    fn run(&self, run: Run) -> &[Slot] {
+        &self.given[run.start..][..run.length]
+    }
 
-/// Demand 3 for one class and one run.
-pub fn has_its_share(chain: &[Frame], class: Class, run: Run) -> bool {
-    match chain.first() {
-        Some(first) => difference(chain, class, run).abs() <= bound(first.slots),
-        None => true,
+    /// The cells of the class in the run.
+    pub fn cells(&self, run: Run) -> u128 {
+        self.run(run)
+            .iter()
+            .map(|slot| u128::from(slot.cells))
+            .sum()
+    }
+
+    /// The run's share times 2^k: each slot adds its frame's load once.
+    pub fn share(&self, run: Run) -> u128 {
+        self.run(run).iter().map(|slot| u128::from(slot.load)).sum()
+    }
+
+    /// How far the class is ahead of its share in the run, in parts of 1/2^k of a cell; below 0 is behind. Nothing is rounded.
+    pub fn lead(&self, run: Run) -> i128 {
+        (u128::from(self.slots) * self.cells(run)) as i128 - self.share(run) as i128
+    }
+
+    /// Demand 3 and the sharp bound for one run.
+    pub fn has_its_share(&self, run: Run) -> bool {
+        let lead = self.lead(run).abs();
+        3 * lead <= demanded(self.k()) && lead <= self.most(run)
+    }
+
+    /// The sharp bound of a run's lead, ahead or behind: `deviation` where it begins with a frame, else twice that.
+    fn most(&self, run: Run) -> i128 {
+        if self.begins_a_frame(run.start) {
+            deviation(self.k())
+        } else {
+            2 * deviation(self.k())
+        }
+    }
+
+    fn begins_a_frame(&self, slot: usize) -> bool {
+        slot.is_multiple_of(self.slots as usize)
+    }
+
+    /// The run on which the class strays furthest from its share.
+    pub fn furthest_run(&self) -> Run {
+        let anywhere = |_| true;
+        further(self.greatest(1, anywhere), self.greatest(-1, anywhere))
+    }
+
+    /// The run on which the class falls furthest behind its share.
+    pub fn furthest_behind(&self) -> Run {
+        self.greatest(-1, |_| true).1
+    }
+
+    /// The furthest of the runs that begin with a frame.
+    pub fn furthest_from_a_frame(&self) -> Run {
+        let with_a_frame = |slot| self.begins_a_frame(slot);
+        further(
+            self.greatest(1, with_a_frame),
+            self.greatest(-1, with_a_frame),
+        )
+    }
+
+    /// Of the runs that may begin where they do, the one whose lead times the sign is greatest, after that product.
+    fn greatest(&self, sign: i128, may_begin: impl Fn(usize) -> bool) -> (i128, Run) {
+        let slots = i128::from(self.slots);
+        let (mut lead, mut least) = (0, (0, 0));
+        let (mut greatest, mut start, mut end) = (0, 0, 0);
+        for (place, slot) in (0..).zip(&self.given) {
+            if lead < least.0 && may_begin(place) {
+                least = (lead, place);
+            }
+            lead += sign * (slots * i128::from(slot.cells) - i128::from(slot.load));
+            if lead - least.0 > greatest {
+                (greatest, start, end) = (lead - least.0, least.1, place + 1);
+            }
+        }
+        let length = end - start;
+        (greatest, Run { start, length })
     }
 }
 
-/// The run of the chain on which the class strays furthest from its share.
+/// The run with the greater number before it.
+fn further(one: (i128, Run), other: (i128, Run)) -> Run {
+    if one.0 < other.0 {
+        other.1
+    } else {
+        one.1
+    }
+}
+
+/// Three times the bound of demand 3 in parts of 1/2^k of a cell: (2k + 1) × 2^k.
+pub fn demanded(k: u32) -> i128 {
+    i128::from(2 * k + 1) << k
+}
+
+/// How far a class can be from its share, in parts of 1/2^k of a cell, after the first slots of a frame of 2^k.
 ///
-/// A run strays by what builds up between its two ends, so the furthest run
-/// lies between the highest and the lowest lead seen anywhere on the chain.
-pub fn furthest_run(chain: &[Frame], class: Class) -> Run {
-    let mut lead = 0_i128;
-    let (mut highest, mut lowest) = ((0, 0), (0, 0));
-    let whole = Run {
-        start: 0,
-        length: chain_length(chain),
-    };
-    for (place, (frame, slot)) in (1..).zip(slots_of(chain, whole)) {
-        let cells = u128::from(frame.slots) * u128::from(class.cells_in_slot(slot));
-        lead += cells as i128 - i128::from(frame.load_of(class));
-        highest = highest.max((lead, place));
-        lowest = lowest.min((lead, place));
-    }
-    let start = usize::min(highest.1, lowest.1);
-    Run {
-        start,
-        length: usize::max(highest.1, lowest.1) - start,
+/// Each place in a frame is the middle of one block, and there within half a cell of the mean of the block's two ends. Of
+/// these one is the middle of the block's own parent, the other that of a block before it, or an end of the frame.
+pub fn deviation(k: u32) -> i128 {
+    match k {
+        0 => 0,
+        1 => 1,
+        _ => deviation(k - 1) + 2 * deviation(k - 2) + (1 << (k - 1)),
     }
 }

@@ -1,6 +1,6 @@
 //! The bench loads of the paper, worked by hand.
 
-use reference::wire::{self, Frame, Run};
+use reference::wire::{self, Course, Frame, Run};
 use reference::{
     admit, build, inspect, respond, service_count, slot_view, Class, Inspection, Refusal,
 };
@@ -105,16 +105,16 @@ fn count_across_the_end_of_the_frame() {
         matrix: TABLE_7.to_vec(),
         bytes: TABLE_7_FRAME.to_vec(),
     };
-    let chain = [frame.clone(), frame];
+    let course = Course::of(&[frame.clone(), frame], class);
     let run = Run {
         start: 3,
         length: 2,
     };
-    assert_eq!(wire::cells(&chain, class, run), 2);
-    assert_eq!(wire::share_sum(&chain, class, run), 4);
-    assert_eq!(wire::bound(4), 5 * 4);
-    assert_eq!(wire::difference(&chain, class, run), 3 * 4);
-    assert!(wire::has_its_share(&chain, class, run));
+    assert_eq!(course.cells(run), 2);
+    assert_eq!(course.share(run), 4);
+    assert_eq!(wire::demanded(2), 5 * 4);
+    assert_eq!(course.lead(run), 4);
+    assert!(course.has_its_share(run));
 }
 
 #[test]
@@ -159,18 +159,19 @@ fn seam_reaches_the_bound_exactly() {
         length: 2,
     };
     assert!(wire::is_chain(&chain));
-    assert_eq!(wire::cells(&chain, class, run), 0);
-    assert_eq!(wire::share_sum(&chain, class, run), 2);
-    assert_eq!(wire::difference(&chain, class, run), -6);
-    assert_eq!(wire::bound(2), 6);
-    assert!(wire::has_its_share(&chain, class, run));
-    assert_eq!(wire::furthest_run(&chain, class), run);
+    let course = Course::of(&chain, class);
+    assert_eq!(course.cells(run), 0);
+    assert_eq!(course.share(run), 2);
+    assert_eq!(3 * course.lead(run), -6);
+    assert_eq!(wire::demanded(1), 6);
+    assert!(course.has_its_share(run));
+    assert_eq!(course.furthest_run(), run);
     // Each frame's share, a half, rounded down would hide the whole difference.
     let rounded: u128 = chain
         .iter()
         .map(|frame| u128::from(frame.matrix[1]) / 2)
         .sum();
-    assert_eq!(rounded, wire::cells(&chain, class, run));
+    assert_eq!(rounded, course.cells(run));
 }
 
 #[test]

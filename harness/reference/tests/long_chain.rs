@@ -1,6 +1,6 @@
 //! A chain longer than any run Service count takes.
 
-use reference::wire::{self, Frame, Run};
+use reference::wire::{Course, Frame, Run};
 use reference::{build, Class, LONGEST_RUN};
 
 #[test]
@@ -22,7 +22,7 @@ fn demand_3_over_more_than_a_million_slots() {
     };
     for port in 1..=ports {
         for class in [Class::Input { port }, Class::Output { port }] {
-            assert!(wire::has_its_share(&chain, class, run));
+            assert!(Course::of(&chain, class).has_its_share(run));
         }
     }
 }

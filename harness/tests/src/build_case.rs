@@ -1,12 +1,13 @@
 //! Cases of Admit and Build.
 
-use calls::{Answer, Calls, Class, Inspection};
+use calls::{Answer, Calls, Inspection};
 use loads::{load, Call, LoadKind, Random};
-use reference::wire::{self, Frame, Run};
+use reference::wire::{Course, Frame};
 
 use crate::hits::Hits;
 use crate::lent::Lent;
-use crate::verdict::{expect, expect_equal, outcome, Verdict};
+use crate::share_case::{check_share, expect_chain, random_class};
+use crate::verdict::{expect_equal, outcome, Verdict};
 
 /// Holds Admit's answer against the reference's.
 pub fn check_admit(
@@ -53,7 +54,12 @@ pub fn check_build(
     let inspection = candidate.inspect(call.ports, call.slots, &call.matrix, buffer.part());
     expect_equal("inspect after build", &inspection, &Inspection::Clean)?;
     let chain = vec![wire_frame(&call, buffer.part()); 2];
-    check_shares(&chain, 3, random, hits)
+    expect_chain(&chain)?;
+    for _ in 0..3 {
+        let class = random_class(call.ports, random);
+        check_share(&Course::of(&chain, class), class, random, hits)?;
+    }
+    Ok(())
 }
 
 /// Builds with the candidate and the reference from the same bytes and compares all of them.
@@ -72,60 +78,6 @@ pub fn build_and_compare(
     buffer.expect_same("buffer after build", &expected)?;
     matrix.expect_same("matrix after build", &before)?;
     Ok(answer)
-}
-
-/// Checks demand 3 on random runs, and on the furthest runs, of so many random classes.
-pub fn check_shares(
-    chain: &[Frame],
-    classes: usize,
-    random: &mut Random,
-    hits: &mut Hits,
-) -> Verdict {
-    let Some(first) = chain.first() else {
-        return Ok(());
-    };
-    expect(wire::is_chain(chain), || "frames of several shapes".into())?;
-    for _ in 0..classes {
-        let class = random_class(first.ports, random);
-        let furthest = wire::furthest_run(chain, class);
-        check_share(chain, class, random_run(chain, random))?;
-        check_share(chain, class, furthest)?;
-        if wire::difference(chain, class, furthest).abs() == wire::bound(first.slots) {
-            hits.add("chain bound exactly reached");
-        }
-    }
-    Ok(())
-}
-
-/// Demand 3 for one class and one run.
-fn check_share(chain: &[Frame], class: Class, run: Run) -> Verdict {
-    expect(wire::has_its_share(chain, class, run), || {
-        let cells = wire::cells(chain, class, run);
-        format!("{class:?} has {cells} cells, too far from its share, in {run:?}")
-    })
-}
-
-/// A pair, an input or an output of a switch with so many ports.
-pub fn random_class(ports: u64, random: &mut Random) -> Class {
-    let port = random.between(1, ports);
-    match random.below(3) {
-        0 => Class::Input { port },
-        1 => Class::Output { port },
-        _ => Class::Pair {
-            input: random.between(1, ports),
-            output: port,
-        },
-    }
-}
-
-/// Any run of the chain, the empty ones too.
-fn random_run(chain: &[Frame], random: &mut Random) -> Run {
-    let slots = wire::chain_length(chain) as u64;
-    let start = random.between(0, slots);
-    Run {
-        start: start as usize,
-        length: random.between(0, slots - start) as usize,
-    }
 }
 
 /// The frame the wire carries after this accepted call.

@@ -1,13 +1,17 @@
 //! Cases of demand 3: lists of Build calls on one buffer and the chain the wire carries.
 
-use calls::Calls;
-use loads::{load_of_shape, random_shape, Call, LoadKind, Random, Shape};
-use reference::wire::Frame;
+use calls::{Calls, Class};
+use loads::{load_of_shape, random_shape, Call, Company, Flow, LoadKind, Random, Seam, Shape};
+use reference::wire::{Course, Frame};
 
-use crate::build_case::{build_and_compare, check_shares, lend_bytes, wire_frame};
+use crate::build_case::{build_and_compare, lend_bytes, wire_frame};
 use crate::hits::Hits;
-use crate::queue_case::check_queues;
+use crate::queue_case::check_queue;
+use crate::share_case::{check_share, expect_chain, random_class};
 use crate::verdict::Verdict;
+
+/// The classes that are looked at on a chain.
+const CLASSES: usize = 8;
 
 loads::kinds! {
     /// What a list of calls is like.
@@ -26,11 +30,12 @@ pub fn check_chain(
     hits: &mut Hits,
 ) -> Verdict {
     let shape = chain_shape(kind, random);
+    let flow = straying_flow(shape, random);
     let mut buffer = lend_bytes(&random.bytes(shape.frame_length()), random);
     let mut chain: Vec<Frame> = Vec::new();
     let mut accepted: Option<Call> = None;
     for _ in 0..random.between(1, 12) {
-        let call = next_call(kind, shape, random);
+        let call = next_call(kind, shape, flow, random);
         let refused = build_and_compare(candidate, &call, &mut buffer, random)?.is_err();
         hits.add(event_of(refused, accepted.is_some()));
         if !refused {
@@ -41,8 +46,29 @@ pub fn check_chain(
         let frame = wire_frame(last, buffer.part());
         chain.extend(std::iter::repeat_n(frame, times));
     }
-    check_shares(&chain, 8, random, hits)?;
-    check_queues(&chain, 8, random, hits)
+    expect_chain(&chain)?;
+    for class in random_classes(shape, flow, random) {
+        let course = Course::of(&chain, class);
+        check_share(&course, class, random, hits)?;
+        check_queue(&course, class, random, hits)?;
+    }
+    Ok(())
+}
+
+/// In some chains, a flow that has the cells of a seam in about half of the calls.
+fn straying_flow(shape: Shape, random: &mut Random) -> Option<Flow> {
+    let seam = Seam::of_slots(shape.slots).filter(|_| shape.ports > 1 && random.one_in(3));
+    seam.map(|seam| Flow::random(shape, seam.cells, random))
+}
+
+/// Any classes, and the flow of the seam where there is one.
+fn random_classes(shape: Shape, flow: Option<Flow>, random: &mut Random) -> Vec<Class> {
+    let straying = flow.map(|flow| Class::Pair {
+        input: flow.input as u64 + 1,
+        output: flow.output as u64 + 1,
+    });
+    let any = std::iter::repeat_with(|| random_class(shape.ports as u64, random));
+    straying.into_iter().chain(any).take(CLASSES).collect()
 }
 
 /// The one shape of all the frames a chain carries.
@@ -55,7 +81,11 @@ fn chain_shape(kind: ChainKind, random: &mut Random) -> Shape {
 }
 
 /// A call that fits, is overloaded, is junk, or asks for another shape of the same length.
-fn next_call(kind: ChainKind, shape: Shape, random: &mut Random) -> Call {
+fn next_call(kind: ChainKind, shape: Shape, flow: Option<Flow>, random: &mut Random) -> Call {
+    if let Some(flow) = flow.filter(|_| random.one_in(2)) {
+        let company = random.pick(&[Company::Nobody, Company::Partner]);
+        return flow.load(company, shape, random);
+    }
     match random.below(10) {
         0 | 1 => load_of_shape(random.pick(&LoadKind::OVERLOADED), shape, random),
         2 => load_of_shape(LoadKind::Junk, shape, random),

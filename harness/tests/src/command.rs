@@ -3,6 +3,7 @@
 use std::process::ExitCode;
 
 use crate::runner::{Report, Settings};
+use crate::summary::summary;
 
 const FAILURES_SHOWN: usize = 20;
 
@@ -50,6 +51,9 @@ pub fn run_as_told(
 fn print_report(report: &Report) {
     for (name, count) in report.hits.iter() {
         println!("{count:>9}  {name}");
+    }
+    for line in summary(&report.hits) {
+        println!("{line}");
     }
     for name in &report.never_hit {
         println!("never hit: {name}");

@@ -4,10 +4,23 @@ use std::collections::BTreeMap;
 
 use crate::kind::Kind;
 
-/// How many times each named thing happened.
+/// A run strayed from its share by the whole of the sharp bound.
+pub const RUN_REACHED: &str = "sharp bound reached";
+/// As many cells waited after a slot as the sharp bound allows.
+pub const QUEUE_REACHED_AFTER: &str = "queue bound reached after a slot";
+/// As many cells waited before a slot's cell left as the sharp bound allows.
+pub const QUEUE_REACHED_BEFORE: &str = "queue bound reached before a cell leaves";
+
+/// What is counted for each k from 1 to 10; with k = 0 nothing strays.
+pub const FOR_EACH_K: [&str; 3] = [RUN_REACHED, QUEUE_REACHED_AFTER, QUEUE_REACHED_BEFORE];
+
+/// How many times each named thing happened, and how deep queues stood.
 #[derive(Clone, Debug, Default)]
 pub struct Hits {
     counts: BTreeMap<String, u64>,
+    counts_at: BTreeMap<(&'static str, u32), u64>,
+    /// By k and the switch's place in its row, in parts of 1/2^k of a cell.
+    depths: BTreeMap<(u32, usize), i128>,
 }
 
 impl Hits {
@@ -15,14 +28,44 @@ impl Hits {
         *self.counts.entry(name.into()).or_default() += 1;
     }
 
+    /// Counts something for frames of 2^k slots.
+    pub fn add_at(&mut self, name: &'static str, k: u32) {
+        *self.counts_at.entry((name, k)).or_default() += 1;
+    }
+
+    /// A queue stood so deep in a switch at this place of a row, counted from 1, in parts of 1/2^k of a cell.
+    pub fn deepen(&mut self, k: u32, place: usize, parts: i128) {
+        let depth = self.depths.entry((k, place)).or_insert(parts);
+        *depth = parts.max(*depth);
+    }
+
     pub fn merge(&mut self, other: Hits) {
         for (name, count) in other.counts {
             *self.counts.entry(name).or_default() += count;
         }
+        for (name, count) in other.counts_at {
+            *self.counts_at.entry(name).or_default() += count;
+        }
+        for ((k, place), parts) in other.depths {
+            self.deepen(k, place, parts);
+        }
     }
 
+    pub fn count_at(&self, name: &'static str, k: u32) -> u64 {
+        self.counts_at.get(&(name, k)).copied().unwrap_or_default()
+    }
+
+    /// The deepest queue, where one was run.
+    pub fn deepest(&self, k: u32, place: usize) -> Option<i128> {
+        self.depths.get(&(k, place)).copied()
+    }
+
+    /// How often something happened, by its name or by that of `name_at`.
     pub fn count(&self, name: &str) -> u64 {
-        self.counts.get(name).copied().unwrap_or_default()
+        let mut at = self.counts_at.iter();
+        let at = at.find(|((thing, k), _)| name_at(thing, *k) == name);
+        let count = self.counts.get(name).or(at.map(|(_, count)| count));
+        count.copied().unwrap_or_default()
     }
 
     pub fn iter(&self) -> impl Iterator<Item = (&str, u64)> {
@@ -45,10 +88,17 @@ impl Hits {
         names.extend((1..=16).map(|ports| format!("build with {ports} ports")));
         names.extend((0..=10).map(|k| format!("build with {} slots", 1 << k)));
         names.extend(CHAIN_EVENTS.map(str::to_string));
+        names.extend((1..=10).map(|k| name_at(RUN_REACHED, k)));
+        names.extend((2..=5).map(|switches| format!("row of {switches} switches")));
         let kinds = Kind::all().into_iter();
         names.extend(kinds.map(|kind| format!("case {}", kind.name())));
         names
     }
+}
+
+/// The name of something that is counted for frames of 2^k slots.
+fn name_at(name: &str, k: u32) -> String {
+    format!("{name}, k = {k}")
 }
 
 /// Each answer of each call.
@@ -78,13 +128,11 @@ fn refusal_names(call: &str, numbers: &[u64]) -> Vec<String> {
 }
 
 /// What the chains of calls must have come upon.
-const CHAIN_EVENTS: [&str; 8] = [
+const CHAIN_EVENTS: [&str; 6] = [
     "chain call accepted",
     "chain call refused",
     "chain call refused before any accepted",
     "chain frame carried no time",
     "chain frame carried again after a refusal",
     "chain other shape accepted and not carried",
-    "chain bound exactly reached",
-    "queue as deep after a slot as is allowed",
 ];

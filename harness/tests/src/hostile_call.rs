@@ -8,9 +8,9 @@ use loads::{
     LoadKind, Random, Shape, HOSTILE,
 };
 
-use crate::build_case::random_class;
 use crate::hits::Hits;
 use crate::query_case::any_bytes;
+use crate::share_case::random_class;
 
 /// The most counts of an overlong matrix, four of sixteen ports.
 const MOST_COUNTS: usize = 4 * 256;

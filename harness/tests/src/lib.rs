@@ -14,8 +14,11 @@ mod kind;
 mod lent;
 mod query_case;
 mod queue_case;
+mod row_case;
 mod runner;
+mod share_case;
 mod sheet_case;
+mod summary;
 mod verdict;
 
 pub use hits::Hits;

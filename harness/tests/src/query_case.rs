@@ -4,9 +4,10 @@ use calls::{Calls, Class};
 use loads::{junk_number, load_of_shape, random_shape, Call, LoadKind, Random};
 use reference::LONGEST_RUN;
 
-use crate::build_case::{lend_bytes, random_class};
+use crate::build_case::lend_bytes;
 use crate::hits::Hits;
 use crate::lent::Lent;
+use crate::share_case::random_class;
 use crate::verdict::{expect, expect_equal, outcome, Verdict};
 
 loads::kinds! {

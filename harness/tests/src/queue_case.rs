@@ -1,45 +1,55 @@
-//! How deep the queues of flows stand on a chain.
+//! How deep the queue of a flow stands on a chain.
 
 use calls::Class;
 use loads::Random;
-use reference::queue::{depth_on, Source};
-use reference::wire::{self, Frame};
+use reference::queue::{pass, Source};
+use reference::wire::{deviation, Course};
 
-use crate::build_case::random_class;
-use crate::hits::Hits;
+use crate::hits::{Hits, QUEUE_REACHED_AFTER, QUEUE_REACHED_BEFORE};
 use crate::verdict::{expect, Verdict};
 
-/// Runs the queues of so many random classes, each fed as fast as it may be.
-pub fn check_queues(
-    chain: &[Frame],
-    classes: usize,
-    random: &mut Random,
-    hits: &mut Hits,
-) -> Verdict {
-    let ports = chain.first().map_or(1, |frame| frame.ports);
-    for _ in 0..classes {
-        let class = random_class(ports, random);
-        check_queue(chain, class, random_source(chain, class, random), hits)?;
-    }
-    Ok(())
-}
-
-/// After each slot at most a + (2k + 1)/3 cells wait, and before its cell leaves at most the slot's share more.
-fn check_queue(chain: &[Frame], class: Class, source: Source, hits: &mut Hits) -> Verdict {
-    let depth = depth_on(chain, class, source);
+/// Runs the queue of a class that is fed as fast as it may be.
+pub fn check_queue(course: &Course, class: Class, random: &mut Random, hits: &mut Hits) -> Verdict {
+    let source = Source {
+        from: random_start(course, random),
+        ahead: random_allowance(course, random),
+    };
+    let passed = pass(course, &source.arrivals(course));
+    let depth = passed.depth(source.ahead);
+    let above = i128::from(course.slots * passed.waiting) - i128::from(source.ahead);
+    hits.deepen(course.k(), 1, above);
     if depth.after == 0 {
-        hits.add("queue as deep after a slot as is allowed");
+        hits.add_at(QUEUE_REACHED_AFTER, course.k());
+    }
+    if depth.before == 0 {
+        hits.add_at(QUEUE_REACHED_BEFORE, course.k());
     }
     expect(depth.after <= 0 && depth.before <= 0, || {
         format!("the queue of {class:?}, fed by {source:?}, stands too deep: {depth:?}")
     })
 }
 
-/// A source that begins where its flow begins to fall behind, or anywhere.
-fn random_source(chain: &[Frame], class: Class, random: &mut Random) -> Source {
-    let anywhere = random.between(0, wire::chain_length(chain) as u64) as usize;
-    Source {
-        from: random.pick(&[wire::furthest_run(chain, class).start, anywhere]),
-        ahead: random.between(0, 3),
+/// Where the flow begins to fall behind, or anywhere.
+fn random_start(course: &Course, random: &mut Random) -> usize {
+    let anywhere = random.between(0, course.given.len() as u64) as usize;
+    random.pick(&[course.furthest_behind().start, anywhere])
+}
+
+/// How far the source may be ahead, in parts of 1/2^k of a cell: any, whole cells, or what leaves whole cells to wait where
+/// the flow is furthest behind, after a slot or before the next one's cell leaves.
+fn random_allowance(course: &Course, random: &mut Random) -> u64 {
+    let behind = course.furthest_behind();
+    let next = course.given.get(behind.start + behind.length);
+    let load = next.map_or(0, |slot| slot.load);
+    let parts_over = 2 * deviation(course.k()) as u64;
+    let fitting = |over: u64| {
+        let missing = over.next_multiple_of(course.slots) - over;
+        course.slots + missing
+    };
+    match random.below(4) {
+        0 => random.between(0, 3 * course.slots),
+        1 => random.between(0, 3) * course.slots,
+        2 => fitting(parts_over),
+        _ => fitting(parts_over + load),
     }
 }

@@ -1,0 +1,77 @@
+//! The sharp bound of demand 3, held to its definition.
+
+use reference::wire::{demanded, deviation, Course, Frame, Slot};
+use reference::{build, Class};
+
+#[test]
+fn first_deviations() {
+    let first: Vec<_> = (0..=10).map(deviation).collect();
+    let by_hand = [0, 1, 3, 9, 23, 57, 135, 313, 711, 1_593, 3_527];
+    assert_eq!(first, by_hand);
+}
+
+#[test]
+fn no_more_than_demand_3_allows() {
+    for k in 0..=10 {
+        assert!(6 * deviation(k) <= demanded(k), "k = {k}");
+        assert_eq!(6 * deviation(k) == demanded(k), k == 1, "k = {k}");
+    }
+}
+
+/// Whether the halves of every block differ by at most a cell.
+fn is_balanced(cells: &[u64]) -> bool {
+    let (first, second) = cells.split_at(cells.len() / 2);
+    let sum = |half: &[u64]| half.iter().sum::<u64>();
+    first.is_empty()
+        || sum(first).abs_diff(sum(second)) <= 1 && is_balanced(first) && is_balanced(second)
+}
+
+/// How far the course strays from its beginning on.
+fn furthest(course: &Course) -> i128 {
+    course.lead(course.furthest_from_a_frame()).abs()
+}
+
+#[test]
+fn the_furthest_of_all_balanced_frames() {
+    for k in 0..=4 {
+        let slots = 1 << k;
+        let every = (0..1_u64 << slots).map(|bits| -> Vec<u64> {
+            let slots = 0..slots;
+            slots.map(|slot| bits >> slot & 1).collect()
+        });
+        let furthest = every.filter(|cells| is_balanced(cells)).map(|cells| {
+            let load = cells.iter().sum();
+            let given = cells.into_iter().map(|cells| Slot { load, cells });
+            let given = given.collect();
+            furthest(&Course { slots, given })
+        });
+        assert_eq!(furthest.max(), Some(deviation(k)), "k = {k}");
+    }
+}
+
+#[test]
+fn the_furthest_of_all_loads_of_one_input() {
+    for k in 0..=6 {
+        let slots = 1_u16 << k;
+        let loads = (0..=slots).flat_map(|one| (0..=slots - one).map(move |other| [one, other]));
+        let furthest = loads.map(|[one, other]| {
+            let matrix = vec![one, other, 0, 0];
+            let mut bytes = vec![0; 2 * usize::from(slots)];
+            let slots = u64::from(slots);
+            build(2, slots, &matrix, &mut bytes).unwrap();
+            let class = Class::Pair {
+                input: 1,
+                output: 2,
+            };
+            let ports = 2;
+            let frame = Frame {
+                ports,
+                slots,
+                matrix,
+                bytes,
+            };
+            furthest(&Course::of(&[frame], class))
+        });
+        assert_eq!(furthest.max(), Some(deviation(k)), "k = {k}");
+    }
+}

@@ -1,0 +1,52 @@
+//! How far classes stray from their share on a chain.
+
+use calls::Class;
+use loads::Random;
+use reference::wire::{self, deviation, Course, Frame, Run};
+
+use crate::hits::{Hits, RUN_REACHED};
+use crate::verdict::{expect, Verdict};
+
+/// Fails where the frames are of several shapes.
+pub fn expect_chain(chain: &[Frame]) -> Verdict {
+    expect(wire::is_chain(chain), || "frames of several shapes".into())
+}
+
+/// Holds any run of the chain, the furthest of all and the furthest that begins with a frame to their bounds.
+pub fn check_share(course: &Course, class: Class, random: &mut Random, hits: &mut Hits) -> Verdict {
+    let furthest = course.furthest_run();
+    let others = [random_run(course, random), course.furthest_from_a_frame()];
+    for run in [furthest].into_iter().chain(others) {
+        expect(course.has_its_share(run), || {
+            let cells = course.cells(run);
+            format!("{class:?} has {cells} cells, too far from its share, in {run:?}")
+        })?;
+    }
+    if course.lead(furthest).abs() == 2 * deviation(course.k()) {
+        hits.add_at(RUN_REACHED, course.k());
+    }
+    Ok(())
+}
+
+/// A pair, an input or an output of a switch with so many ports.
+pub fn random_class(ports: u64, random: &mut Random) -> Class {
+    let port = random.between(1, ports);
+    match random.below(3) {
+        0 => Class::Input { port },
+        1 => Class::Output { port },
+        _ => Class::Pair {
+            input: random.between(1, ports),
+            output: port,
+        },
+    }
+}
+
+/// Any run of the chain, the empty ones too.
+fn random_run(course: &Course, random: &mut Random) -> Run {
+    let slots = course.given.len() as u64;
+    let start = random.between(0, slots);
+    Run {
+        start: start as usize,
+        length: random.between(0, slots - start) as usize,
+    }
+}

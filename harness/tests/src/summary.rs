@@ -1,0 +1,63 @@
+//! What is said of the bounds at the end of a run.
+
+use reference::wire::deviation;
+
+use crate::hits::{Hits, FOR_EACH_K};
+
+/// The places of a row that have a column: one switch by itself, then the second to the fifth of a row.
+const PLACES: [usize; 5] = [1, 2, 3, 4, 5];
+
+/// A line for each thing that is counted for each k, then the table of the deepest queues.
+pub fn summary(hits: &Hits) -> Vec<String> {
+    let mut lines: Vec<String> = FOR_EACH_K
+        .iter()
+        .filter_map(|name| line(hits, name))
+        .collect();
+    lines.extend(depths(hits));
+    lines
+}
+
+/// How often something happened for each k; nothing where it never did.
+fn line(hits: &Hits, name: &'static str) -> Option<String> {
+    let counts = (1..=10).map(|k| (k, hits.count_at(name, k)));
+    let said: Vec<String> = counts
+        .clone()
+        .map(|(k, count)| format!("k={k} {count} times"))
+        .collect();
+    let any = counts.map(|(_, count)| count).sum::<u64>() > 0;
+    any.then(|| format!("{name}: {}", said.join(", ")))
+}
+
+/// The deepest queues beside what is allowed, in cells; nothing where no queue was run.
+fn depths(hits: &Hits) -> Vec<String> {
+    let rows = (0..=10).filter_map(|k| {
+        let depths = PLACES.map(|place| hits.deepest(k, place));
+        let any = depths.iter().any(Option::is_some);
+        let allowed = |times| in_cells(times * deviation(k), k);
+        let [one, later @ ..] = depths.map(|parts| match parts {
+            Some(parts) => in_cells(parts, k),
+            None => "-".into(),
+        });
+        let later: String = later.iter().map(|cells| format!("{cells:>9}")).collect();
+        let (one_allowed, later_allowed) = (allowed(2), allowed(4));
+        any.then(|| format!("{k:>3} {one_allowed:>9} {one:>9} {later_allowed:>9} {later}"))
+    });
+    let rows: Vec<String> = rows.collect();
+    if rows.is_empty() {
+        return rows;
+    }
+    let title =
+        "deepest queues after a slot, in cells: one switch, above a; the later switches of a row";
+    let head = format!(
+        "{:>3} {:>9} {:>9} {:>9} {:>9}{:>9}{:>9}{:>9}",
+        "k", "2p(k)", "seen", "4p(k)", "2nd", "3rd", "4th", "5th"
+    );
+    let lines = [title.to_string(), head];
+    lines.into_iter().chain(rows).collect()
+}
+
+/// Parts of 1/2^k of a cell in cells.
+fn in_cells(parts: i128, k: u32) -> String {
+    let cells = parts as f64 / f64::from(1 << k);
+    format!("{cells:.3}")
+}
