@@ -8,7 +8,7 @@ use crate::chain_case::{check_chain, ChainKind};
 use crate::hits::Hits;
 use crate::inspect_case::check_inspection;
 use crate::query_case::{check_count, check_view, RunKind, ViewKind};
-use crate::row_case::{check_row, RowKind};
+use crate::row_case::check_row;
 use crate::sheet_case::check_sheet;
 use crate::verdict::Verdict;
 
@@ -22,7 +22,7 @@ pub enum Kind {
     Count(RunKind),
     Sheet(SheetKind),
     Chain(ChainKind),
-    Row(RowKind),
+    Row,
 }
 
 impl Kind {
@@ -35,7 +35,7 @@ impl Kind {
         kinds.extend(RunKind::ALL.iter().copied().map(Kind::Count));
         kinds.extend(SheetKind::ALL.iter().copied().map(Kind::Sheet));
         kinds.extend(ChainKind::ALL.iter().copied().map(Kind::Chain));
-        kinds.extend(RowKind::ALL.iter().copied().map(Kind::Row));
+        kinds.push(Kind::Row);
         kinds
     }
 
@@ -48,7 +48,7 @@ impl Kind {
             Kind::Count(kind) => ("count", kind.name()),
             Kind::Sheet(kind) => ("sheet", kind.name()),
             Kind::Chain(kind) => ("chain", kind.name()),
-            Kind::Row(kind) => ("row", kind.name()),
+            Kind::Row => ("row", "random"),
         };
         format!("{call}/{given}")
     }
@@ -68,7 +68,7 @@ impl Kind {
             Kind::Count(kind) => check_count(candidate, kind, random, hits),
             Kind::Sheet(kind) => check_sheet(candidate, kind, random, hits),
             Kind::Chain(kind) => check_chain(candidate, kind, random, hits),
-            Kind::Row(kind) => check_row(candidate, kind, random, hits),
+            Kind::Row => check_row(candidate, random, hits),
         }
     }
 }

@@ -3,16 +3,18 @@
 use calls::Class;
 use loads::Random;
 use reference::queue::{pass, Source};
-use reference::wire::{deviation, Course};
+use reference::wire::{deviation, Course, Run};
 
 use crate::hits::{Hits, QUEUE_REACHED_AFTER, QUEUE_REACHED_BEFORE};
 use crate::verdict::{expect, Verdict};
 
-/// Runs the queue of a class that is fed as fast as it may be.
+/// Runs the queue of a class that is fed as fast as it may be, from where it begins to fall behind or from anywhere.
 pub fn check_queue(course: &Course, class: Class, random: &mut Random, hits: &mut Hits) -> Verdict {
+    let behind = course.furthest_behind();
+    let anywhere = random.between(0, course.given.len() as u64) as usize;
     let source = Source {
-        from: random_start(course, random),
-        ahead: random_allowance(course, random),
+        from: random.pick(&[behind.start, anywhere]),
+        ahead: random_allowance(course, behind, random),
     };
     let passed = pass(course, &source.arrivals(course));
     let depth = passed.depth(source.ahead);
@@ -29,27 +31,20 @@ pub fn check_queue(course: &Course, class: Class, random: &mut Random, hits: &mu
     })
 }
 
-/// Where the flow begins to fall behind, or anywhere.
-fn random_start(course: &Course, random: &mut Random) -> usize {
-    let anywhere = random.between(0, course.given.len() as u64) as usize;
-    random.pick(&[course.furthest_behind().start, anywhere])
-}
-
-/// How far the source may be ahead, in parts of 1/2^k of a cell: any, whole cells, or what leaves whole cells to wait where
-/// the flow is furthest behind, after a slot or before the next one's cell leaves.
-fn random_allowance(course: &Course, random: &mut Random) -> u64 {
-    let behind = course.furthest_behind();
+/// How far the source may be ahead, in parts of 1/2^k of a cell: any, whole cells, or what leaves whole cells to wait at
+/// the end of the run in which the flow falls furthest behind, after its last slot or before the next one's cell leaves.
+fn random_allowance(course: &Course, behind: Run, random: &mut Random) -> u64 {
     let next = course.given.get(behind.start + behind.length);
     let load = next.map_or(0, |slot| slot.load);
-    let parts_over = 2 * deviation(course.k()) as u64;
-    let fitting = |over: u64| {
-        let missing = over.next_multiple_of(course.slots) - over;
-        course.slots + missing
+    let most_behind = 2 * deviation(course.k()) as u64;
+    let filling_up = |parts: u64| {
+        let whole = parts.next_multiple_of(course.slots);
+        course.slots + whole - parts
     };
     match random.below(4) {
         0 => random.between(0, 3 * course.slots),
         1 => random.between(0, 3) * course.slots,
-        2 => fitting(parts_over),
-        _ => fitting(parts_over + load),
+        2 => filling_up(most_behind),
+        _ => filling_up(most_behind + load),
     }
 }

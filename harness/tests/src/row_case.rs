@@ -9,17 +9,10 @@ use crate::build_case::{build_and_compare, lend_bytes, wire_frame};
 use crate::hits::Hits;
 use crate::verdict::{expect, Verdict};
 
-loads::kinds! {
-    /// What the loads of a row's frames are like.
-    RowKind {
-        Mixed = "mixed",
-        Seams = "seams",
-    }
-}
-
 /// What all switches of a row have in common.
 struct Row {
-    kind: RowKind,
+    /// The loads are those of a seam at the flow's ports, so that it strays as far as it can.
+    strays: bool,
     slots: usize,
     /// The flow's cells in every frame.
     cells: u16,
@@ -28,13 +21,8 @@ struct Row {
 }
 
 /// Sends a flow along a row of two to five switches; all but the first must hold it.
-pub fn check_row(
-    candidate: &dyn Calls,
-    kind: RowKind,
-    random: &mut Random,
-    hits: &mut Hits,
-) -> Verdict {
-    let row = Row::random(kind, random);
+pub fn check_row(candidate: &dyn Calls, random: &mut Random, hits: &mut Hits) -> Verdict {
+    let row = Row::random(random);
     let switches: Vec<Switch> = (0..random.between(2, 5))
         .map(|_| row.switch(candidate, random))
         .collect::<Result<_, _>>()?;
@@ -55,12 +43,12 @@ pub fn check_row(
 }
 
 impl Row {
-    fn random(kind: RowKind, random: &mut Random) -> Row {
+    fn random(random: &mut Random) -> Row {
         let slots = 1 << random.between(0, 10);
         let any = random.between(1, slots as u64) as u16;
-        let seam = Seam::of_slots(slots).filter(|_| kind == RowKind::Seams);
+        let seam = Seam::of_slots(slots).filter(|_| random.one_in(2));
         Row {
-            kind,
+            strays: seam.is_some(),
             slots,
             cells: seam.map_or(any, |seam| seam.cells),
             frames: random.between(2, 8) as usize,
@@ -70,7 +58,7 @@ impl Row {
     /// A switch with its own ports, flow and chain; what comes to it is a few slots late, or up to a frame.
     fn switch(&self, candidate: &dyn Calls, random: &mut Random) -> Result<Switch, String> {
         let shape = Shape {
-            ports: random.pick(&[1, 2, 2, 2, 3, 4, 5, 16]),
+            ports: random.pick(&[1, 2, 2, 2, 2, 3, 3, 4, 4, 5, 6, 16]),
             slots: self.slots,
         };
         let flow = Flow::random(shape, self.cells, random);
@@ -97,9 +85,9 @@ impl Row {
         let mut buffer = lend_bytes(&random.bytes(shape.frame_length()), random);
         let mut chain = Vec::new();
         while chain.len() < self.frames {
-            let company = match self.kind {
-                RowKind::Mixed => random.pick(Company::ALL),
-                RowKind::Seams => random.pick(&[Company::Nobody, Company::Partner]),
+            let company = match self.strays {
+                true => random.pick(&[Company::Nobody, Company::Partner]),
+                false => random.pick(Company::ALL),
             };
             let call = flow.load(company, shape, random);
             let answer = build_and_compare(candidate, &call, &mut buffer, random)?;

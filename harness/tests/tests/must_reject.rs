@@ -1,7 +1,8 @@
 //! Builders that would be sent back are sent back.
 
 use calls::{Calls, Class, Inspection, Reference};
-use reference::wire::{self, Frame};
+use reference::queue::{ahead_behind_a_switch, pass_row, Depth, Switch};
+use reference::wire::{Course, Frame};
 use tests::broken::{self, Broken};
 use tests::{run, Settings};
 
@@ -123,15 +124,44 @@ fn legal_but_bunched() {
     let fault = Inspection::UnbalancedBlock { slot: 1, size: 16 };
     assert_eq!(inspected(&builder, 1, 16, &[8]), fault);
 
-    let chain = [Frame {
+    let course = half_load(&builder, 16, 1);
+    assert!(!course.has_its_share(course.furthest_run()));
+    assert!(!course.has_its_share(course.furthest_from_a_frame()));
+}
+
+/// What one input is given that sends in half of the slots, its frame carried so many times.
+fn half_load(builder: &Broken, slots: u64, times: usize) -> Course {
+    let matrix = vec![slots as u16 / 2];
+    let frame = Frame {
         ports: 1,
-        slots: 16,
-        matrix: vec![8],
-        bytes: frame_of(&builder, 1, 16, &[8]),
-    }];
-    let class = Class::Input { port: 1 };
-    let furthest = wire::furthest_run(&chain, class);
-    assert!(!wire::has_its_share(&chain, class, furthest));
+        slots,
+        bytes: frame_of(builder, 1, slots, &matrix),
+        matrix,
+    };
+    Course::of(&vec![frame; times], Class::Input { port: 1 })
+}
+
+/// How deep the second of two switches stands where the first has cells enough to send all the time.
+fn second_of_two(builders: [&Broken; 2]) -> Depth {
+    let row = builders.map(|builder| Switch {
+        course: half_load(builder, 32, 3),
+        delay: 2,
+    });
+    let mut arrivals = vec![0; row[0].course.given.len()];
+    arrivals[0] = 1_000;
+    pass_row(&row, &arrivals)[1].depth(ahead_behind_a_switch(5))
+}
+
+#[test]
+fn a_bunched_switch_in_a_row() {
+    let even = Broken::default();
+    let bunched = sent_back!(build: bunched, "row/");
+    let depth = second_of_two([&even, &bunched]);
+    assert!(depth.after > 0 && depth.before > 0, "{depth:?}");
+    let depth = second_of_two([&bunched, &even]);
+    assert!(depth.after > 0 && depth.before > 0, "{depth:?}");
+    let depth = second_of_two([&even, &even]);
+    assert!(depth.after <= 0 && depth.before <= 0, "{depth:?}");
 }
 
 #[test]

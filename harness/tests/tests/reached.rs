@@ -1,0 +1,112 @@
+//! The sharp bound is reached for every k from 1 to 10, on frames that the proved Build made.
+
+use calls::{Calls, Class, Library};
+use loads::{Seam, SEAMS};
+use reference::queue::{pass, Source};
+use reference::wire::{deviation, Course, Frame, Run};
+
+const FLOW: Class = Class::Pair {
+    input: 1,
+    output: 2,
+};
+
+fn built(seam: Seam, matrix: [u16; 4]) -> Frame {
+    let mut bytes = vec![0xa5; 2 * seam.slots as usize];
+    assert_eq!(Library.build(2, seam.slots, &matrix, &mut bytes), Ok(()));
+    Frame {
+        ports: 2,
+        slots: seam.slots,
+        matrix: matrix.to_vec(),
+        bytes,
+    }
+}
+
+fn alone(seam: Seam) -> Frame {
+    built(seam, seam.alone())
+}
+
+fn beside(seam: Seam) -> Frame {
+    built(seam, seam.beside())
+}
+
+/// The run from slot t of the first frame to slot 2^k - t of the second, and what the seam's two frames give the flow.
+fn behind(seam: Seam) -> (Run, Course) {
+    let run = Run {
+        start: seam.turn,
+        length: 2 * (seam.slots as usize - seam.turn),
+    };
+    (run, Course::of(&[alone(seam), beside(seam)], FLOW))
+}
+
+#[test]
+fn behind_by_the_whole_bound() {
+    for seam in SEAMS {
+        let (run, course) = behind(seam);
+        let parts = u128::from(seam.slots) * course.cells(run);
+        let missing = course.share(run) - parts;
+        assert_eq!(missing as i128, 2 * deviation(seam.k), "{seam:?}");
+        assert_eq!(course.furthest_run(), run, "{seam:?}");
+        assert!(course.has_its_share(run), "{seam:?}");
+    }
+}
+
+#[test]
+fn ahead_by_the_whole_bound() {
+    for seam in SEAMS {
+        let course = Course::of(&[beside(seam), alone(seam)], FLOW);
+        let run = Run {
+            start: seam.slots as usize - seam.turn,
+            length: 2 * seam.turn,
+        };
+        assert_eq!(course.lead(run), 2 * deviation(seam.k), "{seam:?}");
+    }
+}
+
+#[test]
+fn half_of_it_from_the_beginning_of_a_frame() {
+    for seam in SEAMS {
+        let slots = seam.slots as usize;
+        let cases = [
+            (alone(seam), seam.turn, deviation(seam.k)),
+            (beside(seam), slots - seam.turn, -deviation(seam.k)),
+        ];
+        for (frame, length, lead) in cases {
+            let run = Run { start: 0, length };
+            assert_eq!(Course::of(&[frame], FLOW).lead(run), lead, "{seam:?}");
+        }
+    }
+}
+
+/// The flow's cells counted by Service count, on each frame of the seam by itself.
+#[test]
+fn the_same_by_service_count() {
+    for seam in SEAMS {
+        let (run, course) = behind(seam);
+        let slots = seam.slots;
+        let (turn, back) = (seam.turn as u64, slots - seam.turn as u64);
+        let count = |frame: Frame, start, length| {
+            Library.service_count(2, slots, &frame.bytes, FLOW, start, length)
+        };
+        let first = count(alone(seam), turn + 1, back).unwrap();
+        let second = count(beside(seam), 1, back).unwrap();
+        assert_eq!(u128::from(first + second), course.cells(run), "{seam:?}");
+    }
+}
+
+/// A source that begins with the run and may be ahead by what fills up the last cell.
+#[test]
+fn queues_as_deep_as_allowed() {
+    for seam in SEAMS {
+        let (run, course) = behind(seam);
+        let most = 2 * deviation(seam.k) as u64;
+        let depth = |parts: u64| {
+            let ahead = seam.slots + parts.next_multiple_of(seam.slots) - parts;
+            let from = run.start;
+            let arrivals = Source { from, ahead }.arrivals(&course);
+            pass(&course, &arrivals).depth(ahead)
+        };
+        assert_eq!(depth(most).after, 0, "{seam:?}");
+        let load = u64::from(seam.cells);
+        assert_eq!(depth(most + load).before, 0, "{seam:?}");
+    }
+}
