@@ -12,9 +12,10 @@ use printing::put_refusal;
 use reading::Reading;
 use reading::read_lines;
 
-// The longest sheet that is read, and the longest response to any sheet, in bytes.
+// The bytes of the longest sheet whose lines are read.
 pub const SHEET_MOST: usize = 16384;
 
+// The bytes of the longest response to any sheet.
 pub const RESPONSE_MOST: usize = 123853;
 
 // How many bytes the response has: they are written, or the buffer is too small for them.
