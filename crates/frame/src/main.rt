@@ -59,7 +59,7 @@ fn take_sheet(buffer: &mut [u8], failed: &mut bool) -> usize
 // Prints the response to a sheet.
 fn answer(sheet: &[u8]) {
     let mut out = [0u8; RESPONSE_MOST];
-    let n = sheet::respond_whole(sheet, &mut out);
+    let n = sheet::respond(sheet, &mut out);
     if !io::write_all(STDOUT_FILENO, &out[..n]) {
         os::fail(b"standard output");
     }

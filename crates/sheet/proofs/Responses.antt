@@ -31,11 +31,9 @@ use Rattle.reading.proofs.Reading.{the-type}
 use Rattle.reading.specs.Reading.{LoadsRead, SheetOf}
 use Rattle.printing.specs.Printing.{Printed, Sized, frameBytes}
 use Rattle.printing.proofs.Prints.{frame-bytes}
-use Rattle.sheet.specs.Response.{Readable, bytesOf, Lies, Printable, Answered, responded, holding, Whole}
+use Rattle.sheet.specs.Response.{Readable, bytesOf, Lies, Printable, Answered, Whole}
 use Rattle.reading.specs.declared.Reading.{Reading}
 use Rattle.reading.specs.declared.Reading.the-variants.{Ports, Slots, Pair, Loads, Refused}
-use Rattle.sheet.specs.declared.Response as declared
-use Rattle.sheet.specs.declared.Response.the-variants.{Written, TooSmall}
 
 -- ---- reports
 report-any : (cs : List Check) (a b : List ℕ) → clear cs ≡ false → report cs a ≡ report cs b
@@ -203,21 +201,10 @@ module _ (s frame : List ℕ) (r : Reading) (x : Answered (readSheet s) frame r)
   counted : n ≡ length (response s)
   counted = let p = y .place in let q = ap length response-is in omega arith
 
-  pub too-small : (out : List ℕ) → length out < n → (TooSmall n ≡ responded (response s) out) × (out ≡ holding (response s) out)
-  too-small out h =
-      let e = lt-ltb (length out) (length (response s)) (let c = counted in omega arith) in
-      (rw (e, counted), rw e)
-
   response-in : (out filled : List ℕ) (m : ℕ) → n ≤ length out → Printed out 0 (bytesOf r frame) filled m → filled ≡ response s ++ drop (length (response s)) out
   response-in out filled m h z =
       z .is ∙ (ap (sets out 0) (sym response-is) ∙ (sets-eq (response s) out 0 (let c = counted in omega arith)
       ∙ ap (λ k. response s ++ drop k out) (let k : 0 + length (response s) ≡ length (response s) = omega arith in k)))
-
-  pub written : (out filled : List ℕ) (m : ℕ) → n ≤ length out → Printed out 0 (bytesOf r frame) filled m
-      → (Written n ≡ responded (response s) out) × (filled ≡ holding (response s) out)
-  written out filled m h z =
-      let e = le-ltb (length out) (length (response s)) (let c = counted in omega arith) in
-      (rw (e, counted), rw e (response-in out filled m h z))
 
   -- a buffer of 123,853 bytes holds any response
   pub whole : 123853 ≤ length one → Whole (response s) one new n

@@ -3,15 +3,12 @@ use Prim.Native.Nat.{ℕ, _*_, _≤_}
 use mathlib.Core.Path.{_≡_}
 use mathlib.Core.List.{List, [], _++_}
 use mathlib.Core.Bool.{false}
-use lib.Dec.{eqb, ltb}
+use lib.Dec.{eqb}
 use lib.ListN.{length, take, drop}
-use Rattle.model.specs.Words.{if}
 use Rattle.model.specs.Refusals.{levels, refusal}
 use Rattle.model.specs.Sheet.{Asked, printed, printFrame, printRefusal}
 use Rattle.reading.specs.declared.Reading.{Reading}
 use Rattle.reading.specs.declared.Reading.the-variants.{Ports, Slots, Pair, Loads, Refused}
-use Rattle.sheet.specs.declared.Response as declared
-use Rattle.sheet.specs.declared.Response.the-variants.{Written, TooSmall}
 
 -- The loads of a sheet, with the buffers that they are built in.
 pub record Readable (ports slots : ℕ) (matrix frame : List ℕ) : Type 0 where
@@ -45,14 +42,6 @@ Printable (Refused r) frame = Unit {0}
 pub record Answered (asked : Asked) (frame : List ℕ) (r : Reading) : Type 0 where
   pub prints : printed asked ≡ bytesOf r frame
   pub printable : Printable r frame
-
--- The answer to a response and a buffer, and the buffer after: the response and then the bytes that stood behind it, or
--- all as it was.
-abbrev pub responded : List ℕ → List ℕ → declared.Response
-responded bytes out = if (ltb (length out) (length bytes)) (TooSmall (length bytes)) (Written (length bytes))
-
-abbrev pub holding : List ℕ → List ℕ → List ℕ
-holding bytes out = if (ltb (length out) (length bytes)) out (bytes ++ drop (length bytes) out)
 
 -- The whole response stands at the front of a buffer, before the bytes that stood behind it; no response is longer than
 -- 123,853 bytes.

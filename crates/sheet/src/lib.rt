@@ -4,7 +4,7 @@ ghost use Prim.Native.Nat.{_*_};
 ghost use lib.ListN.{length, take};
 ghost use Rattle.model.specs.Sheet.{loads, overloads, readSheet, response};
 ghost use Rattle.printing.specs.Printing.{Printed};
-ghost use Rattle.sheet.specs.Response.{Readable, bytesOf, Printable, Answered, responded, holding, Whole};
+ghost use Rattle.sheet.specs.Response.{Readable, bytesOf, Printable, Answered, Whole};
 use model::Answer;
 use model::Refusal;
 use printing::put_frame;
@@ -17,12 +17,6 @@ pub const SHEET_MOST: usize = 16384;
 
 // The bytes of the longest response to any sheet.
 pub const RESPONSE_MOST: usize = 123853;
-
-// How many bytes the response has: they are written, or the buffer is too small for them.
-pub enum Response {
-    Written(usize),
-    TooSmall(usize),
-}
 
 // Builds the frame of the loads read, at the front of the buffer: 5, then 6.
 fn build_loads(ports: usize, slots: usize, matrix: &[u16], frame: &mut [u8]) -> Reading
@@ -69,24 +63,8 @@ fn put_answer(out: &mut [u8], answer: Reading, frame: &[u8]) -> usize
     0
 }
 
-// The response to a sheet, written to the front of a buffer; where that is too small nothing is written.
-pub fn respond(sheet: &[u8], out: &mut [u8]) -> Response
-    ensures { λ r. ⌜ (r ≡ responded (response (now (sheet .entry))) (now (out .entry)))
-        × (now (out .exit) ≡ holding (response (now (sheet .entry))) (now (out .entry))) ⌝ }
-{
-    let mut frame = [0u8; 16384];
-    let answer = read_sheet(sheet, &mut frame);
-    let mut counted = [0u8; 1];
-    let length = put_answer(&mut counted, answer, &frame);
-    if out.len() < length {
-        return Response::TooSmall(length);
-    }
-    put_answer(out, answer, &frame);
-    Response::Written(length)
-}
-
 // The response to a sheet, written to the front of a buffer that holds any response.
-pub fn respond_whole(sheet: &[u8], out: &mut [u8; RESPONSE_MOST]) -> usize
+pub fn respond(sheet: &[u8], out: &mut [u8; RESPONSE_MOST]) -> usize
     ensures { λ r. ⌜ Whole (response (now (sheet .entry))) (now (out .entry)) (now (out .exit)) r ⌝ }
 {
     let mut frame = [0u8; 16384];

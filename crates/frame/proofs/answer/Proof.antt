@@ -10,8 +10,8 @@ answer-spec =
     tie.close
     (tie.spec
     (λ c κs. search needs)
-    (λ c. whole-inside (c .respond-whole .ensures))
-    (λ c. sym (length-take-le _ _ (whole-inside (c .before .respond-whole .ensures))))
+    (λ c. whole-inside (c .respond .ensures))
+    (λ c. sym (length-take-le _ _ (whole-inside (c .before .respond .ensures))))
     (λ c κs. search needs)
     (λ c. search needs)
     (λ c κs. search needs)

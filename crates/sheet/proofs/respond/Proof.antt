@@ -1,5 +1,6 @@
-use Rattle.sheet.proofs.Responses.{too-small, written}
+use Rattle.sheet.proofs.Responses.{whole}
 use borrow.Author.Needs.{needs}
+use native.Mathlib.Omega.{arith}
 use Rattle.sheet.proofs.respond.Statement.{statement}
 use Rattle.sheet.proofs.respond.Tie as tie
 
@@ -10,10 +11,5 @@ respond-spec =
     (λ c. search needs)
     (λ c κs. search needs)
     (λ c. search needs)
-    (λ c. search needs)
     (λ c κs. search needs)
-    (λ c. too-small _ _ _ (c .before .before .before .before .before .before .read-sheet .ensures) _ _ _ (c .before .before .put-answer .ensures) _ (c .if1 .taken))
-    (λ c. search needs)
-    (λ c κs. search needs)
-    (λ c. search needs)
-    (λ c. written _ _ _ (c .before .before .before .before .before .before .before .before .before .before .before .read-sheet .ensures) _ _ _ (c .before .before .before .before .before .before .before .put-answer .ensures) _ _ _ (c .before .before .before .before .before .if1 .left) (c .before .before .put-answer2 .ensures)))
+    (λ c. whole _ _ _ (c .before .before .before .before .read-sheet .ensures) _ _ _ (c .put-answer .ensures) (omega (arith, c .before .before .put-answer-arg .given .0 .1))))
