@@ -9,7 +9,7 @@ use borrow.Author.Tests.{not-false}
 use Rattle.model.specs.Words.{within}
 use Rattle.model.specs.Loads.{Class, pair, output, input}
 use Rattle.model.specs.Frames.{cells}
-use Rattle.model.specs.Refusals.{Check, report, bad-ports, bad-slots, bad-matrix, bad-frame, bad-slot, admitted}
+use Rattle.model.specs.Refusals.{Check, report, clear, bad-ports, bad-slots, bad-matrix, bad-frame, bad-slot, admitted}
 use Rattle.model.specs.Schedule.{frameOf}
 use Rattle.model.specs.Build.{left, buildChecks, built}
 use Rattle.model.specs.Inspect.{byteTooLarge, outputTwice, pairCount, unbalancedBlock, inspected}
@@ -181,7 +181,8 @@ module _ (ports slots : ℕ) (bytes : List ℕ) (slot : ℕ) where
   unfolding viewChecks
   view-only given (refused r) =
       let e = ap (λ (l : List ℕ). getD l 0 0) (slot-reported ports slots bytes slot [] (0 ∷ []) r) in
-      rw (clear-some (slotChecks ports slots bytes slot []) (λ z. let h = slot-low r in omega arith), e)
+      let c : clear (viewChecks ports slots bytes slot) ≡ false = clear-some (slotChecks ports slots bytes slot []) (λ z. let h = slot-low r in omega arith) in
+      rw (c, e)
   view-only given (seen s f) =
       let e = ap (λ (l : List ℕ). getD l 0 0) (slot-clear ports slots bytes slot f [] (0 ∷ [])) in
       let h : slot - 1 ≡ s = (let n = f .number in omega arith) in

@@ -9,7 +9,7 @@ use lib.ListN.{length-set, length-replicate, length, getD, set, replicate}
 use borrow.Author.Tests.{eq-eqb, not-false, ne-eqb}
 use Rattle.model.specs.Words.{within}
 use Rattle.model.specs.Loads.{output, load, input}
-use Rattle.model.specs.Refusals.{report, overload}
+use Rattle.model.specs.Refusals.{Check, report, overload}
 use Rattle.model.specs.Schedule.{frameOf}
 use Rattle.model.specs.Sheet.{printFrame, digits, portsLine, slotsLine, pairLine, lines, bad-port, bad-pair, Asked, loads, readPairs, readPorts, readSheet, response}
 use Rattle.model.specs.Sheet as asked
@@ -152,11 +152,15 @@ reads-well : {bytes : List ℕ} {ports slots : ℕ} {m : List ℕ} → Reads byt
 reads-well r = asked-well r
 
 -- ---- 5 and 6, after the lines
+-- what is reported of some conditions is what the sheet is refused for
+unless-refused : (cs : List Check) (read : Asked) {n : ℕ} {values : List ℕ} → 0 < n → ((other : List ℕ) → report cs other ≡ n ∷ values)
+    → asked.unless cs read ≡ asked.refused (n ∷ values)
+unless-refused cs read {n} {values} h e = rw (clear-some cs (λ z. let y = ap (λ (l : List ℕ). getD l 0 0) (e (0 ∷ [])) in omega arith), e [])
+
 module _ (ports slots : ℕ) (m : List ℕ) where
   overload-asked : {n : ℕ} {values : List ℕ} → 0 < n → ((other : List ℕ) → report (overloads ports slots m) other ≡ n ∷ values)
       → asked.overloads (loads ports slots m) ≡ asked.refused (n ∷ values)
-  overload-asked {n} {values} h e =
-      rw (clear-some (overloads ports slots m) (λ z. let y = ap (λ (l : List ℕ). getD l 0 0) (e (0 ∷ [])) in omega arith), e [])
+  overload-asked h e = unless-refused (overloads ports slots m) (loads ports slots m) h e
 
   input-asked : (x : ℕ) → Over input ports slots m x → asked.overloads (loads ports slots m) ≡ asked.refused (5 ∷ suc x ∷ load (input x) ports m ∷ [])
   input-asked x o =
