@@ -2,7 +2,7 @@
 use Prim.Native.Nat.{ℕ, suc, _-_, _*_, _<_}
 use mathlib.Core.Path.{_≡_, sym, ap, ap₂, _∙_}
 use mathlib.Core.List.{List, [], _∷_}
-use mathlib.Core.Bool.{false}
+use mathlib.Core.Bool.{true, false}
 use native.Mathlib.Omega.{arith}
 use lib.ListN.{length, getD}
 use borrow.Author.Tests.{not-false}
@@ -185,8 +185,11 @@ module _ (ports slots : ℕ) (bytes : List ℕ) (slot : ℕ) where
       rw (c, e)
   view-only given (seen s f) =
       let e = ap (λ (l : List ℕ). getD l 0 0) (slot-clear ports slots bytes slot f [] (0 ∷ [])) in
+      let c : clear (viewChecks ports slots bytes slot) ≡ true = clear-none (slotChecks ports slots bytes slot []) (omega arith, (omega arith, (omega arith, (omega arith, tt)))) e in
       let h : slot - 1 ≡ s = (let n = f .number in omega arith) in
-      rw (clear-none (slotChecks ports slots bytes slot []) (omega arith, (omega arith, (omega arith, (omega arith, tt)))) e, e, h)
+      let start : viewStart ports slots bytes slot ≡ s * ports = rw c (omega (arith, ap (λ x. x * ports) h)) in
+      let size : viewSize ports slots bytes slot ≡ ports = rw c in
+      rw (start, size, e)
 
   pub view-exactly : Exactly (Views ports slots bytes slot) view
   view-exactly = bySlot ports slots bytes slot (λ n r. exactly view-only (refused r)) (λ s f. exactly view-only (seen s f))
