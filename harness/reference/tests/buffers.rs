@@ -1,51 +1,156 @@
-//! The table of docs/BUFFERS.md, held to its formula; the seam at which its bound is reached, and a frame that breaks it.
+//! The tables and examples of docs/BUFFERS.md, held to their formula; the seam at which its bound is reached, and a frame
+//! that breaks it.
 
-use reference::queue::{depth_on, Source};
-use reference::wire::Frame;
+use reference::queue::{pass, Depth, Source};
+use reference::wire::{demanded, deviation, Course, Frame};
 use reference::{build, Class};
 
 const TEXT: &str = include_str!("../../../docs/BUFFERS.md");
 
-/// The numbers of a row of the table, a list for each column; none for another line.
-fn row_of(line: &str) -> Option<Vec<Vec<u64>>> {
-    let inner = line.strip_prefix("| ")?.strip_suffix(" |")?;
-    let numbers_of = |column: &str| {
-        let words = column.split(", ");
-        let numbers = words.map(|word| word.replace(',', "").parse().ok());
-        numbers.collect::<Option<Vec<u64>>>()
-    };
-    inner.split(" | ").map(numbers_of).collect()
+/// a + 2p(k) + m/2^k in whole cells, where `ahead` is a in parts of 1/2^k.
+fn sharp_cells(k: u32, ahead: u64, m: u64) -> u64 {
+    let behind = 2 * deviation(k) as u64;
+    (ahead + behind + m) >> k
 }
 
-/// a + (2k + 1)/3 + m/2^k in whole cells.
-fn whole_cells(k: u64, a: u64, m: u64) -> u64 {
+/// The same with (2k + 1)/3 in place of 2p(k), and a in cells.
+fn demanded_cells(k: u32, a: u64, m: u64) -> u64 {
     let slots = 1 << k;
-    (3 * slots * a + (2 * k + 1) * slots + 3 * m) / (3 * slots)
+    (3 * slots * a + demanded(k) as u64 + 3 * m) / (3 * slots)
 }
 
-fn each_a(cells: impl Fn(u64) -> u64) -> Vec<u64> {
-    (0..=2).map(cells).collect()
+/// The first m that makes a whole cell more.
+fn first_more(k: u32, ahead: u64) -> u64 {
+    let more = |m: &u64| sharp_cells(k, ahead, *m) > sharp_cells(k, ahead, 0);
+    let first = (0..=1 << k).find(more);
+    first.expect("a whole cell more at the latest where every slot is reserved")
+}
+
+/// A number with a comma before its last three digits.
+fn grouped(number: u64) -> String {
+    match number {
+        0..1_000 => number.to_string(),
+        _ => format!("{},{:03}", number / 1_000, number % 1_000),
+    }
+}
+
+/// Three numbers, for a = 0, 1 and 2.
+fn each_a(cells: impl Fn(u64) -> u64) -> String {
+    let each: Vec<_> = (0..=2).map(|a| cells(a).to_string()).collect();
+    each.join(", ")
+}
+
+/// So many parts of 1/2^k of a cell, and the same in cells, to three digits after the point.
+fn in_cells(parts: i128, k: u32) -> String {
+    let cells = parts as f64 / f64::from(1 << k);
+    let rounded: f64 = format!("{cells:.3}").parse().unwrap();
+    let sign = if rounded == cells { '=' } else { '≈' };
+    let (parts, slots) = (grouped(parts as u64), grouped(1 << k));
+    format!("{parts}/{slots} {sign} {rounded}")
+}
+
+/// Where the sharp bound has a house order a cell fewer, whatever whole number a is.
+fn fewer(k: u32) -> String {
+    let slots = 1_u64 << k;
+    let is_fewer = |m: u64| sharp_cells(k, slots, m) < demanded_cells(k, 1, m);
+    let mut ranges: Vec<(u64, u64)> = Vec::new();
+    for m in (1..=slots).filter(|&m| is_fewer(m)) {
+        assert_eq!(sharp_cells(k, slots, m) + 1, demanded_cells(k, 1, m));
+        match ranges.last_mut() {
+            Some((_, last)) if *last + 1 == m => *last = m,
+            _ => ranges.push((m, m)),
+        }
+    }
+    let words = ranges.iter().map(|&(first, last)| match first == last {
+        true => grouped(first),
+        false => format!("{} to {}", grouped(first), grouped(last)),
+    });
+    let words: Vec<_> = words.collect();
+    match words.is_empty() {
+        true => "none".into(),
+        false => words.join(", "),
+    }
+}
+
+fn holds(line: &str) {
+    assert!(TEXT.lines().any(|held| held == line), "missing: {line}");
 }
 
 #[test]
 fn table() {
-    let rows: Vec<_> = TEXT.lines().filter_map(row_of).collect();
-    assert_eq!(rows.len(), 11);
-    for (k, row) in (0..).zip(&rows) {
+    for k in 0..=10 {
         let slots = 1 << k;
-        let from = (0..=slots).find(|&m| whole_cells(k, 0, m) > whole_cells(k, 0, 0));
-        let from = from.expect("a whole cell more at the latest where every slot is reserved");
+        let from = first_more(k, 0);
+        let sharp = |m: u64| each_a(|a| sharp_cells(k, a * slots, m));
         let columns = [
-            vec![k],
-            vec![slots],
-            each_a(|a| whole_cells(k, a, 0)),
-            vec![from],
-            each_a(|a| whole_cells(k, a, from - 1)),
-            each_a(|a| whole_cells(k, a, slots)),
+            k.to_string(),
+            grouped(slots),
+            in_cells(2 * deviation(k), k),
+            sharp(0),
+            each_a(|a| demanded_cells(k, a, 0)),
+            grouped(from),
+            sharp(from - 1),
+            sharp(slots),
+            fewer(k),
         ];
-        assert_eq!(row[..], columns, "k = {k}");
-        assert_eq!(whole_cells(k, 0, from), whole_cells(k, 0, slots));
+        holds(&format!("| {} |", columns.join(" | ")));
+        assert_eq!(sharp(from), sharp(slots));
     }
+}
+
+#[test]
+fn behind_another_switch() {
+    for k in 0..=10 {
+        let slots = 1 << k;
+        let ahead = 2 * deviation(k) as u64;
+        let from = first_more(k, ahead);
+        let columns = [
+            k.to_string(),
+            grouped(slots),
+            in_cells(4 * deviation(k), k),
+            sharp_cells(k, ahead, 0).to_string(),
+            grouped(from),
+            sharp_cells(k, ahead, from - 1).to_string(),
+            sharp_cells(k, ahead, slots).to_string(),
+        ];
+        holds(&format!("| {} |", columns.join(" | ")));
+        assert_eq!(sharp_cells(k, ahead, from), sharp_cells(k, ahead, slots));
+    }
+}
+
+#[test]
+fn no_other_rows() {
+    let is_row = |line: &&str| line.starts_with("| ") && line.as_bytes()[2].is_ascii_digit();
+    assert_eq!(TEXT.lines().filter(is_row).count(), 2 * 11);
+}
+
+#[test]
+fn examples() {
+    // Eight slots, three cells, an even source.
+    assert_eq!(sharp_cells(3, 8, 3), 3);
+    // 1,024 slots, 100 cells, an even source; by (2k + 1)/3 a cell more.
+    assert_eq!(sharp_cells(10, 1_024, 100), 7);
+    assert_eq!(demanded_cells(10, 1, 100), 8);
+    // Behind another switch.
+    assert_eq!(sharp_cells(10, 2 * deviation(10) as u64, 100), 13);
+    // An even source is ahead by less than a cell, which is a cell fewer where m is just the one of the column.
+    for k in 0..=10 {
+        let from = first_more(k, 0);
+        let slots = 1 << k;
+        assert_eq!(
+            sharp_cells(k, slots - 1, from) + 1,
+            sharp_cells(k, slots, from)
+        );
+        for m in (1..=slots).filter(|&m| m != from) {
+            assert_eq!(sharp_cells(k, slots - 1, m), sharp_cells(k, slots, m));
+        }
+    }
+}
+
+/// The depth of a flow's queue on a chain, fed as fast as it may be.
+fn depth_on(chain: &[Frame], class: Class, source: Source) -> Depth {
+    let course = Course::of(chain, class);
+    pass(&course, &source.arrivals(&course)).depth(source.ahead)
 }
 
 #[test]
@@ -66,7 +171,7 @@ fn seam() {
         input: 1,
         output: 2,
     };
-    let depth = depth_on(&chain, class, Source { from: 1, ahead: 1 });
+    let depth = depth_on(&chain, class, Source { from: 1, ahead: 2 });
     assert_eq!(depth.after, 0, "two cells wait, as the bound allows");
 }
 
@@ -80,6 +185,6 @@ fn a_bunched_frame_stands_too_deep() {
         bytes,
     };
     let class = Class::Input { port: 1 };
-    let depth = depth_on(&[frame], class, Source { from: 8, ahead: 1 });
+    let depth = depth_on(&[frame], class, Source { from: 8, ahead: 16 });
     assert!(depth.after > 0 && depth.before > 0, "{depth:?}");
 }

@@ -2,7 +2,7 @@
 
 use calls::{Calls, Class, Library};
 use loads::{Seam, SEAMS};
-use reference::queue::{pass, Source};
+use reference::queue::{ahead_behind_a_switch, pass, pass_row, Source, Switch};
 use reference::wire::{deviation, Course, Frame, Run};
 
 const FLOW: Class = Class::Pair {
@@ -108,5 +108,29 @@ fn queues_as_deep_as_allowed() {
         assert_eq!(depth(most).after, 0, "{seam:?}");
         let load = u64::from(seam.cells);
         assert_eq!(depth(most + load).before, 0, "{seam:?}");
+    }
+}
+
+/// In the run in which the first switch gets furthest ahead the second falls furthest behind; for larger k the two are not
+/// of one length, whatever whole frames are put between.
+#[test]
+fn rows_as_deep_as_allowed() {
+    for seam in &SEAMS[..2] {
+        let (slots, turn) = (seam.slots as usize, seam.turn);
+        let (alone, beside) = (&alone(*seam), &beside(*seam));
+        let switch = |frames: [&Frame; 3], delay| Switch {
+            course: Course::of(&frames.map(Frame::clone), FLOW),
+            delay,
+        };
+        // The one run ends in slot t of its last frame, the other in slot 2^k - t.
+        let row = [
+            switch([beside, beside, alone], 0),
+            switch([alone, alone, beside], slots - 2 * turn),
+        ];
+        let mut arrivals = vec![0; 3 * slots];
+        arrivals[slots - turn] = 3 * seam.slots;
+        let second = &pass_row(&row, &arrivals)[1];
+        let depth = second.depth(ahead_behind_a_switch(seam.k));
+        assert_eq!(depth.after, 0, "{seam:?}");
     }
 }
