@@ -15,6 +15,7 @@ const MOST_DOTTED: i64 = 128;
 const LINE: &str = "fill=\"none\" stroke=\"#1f5fbf\" stroke-width=\"1.5\"";
 const DASHES: &str =
     "fill=\"none\" stroke=\"#c62828\" stroke-width=\"1.5\" stroke-dasharray=\"8 5\"";
+const THIN: &str = "fill=\"none\" stroke=\"#8a6d3b\" stroke-width=\"0.8\"";
 const GREY: &str = "fill=\"none\" stroke=\"#777\" stroke-width=\"1.5\"";
 const FAINT: &str = "fill=\"none\" stroke=\"#e2e2e2\"";
 const AXES: &str = "fill=\"none\" stroke=\"#222\"";
@@ -61,7 +62,7 @@ impl Plot {
     }
 }
 
-/// Three times the bound of any run of a built frame, in cells.
+/// Three times the cells that demand 3 allows any run of a built frame; never less than the bound.
 fn thirds(course: &Course) -> i64 {
     2 * course.halvings() + 1
 }
@@ -82,8 +83,14 @@ pub fn draw_flow(course: &Course) -> String {
     draw_level(&mut page, plot.y(0.0), GREY);
     let beside = (RIGHT + 8.0, plot.y(0.0) + 4.0);
     page.text(beside, "fill=\"#555\"", "share");
-    draw_bound(&mut page, &plot, ("+", thirds(course)));
-    draw_bound(&mut page, &plot, ("\u{2212}", -thirds(course)));
+    draw_demand(&mut page, &plot, ("+", thirds(course)));
+    draw_demand(&mut page, &plot, ("\u{2212}", -thirds(course)));
+    if course.bound() == 0 {
+        draw_bound(&mut page, &plot, ("\u{b1}", 0));
+    } else {
+        draw_bound(&mut page, &plot, ("+", course.bound()));
+        draw_bound(&mut page, &plot, ("\u{2212}", -course.bound()));
+    }
     page.path(&course_path(&plot, course), LINE);
     if course.slots <= MOST_DOTTED {
         draw_dots(&mut page, &plot, course);
@@ -108,11 +115,11 @@ fn subtitle(course: &Course) -> String {
 fn draw_legend(page: &mut Page, course: &Course) {
     let base = 80.0;
     let so_far = "cells so far \u{2212} t \u{d7} m / 2^k, after t slots";
-    let bound = "bound: \u{b1}(2k + 1)/3 cells";
     let entries = [
         (MARGIN, LINE, so_far),
-        (340.0, DASHES, bound),
-        (640.0, GREY, "share: t \u{d7} m / 2^k cells"),
+        (330.0, DASHES, "bound of any run: \u{b1}2p(k) cells"),
+        (590.0, THIN, "demand 3: \u{b1}(2k + 1)/3 cells"),
+        (840.0, GREY, "share: t \u{d7} m / 2^k cells"),
     ];
     for (x, style, words) in entries {
         let mut path = Path::default();
@@ -178,19 +185,39 @@ fn draw_level(page: &mut Page, y: f64, style: &str) {
     page.path(&path, style);
 }
 
-/// The bound on one side, given by its sign and its thirds of a cell, with its value on the far side of it.
-fn draw_bound(page: &mut Page, plot: &Plot, (sign, thirds): (&str, i64)) {
+/// The bound on one side, given by its sign and its height, with its value on the near side of it.
+fn draw_bound(page: &mut Page, plot: &Plot, (sign, height): (&str, i64)) {
+    let slots = plot.slots as i64;
+    let cells = signed(height as f64 / plot.slots);
+    let value = match height * 1_000 % slots {
+        0 => cells,
+        _ => format!("{sign}{}/{slots} \u{2248} {cells}", height.abs()),
+    };
+    let y = plot.y_of(height);
+    draw_level(page, y, DASHES);
+    let base = if height < 0 { y - 7.0 } else { y + 17.0 };
+    let words = format!("bound of any run: {sign}2p(k) cells = {value}");
+    beside_level(page, base, "#b71c1c", &words);
+}
+
+/// What demand 3 allows on one side, given by its sign and its thirds of a cell, with its value on the far side of it.
+fn draw_demand(page: &mut Page, plot: &Plot, (sign, thirds): (&str, i64)) {
     let cells = thirds as f64 / 3.0;
     let value = match thirds % 3 {
         0 => signed(cells),
         _ => format!("{sign}{}/3 \u{2248} {}", thirds.abs(), signed(cells)),
     };
     let y = plot.y(cells);
-    draw_level(page, y, DASHES);
-    let base = if thirds > 0 { y - 7.0 } else { y + 17.0 };
-    let words = format!("bound: {sign}(2k + 1)/3 cells = {value}");
-    let attributes = "text-anchor=\"end\" fill=\"#b71c1c\"";
-    page.text((RIGHT - 6.0, base), attributes, &words);
+    draw_level(page, y, THIN);
+    let base = if thirds < 0 { y + 17.0 } else { y - 7.0 };
+    let words = format!("demand 3: {sign}(2k + 1)/3 cells = {value}");
+    beside_level(page, base, "#6f572f", &words);
+}
+
+/// Words at the right end of a line across.
+fn beside_level(page: &mut Page, base: f64, colour: &str, words: &str) {
+    let attributes = format!("text-anchor=\"end\" fill=\"{colour}\"");
+    page.text((RIGHT - 6.0, base), &attributes, words);
 }
 
 /// Level from slot to slot, with a jump at the end of each slot that changes the height.
@@ -250,8 +277,10 @@ mod tests {
         for words in [
             "<title>Pair (4, 4): m = 2 cells in a frame of 2^k = 4 slots (k = 2)</title>",
             "at most +0.5 (after slot 1), at least \u{2212}0.5 (after slot 3)<",
-            "bound: +(2k + 1)/3 cells = +5/3 \u{2248} +1.667<",
-            "bound: \u{2212}(2k + 1)/3 cells = \u{2212}5/3 \u{2248} \u{2212}1.667<",
+            "bound of any run: +2p(k) cells = +1.5<",
+            "bound of any run: \u{2212}2p(k) cells = \u{2212}1.5<",
+            "demand 3: +(2k + 1)/3 cells = +5/3 \u{2248} +1.667<",
+            "demand 3: \u{2212}(2k + 1)/3 cells = \u{2212}5/3 \u{2248} \u{2212}1.667<",
         ] {
             assert!(drawn.contains(words), "{words}");
         }
@@ -263,7 +292,22 @@ mod tests {
     fn a_whole_bound_is_a_whole_number() {
         let text = "(frame (ports 1) (slots 2))\n(slot 1 (1 1))\n(slot 2)\n";
         let drawn = draw_flow(&course(text, Flow::Pair(1, 1)));
-        assert!(drawn.contains("bound: +(2k + 1)/3 cells = +1<"));
+        assert!(drawn.contains("bound of any run: +2p(k) cells = +1<"));
+        assert!(drawn.contains("demand 3: +(2k + 1)/3 cells = +1<"));
+    }
+
+    #[test]
+    fn a_bound_with_many_digits_is_a_fraction_too() {
+        let text = include_str!("../../../examples/full.answer");
+        let drawn = draw_flow(&course(text, Flow::Pair(15, 1)));
+        assert!(drawn.contains("bound of any run: +2p(k) cells = +270/64 \u{2248} +4.219<"));
+    }
+
+    #[test]
+    fn a_frame_of_one_slot_has_no_room() {
+        let text = "(frame (ports 1) (slots 1))\n(slot 1 (1 1))\n";
+        let drawn = draw_flow(&course(text, Flow::Pair(1, 1)));
+        assert!(drawn.contains("bound of any run: \u{b1}2p(k) cells = 0<"));
     }
 
     #[test]

@@ -92,6 +92,11 @@ impl Course {
         i64::from(self.slots.trailing_zeros())
     }
 
+    /// The bound of any run of a built frame, as a height: 2p(k) cells.
+    pub fn bound(&self) -> i64 {
+        2 * deviation(self.halvings())
+    }
+
     /// Each t whose height is not that of t − 1, with its height.
     pub fn jumps(&self) -> impl Iterator<Item = (i64, i64)> + '_ {
         let slots = (1..).zip(self.heights.windows(2));
@@ -121,6 +126,15 @@ impl Course {
                     best
                 }
             })
+    }
+}
+
+/// 2^k times p(k), where p(0) is 0, p(1) is 1/2, and each further p is 1/2 more than the mean of the two before it.
+fn deviation(k: i64) -> i64 {
+    match k {
+        0 => 0,
+        1 => 1,
+        _ => deviation(k - 1) + 2 * deviation(k - 2) + (1 << (k - 1)),
     }
 }
 
@@ -185,6 +199,16 @@ mod tests {
     }
 
     #[test]
+    fn bounds_of_frames_of_1_to_1024_slots() {
+        let by_hand = [0, 1, 3, 9, 23, 57, 135, 313, 711, 1_593, 3_527];
+        for (k, by_hand) in (0..).zip(by_hand) {
+            assert_eq!(deviation(k), by_hand);
+            assert!(6 * by_hand <= (2 * k + 1) << k);
+        }
+        assert_eq!(table7(Flow::Pair(4, 4)).bound(), 6);
+    }
+
+    #[test]
     fn every_flow_of_a_full_switch_keeps_within_half_the_bound_from_the_beginning() {
         let text = include_str!("../../../examples/full.answer");
         let frame = Frame::read(text.as_bytes()).unwrap();
@@ -192,8 +216,11 @@ mod tests {
         let ports = (1..=16).flat_map(|port| [Flow::Input(port), Flow::Output(port)]);
         for flow in pairs.chain(ports) {
             let course = Course::of(&frame, flow).unwrap();
-            let most = (2 * course.halvings() + 1) * course.slots;
-            assert!(course.heights.iter().all(|height| 6 * height.abs() <= most));
+            let bound = course.bound();
+            assert!(course
+                .heights
+                .iter()
+                .all(|height| 2 * height.abs() <= bound));
         }
     }
 }

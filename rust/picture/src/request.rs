@@ -14,8 +14,12 @@ picture: draws what ./frame prints, as an SVG file on standard output
   ./picture --help                           prints this
 
 Ahead of its share: after t slots, the cells so far less t x m / 2^k, where m is the cells in the whole frame of 2^k slots. The
-line is level from a slot's end to the next one's. On either side of it is the bound, (2k + 1)/3 cells: no flow of a frame that
-./frame prints is farther ahead of its share, or behind, in any run of slots.
+line is level from a slot's end to the next one's.
+
+On either side of it is a dashed line, the bound of 2p(k) cells: in no run of slots, of whatever frames that ./frame prints, is a
+flow farther ahead of its share, or behind, and in some run one is just as far. p(0) is 0, p(1) is 1/2, and each further p is 1/2
+more than the mean of the two before it. A run that begins with a frame uses at most half of it. The thin line outside is what
+demand 3 allows, (2k + 1)/3 cells.
 
 Examples:
 
