@@ -89,6 +89,8 @@ impl Hits {
         names.extend((0..=10).map(|k| format!("build with {} slots", 1 << k)));
         names.extend(CHAIN_EVENTS.map(str::to_string));
         names.extend((1..=10).map(|k| name_at(RUN_REACHED, k)));
+        names.push(name_at(QUEUE_REACHED_AFTER, 1));
+        names.push(name_at(QUEUE_REACHED_BEFORE, 1));
         names.extend((2..=5).map(|switches| format!("row of {switches} switches")));
         let kinds = Kind::all().into_iter();
         names.extend(kinds.map(|kind| format!("case {}", kind.name())));
