@@ -62,7 +62,7 @@ impl Plot {
     }
 }
 
-/// Three times the cells that demand 3 allows any run of a built frame; never less than the bound.
+/// Three times the cells that the customer asked any run to keep to; never less than the bound.
 fn thirds(course: &Course) -> i64 {
     2 * course.halvings() + 1
 }
@@ -118,8 +118,8 @@ fn draw_legend(page: &mut Page, course: &Course) {
     let entries = [
         (MARGIN, LINE, so_far),
         (330.0, DASHES, "bound of any run: \u{b1}2p(k) cells"),
-        (590.0, THIN, "demand 3: \u{b1}(2k + 1)/3 cells"),
-        (840.0, GREY, "share: t \u{d7} m / 2^k cells"),
+        (590.0, THIN, "bound asked for: \u{b1}(2k + 1)/3 cells"),
+        (880.0, GREY, "share: t \u{d7} m / 2^k cells"),
     ];
     for (x, style, words) in entries {
         let mut path = Path::default();
@@ -200,7 +200,7 @@ fn draw_bound(page: &mut Page, plot: &Plot, (sign, height): (&str, i64)) {
     beside_level(page, base, "#b71c1c", &words);
 }
 
-/// What demand 3 allows on one side, given by its sign and its thirds of a cell, with its value on the far side of it.
+/// The bound asked for on one side, given by its sign and its thirds of a cell, with its value on the far side of it.
 fn draw_demand(page: &mut Page, plot: &Plot, (sign, thirds): (&str, i64)) {
     let cells = thirds as f64 / 3.0;
     let value = match thirds % 3 {
@@ -210,7 +210,7 @@ fn draw_demand(page: &mut Page, plot: &Plot, (sign, thirds): (&str, i64)) {
     let y = plot.y(cells);
     draw_level(page, y, THIN);
     let base = if thirds < 0 { y + 17.0 } else { y - 7.0 };
-    let words = format!("demand 3: {sign}(2k + 1)/3 cells = {value}");
+    let words = format!("bound asked for: {sign}(2k + 1)/3 cells = {value}");
     beside_level(page, base, "#6f572f", &words);
 }
 
@@ -279,8 +279,8 @@ mod tests {
             "at most +0.5 (after slot 1), at least \u{2212}0.5 (after slot 3)<",
             "bound of any run: +2p(k) cells = +1.5<",
             "bound of any run: \u{2212}2p(k) cells = \u{2212}1.5<",
-            "demand 3: +(2k + 1)/3 cells = +5/3 \u{2248} +1.667<",
-            "demand 3: \u{2212}(2k + 1)/3 cells = \u{2212}5/3 \u{2248} \u{2212}1.667<",
+            "bound asked for: +(2k + 1)/3 cells = +5/3 \u{2248} +1.667<",
+            "bound asked for: \u{2212}(2k + 1)/3 cells = \u{2212}5/3 \u{2248} \u{2212}1.667<",
         ] {
             assert!(drawn.contains(words), "{words}");
         }
@@ -293,7 +293,7 @@ mod tests {
         let text = "(frame (ports 1) (slots 2))\n(slot 1 (1 1))\n(slot 2)\n";
         let drawn = draw_flow(&course(text, Flow::Pair(1, 1)));
         assert!(drawn.contains("bound of any run: +2p(k) cells = +1<"));
-        assert!(drawn.contains("demand 3: +(2k + 1)/3 cells = +1<"));
+        assert!(drawn.contains("bound asked for: +(2k + 1)/3 cells = +1<"));
     }
 
     #[test]

@@ -18,8 +18,8 @@ line is level from a slot's end to the next one's.
 
 On either side of it is a dashed line, the bound of 2p(k) cells: in no run of slots, of whatever frames that ./frame prints, is a
 flow farther ahead of its share, or behind, and in some run one is just as far. p(0) is 0, p(1) is 1/2, and each further p is 1/2
-more than the mean of the two before it. A run that begins with a frame uses at most half of it. The thin line outside is what
-demand 3 allows, (2k + 1)/3 cells.
+more than the mean of the two before it. A run that begins with a frame uses at most half of it. The thin line outside is the
+bound that the customer asked for, (2k + 1)/3 cells.
 
 Examples:
 
