@@ -32,7 +32,7 @@ pub struct Passed {
     pub sent: Vec<u64>,
     /// The most cells that waited after a slot.
     pub waiting: u64,
-    /// The most that waited just before a slot's cell left, less the slot's share, in parts of 1/2^k of a cell.
+    /// The most that waited just before a slot's cell left, less the slot's share, in parts of 1/2^k of a cell; at least 0.
     before: i128,
     slots: u64,
 }
