@@ -1,7 +1,8 @@
 /* The frame builder of a sixteen-port cell switch: the proved calls, for C99 and C++11, on x86-64 Linux.
  *
- * Link with target/staticlib/libexports.a, which `rt staticlib exports` proves and writes; of the C library it needs memcpy and memset.
- * examples/table7.c shows how the calls are used.
+ * Link with libframe_builder.a: `./install` of the frame builder proves the calls and puts it under its prefix, and pkg-config has the flags
+ * of frame_builder. In a checkout `rt staticlib exports` writes the same to target/staticlib/libexports.a. Of the C library it needs memcpy
+ * and memset. examples/table7.c shows how the calls are used.
  *
  * WORDS. Ports and slots are numbered from 1, inputs and outputs separately. A load matrix has one 16-bit cell count per pair, row by row:
  * all outputs of input 1, then of input 2, and so on. The load of a port is the sum of its row or column. A frame is slots x ports bytes,
