@@ -10,8 +10,8 @@ pub fn byte(x: u8) -> usize
 }
 
 // A count of cells as a number.
-pub fn count(x: u16) -> usize
-    ensures { λ r. ⌜ (r ≡ x) × (r ≤ 65535) ⌝ }
+pub fn count(cells: u16) -> usize
+    ensures { λ r. ⌜ (r ≡ cells) × (r ≤ 65535) ⌝ }
 {
-    x as usize
+    cells as usize
 }
