@@ -41,11 +41,6 @@ module _ (t : ℕ → Bool) where
   first-none (suc n) a b =
       rw (b a (omega arith) (omega arith)) (first-none n (suc a) (λ y k h. b y (omega arith) (omega arith)) ∙ omega arith)
 
-  -- one step more
-  pub first-snoc : (n a : ℕ) → first t a n ≡ a + n → t (a + n) ≡ false → first t a (suc n) ≡ a + suc n
-  first-snoc n a e f =
-      first-none (suc n) a (λ y l h. byEq y (a + n) (λ d. rw d f) (λ d. first-before n a y l (omega arith)))
-
 -- two tests that agree find the same
 pub first-ext : (s t : ℕ → Bool) (n a : ℕ) → ((y : ℕ) → a ≤ y → y < a + n → s y ≡ t y) → first s a n ≡ first t a n
 first-ext s t zero a h = refl

@@ -61,9 +61,6 @@ printed-both out at a b mid at′ new next x y =
     }
 
 -- ---- a byte, a word, a number
-pub put-in : (out : List ℕ) (at b : ℕ) → Printed out at (b ∷ []) (set out at b) (at + 1)
-put-in out at b = record { is = refl; place = refl }
-
 pub put-out : (out : List ℕ) (at b : ℕ) → length out ≤ at → Printed out at (b ∷ []) out (at + 1)
 put-out out at b h = record { is = sym (set-out out at b h); place = refl }
 
