@@ -1,74 +1,177 @@
--- Sums of the counts of each port of a side, one position more at a time.
-use Prim.Native.Nat.{ℕ, _+_, _*_, _≤_, _<_}
-use mathlib.Core.Path.{_≡_, sym, ap, _∙_}
+-- Every port's load, row by row: a row is added count by count, and its sum is its input's load.
+use Prim.Native.Nat.{ℕ, suc, _+_, _-_, _*_, _≤_, _<_}
+use mathlib.Core.Path.{_≡_, refl, sym, ap, _∙_}
 use mathlib.Core.List.{List}
 use native.Mathlib.Omega.{arith}
-use native.Mathlib.Nat.{mul-le-mul}
-use lib.ListN.{length, getD, set, replicate, length-set, getD-replicate}
-use lib.Seq.{getD-set-same, getD-set-other}
-use Rattle.model.specs.Rules.{Side, portOf}
-use Rattle.model.proofs.Cases.{byEq}
-use Rattle.model.proofs.Overloads.{addedTo, added-none, added-own, added-other, added-load, port-low}
-use Rattle.model.proofs.Halves.{kind}
-use Rattle.admission.specs.Overloads.{Size, LoadsOf}
+use native.Mathlib.Nat.{mul-le-mul, mul-le-mul-right}
+use native.Mathlib.Numerals.{add-one}
+use mir.Syntax.{w64}
+use mir.Val.{Fits}
+use lib.ListN.{length, set, take, drop, replicate, length-set, length-take, length-drop, length-replicate, List·getD-eq-default}
+use lib.Seq.{getD-set-same, getD-set-other, getD-take, getD-drop}
+use Rattle.model.specs.Words.{sumTo}
+use Rattle.model.specs.Loads.{input, output, countOf, load}
+use Rattle.model.proofs.Cases.{byEq, byLt}
+use Rattle.model.proofs.Settled.{zero-at}
+use Rattle.model.proofs.Sums.{sum-none, sum-more, sum-ext, sum-most}
+use Rattle.admission.specs.Overloads.{Size, numbers, LoadsAt, EveryLoad, Room, RowAdded}
 
--- sixteen sums over the first n positions
-pub record Adding (side : Side) (ports : ℕ) (matrix : List ℕ) (n : ℕ) (sums : List ℕ) : Type 0 where
-  pub len : length sums ≡ 16
-  pub each : (x : ℕ) → x < 16 → getD sums x 0 ≡ addedTo (portOf ports side) matrix n x
-  pub most : (x : ℕ) → x < 16 → getD sums x 0 ≤ 65535 * n
+-- ---- a row: all but the last so many of its counts are added
+pub record Adding (row old : List ℕ) (left : ℕ) (new : List ℕ) (total : ℕ) : Type 0 where
+  pub most : left ≤ length row
+  pub len : length new ≡ 16
+  pub added : (x : ℕ) → x < length row - left → numbers new x ≡ numbers old x + numbers row x
+  pub kept : (x : ℕ) → length row - left ≤ x → numbers new x ≡ numbers old x
+  pub total-is : total ≡ sumTo (length row - left) (numbers row)
+  pub small : (x : ℕ) → x < length row - left → numbers row x ≤ 65535
 
-pub adding-start : {side : Side} {ports : ℕ} {matrix sums : List ℕ} → sums ≡ replicate 16 0 → Adding side ports matrix 0 sums
-adding-start {side} {ports} {matrix} {sums} e =
-    let none : (x : ℕ) → x < 16 → getD sums x 0 ≡ 0 = λ x l. rw e (getD-replicate 16 x 0 0 l) in
+pub adding-start : {row old : List ℕ} → Room old → Adding row old (length row) old 0
+adding-start {row} {old} room =
+    let e : length row - length row ≡ 0 = omega arith in
     record {
-      len = rw e;
-      each = λ x l. none x l ∙ sym (added-none (portOf ports side) matrix x);
-      most = λ x l. omega (arith, none x l);
+      most = omega arith;
+      len = room .len;
+      added = λ x l. absurd (omega arith);
+      kept = λ x l. refl;
+      total-is = rw e (sym (sum-none (numbers row)));
+      small = λ x l. absurd (omega arith);
     }
 
--- what one position more asks, and what it gives
-module _ (side : Side) {ports n count : ℕ} {matrix sums : List ℕ} (size : Size ports matrix)
-    (a : Adding side ports matrix n sums) (here : n < length matrix) (small : count ≤ 65535) where
-  port-below : portOf ports side n < 16
-  port-below =
-      let m = size .most in
-      let h : n < ports * ports = omega (arith, size .square) in
-      let l = port-low side (size .least) h in
-      omega arith
+module _ {row old new : List ℕ} {left total count : ℕ} (short : length row ≤ 16) (a : Adding row old left new total) (here : 0 < left)
+    (low : count ≤ 65535) where
+  -- the room for one count more
+  pub sum-fits : Room old → Fits w64 (numbers new (length row - left) + count)
+  sum-fits room = record { fits = omega (arith, a .kept (length row - left) (omega arith), room .most (length row - left)) }
 
-  pub adding-asks : (portOf ports side n < 16) × (length sums ≡ 16) × (getD sums (portOf ports side n) 0 + count ≤ 16776960)
-  adding-asks =
-      let m = mul-le-mul (size .most) (size .most) in
-      (port-below, a .len, omega (arith, a .most (portOf ports side n) port-below, size .square))
+  pub total-fits : Fits w64 (total + count)
+  total-fits = record { fits = omega (arith, a .total-is, sum-most (length row - left) 65535 (numbers row) (a .small)) }
 
-  pub adding-on : {next : List ℕ} → count ≡ getD matrix n 0
-      → next ≡ set sums (portOf ports side n) (getD sums (portOf ports side n) 0 + count) → Adding side ports matrix (n + 1) next
+  pub adding-on : {next : List ℕ} → count ≡ numbers row (length row - left) → next ≡ set new (length row - left) (numbers new (length row - left) + count)
+      → Adding row old (left - 1) next (total + count)
   adding-on {next} c e =
-      let port : ℕ → ℕ = portOf ports side in
-      let x : ℕ = port n in
-      let sum : ℕ = getD sums x 0 + count in
-      let long : x < length sums = omega (arith, a .len, port-below) in
-      let own : getD next x 0 ≡ sum = rw e (getD-set-same sums x sum 0 long) in
-      let other : (y : ℕ) → (y ≡ x → ⊥) → getD next y 0 ≡ getD sums y 0 = λ y d. rw e (getD-set-other sums x y sum 0 d) in
+      let n : ℕ = length row - left in
+      let sum : ℕ = numbers new n + count in
+      let m = a .most in
+      let more : length row - (left - 1) ≡ suc n = omega arith in
+      let own : numbers next n ≡ sum = rw e (getD-set-same new n sum 0 (omega (arith, a .len))) in
+      let other : (x : ℕ) → (x ≡ n → ⊥) → numbers next x ≡ numbers new x = λ x d. rw e (getD-set-other new n x sum 0 d) in
       record {
-        len = ap length e ∙ length-set sums x sum ∙ a .len;
-        each = λ y k. byEq y x
-            (λ d. rw d (omega (arith, own, a .each x port-below, added-own port matrix n x (λ i. x))))
-            (λ d. omega (arith, other y d, a .each y k, added-other port matrix n y (λ s. d (sym s))));
-        most = λ y k. byEq y x
-            (λ d. rw d (omega (arith, own, a .most x port-below)))
-            (λ d. omega (arith, other y d, a .most y k));
+        most = omega arith;
+        len = ap length e ∙ length-set new n sum ∙ a .len;
+        added = λ x l. byEq x n
+            (λ d. rw d (omega (arith, own, a .kept n (omega arith))))
+            (λ d. omega (arith, other x d, a .added x (omega arith)));
+        kept = λ x l. omega (arith, other x (omega arith), a .kept x (omega arith));
+        total-is = rw more (omega (arith, a .total-is, sum-more n (numbers row)));
+        small = λ x l. byEq x n (λ d. rw d (omega arith)) (λ d. a .small x (omega arith));
       }
 
-pub adding-end : (side : Side) {ports n : ℕ} {matrix sums : List ℕ} → Size ports matrix → Adding side ports matrix n sums → n ≤ length matrix → length matrix ≤ n
-    → LoadsOf (kind side) ports matrix sums
-adding-end side {ports} {n} {matrix} {sums} size a h g =
-    let m = size .most in
-    let e : n ≡ length matrix = omega arith in
+pub adding-end : {row old new : List ℕ} {left total : ℕ} → Adding row old left new total → left ≤ 0 → RowAdded row old new total
+adding-end {row} {old} {new} {left} {total} a h =
+    let e : length row - left ≡ length row = omega arith in
+    let past : (x : ℕ) → length row ≤ x → numbers row x ≡ 0 = λ x l. List·getD-eq-default row 0 l in
     record {
       len = a .len;
-      each = λ x l. a .each x (omega arith)
-          ∙ ap (λ z. addedTo (portOf ports side) matrix z x) (e ∙ size .square)
-          ∙ added-load side ports matrix x l;
+      each = λ x. byLt x (length row) (λ l. a .added x (omega arith)) (λ l. omega (arith, a .kept x (omega arith), past x l));
+      total-is = a .total-is ∙ ap (λ z. sumTo z (numbers row)) e;
+      small = λ x. byLt x (length row) (λ l. a .small x (omega arith)) (λ l. omega (arith, past x l));
+    }
+
+-- ---- the rows: the first i of them are added, which are the first `from` counts
+pub record Rows (ports : ℕ) (matrix : List ℕ) (i from : ℕ) (ins outs : List ℕ) : Type 0 where
+  pub most : i ≤ ports
+  pub is : from ≡ i * ports
+  pub ins-len : length ins ≡ 16
+  pub ins-each : (x : ℕ) → x < i → numbers ins x ≡ load (input x) ports matrix
+  pub ins-none : (x : ℕ) → i ≤ x → numbers ins x ≡ 0
+  pub outs-len : length outs ≡ 16
+  pub outs-each : (x : ℕ) → x < ports → numbers outs x ≡ sumTo i (λ t. countOf ports matrix t x)
+  pub outs-none : (x : ℕ) → ports ≤ x → numbers outs x ≡ 0
+  pub outs-most : (x : ℕ) → numbers outs x ≤ i * 65535
+
+pub rows-start : {ports : ℕ} {matrix ins outs : List ℕ} → ins ≡ replicate 16 0 → outs ≡ replicate 16 0 → Rows ports matrix 0 0 ins outs
+rows-start {ports} {matrix} {ins} {outs} e d =
+    let in-none : (x : ℕ) → numbers ins x ≡ 0 = λ x. rw e (zero-at 16 x) in
+    let out-none : (x : ℕ) → numbers outs x ≡ 0 = λ x. rw d (zero-at 16 x) in
+    record {
+      most = omega arith;
+      is = omega arith;
+      ins-len = rw e;
+      ins-each = λ x l. absurd (omega arith);
+      ins-none = λ x l. in-none x;
+      outs-len = rw d;
+      outs-each = λ x l. out-none x ∙ sym (sum-none (λ t. countOf ports matrix t x));
+      outs-none = λ x l. out-none x;
+      outs-most = λ x. omega (arith, out-none x);
+    }
+
+module _ {ports i from : ℕ} {matrix ins outs : List ℕ} (size : Size ports matrix) (r : Rows ports matrix i from ins outs) (here : i < ports) where
+  -- the next row is a part of the matrix
+  pub row-ends : from + ports ≤ length matrix
+  row-ends = let k = mul-le-mul-right {m = i + 1} {n = ports} ports (omega arith) in omega (arith, size .square, r .is)
+
+  matrix-most : length matrix ≤ 256
+  matrix-most = let k = mul-le-mul (size .most) (size .most) in omega (arith, size .square)
+
+  -- its places and their offsets in bytes are numbers
+  pub end-fits : Fits w64 (from + ports)
+  end-fits = record { fits = omega (arith, row-ends, matrix-most) }
+
+  pub start-fits : Fits w64 (from * 2)
+  start-fits = record { fits = omega (arith, row-ends, matrix-most) }
+
+  abbrev row : List ℕ
+  row = take (from + ports - from) (drop from matrix)
+
+  row-length : length row ≡ ports
+  row-length = let k = row-ends in simp (length-take, length-drop) (omega arith)
+
+  pub row-short : length row ≤ 16
+  row-short = omega (arith, row-length, size .most)
+
+  row-at : (o : ℕ) → o < ports → numbers row o ≡ countOf ports matrix i o
+  row-at o l = rw (getD-take (from + ports - from) (drop from matrix) o 0 (omega arith), getD-drop from matrix o 0, r .is)
+
+  row-load : sumTo (length row) (numbers row) ≡ load (input i) ports matrix
+  unfolding load
+  row-load = ap (λ z. sumTo z (numbers row)) row-length ∙ sum-ext ports (numbers row) (λ o. countOf ports matrix i o) row-at
+
+  -- the outputs' sums have room for it
+  pub rows-room : Room outs
+  rows-room =
+      let m = size .most in
+      record { len = r .outs-len; most = λ x. omega (arith, r .outs-most x) }
+
+  pub input-low : i < 16
+  input-low = let m = size .most in omega arith
+
+  pub rows-on : {ins′ outs′ : List ℕ} {total : ℕ} → RowAdded row outs outs′ total → ins′ ≡ set ins i total → Rows ports matrix (i + 1) (from + ports) ins′ outs′
+  rows-on {ins′} {outs′} {total} a e =
+      let own : numbers ins′ i ≡ total = rw e (getD-set-same ins i total 0 (omega (arith, r .ins-len, input-low))) in
+      let other : (x : ℕ) → (x ≡ i → ⊥) → numbers ins′ x ≡ numbers ins x = λ x d. rw e (getD-set-other ins i x total 0 d) in
+      record {
+        most = omega arith;
+        is = omega (arith, r .is);
+        ins-len = ap length e ∙ length-set ins i total ∙ r .ins-len;
+        ins-each = λ x l. byEq x i (λ d. rw d (own ∙ a .total-is ∙ row-load)) (λ d. other x d ∙ r .ins-each x (omega arith));
+        ins-none = λ x l. other x (omega arith) ∙ r .ins-none x (omega arith);
+        outs-len = a .len;
+        outs-each = λ x l.
+            rw (add-one i) (omega (arith, a .each x, r .outs-each x l, row-at x l, sum-more i (λ t. countOf ports matrix t x)));
+        outs-none = λ x l. omega (arith, a .each x, r .outs-none x l, List·getD-eq-default row 0 {n = x} (omega (arith, row-length)));
+        outs-most = λ x. omega (arith, a .each x, r .outs-most x, a .small x);
+      }
+
+pub rows-end : {ports i from : ℕ} {matrix ins outs : List ℕ} → Rows ports matrix i from ins outs → ports ≤ i → EveryLoad ports matrix ins outs
+unfolding load
+rows-end {ports} {i} {from} {matrix} {ins} {outs} r h =
+    let m = r .most in
+    let e : i ≡ ports = omega arith in
+    record {
+      of-inputs = record { len = r .ins-len; each = λ x l. r .ins-each x (omega arith); none = λ x l. r .ins-none x (omega arith) };
+      of-outputs = record {
+        len = r .outs-len;
+        each = λ x l. r .outs-each x l ∙ ap (λ z. sumTo z (λ t. countOf ports matrix t x)) e;
+        none = r .outs-none;
+      };
     }

@@ -7,13 +7,12 @@ use native.Mathlib.Omega.{arith}
 use native.Mathlib.Nat.{pow-le-pow-right, two-pow-succ}
 use native.Mathlib.Numerals.{add-one}
 use lib.Dec.{eqb, ltb}
-use lib.ListN.{getD}
 use borrow.Author.Tests.{eq-eqb, ne-eqb, lt-ltb, le-ltb}
 use Rattle.model.specs.Words.{first}
-use Rattle.model.specs.Refusals.{levels}
+use Rattle.model.specs.Refusals.{levels, lowestAbove}
 use Rattle.model.proofs.Cases.{byEq}
 use Rattle.model.proofs.Searches.{first-is, first-none}
-use Rattle.admission.specs.Overloads.{Lowest}
+use Rattle.admission.specs.Overloads.{numbers}
 
 pub record Failing (t : ℕ → Bool) (x : ℕ) : Type 0 where
   pub below : (y : ℕ) → y < x → t y ≡ false
@@ -61,27 +60,27 @@ module _ {slots k power : ℕ} (c : Climbing slots k power) where
       let e : k ≡ 11 = omega arith in
       e ∙ failing-none (c .none) 11 l
 
--- ---- the lowest port above slots: of the ports, all but the last so many are not
-pub record Passing (ports slots : ℕ) (loads : List ℕ) (left : ℕ) : Type 0 where
-  pub most : left ≤ ports
-  pub none : Failing (λ x. ltb slots (getD loads x 0)) (ports - left)
+-- ---- the lowest port above slots: of sixteen ports, all but the last so many are not
+pub record Passing (slots : ℕ) (loads : List ℕ) (left : ℕ) : Type 0 where
+  pub most : left ≤ 16
+  pub none : Failing (λ x. ltb slots (numbers loads x)) (16 - left)
 
-pub passing-start : {ports slots : ℕ} {loads : List ℕ} → Passing ports slots loads ports
+pub passing-start : {slots : ℕ} {loads : List ℕ} → Passing slots loads 16
 passing-start = record { most = omega arith; none = failing-start (omega arith) }
 
-module _ {ports slots left : ℕ} {loads : List ℕ} (p : Passing ports slots loads left) where
-  pub passing-on : {cells : ℕ} → cells ≡ getD loads (ports - left) 0 → cells ≤ slots → 0 < left → Passing ports slots loads (left - 1)
+module _ {slots left : ℕ} {loads : List ℕ} (p : Passing slots loads left) where
+  pub passing-on : {cells : ℕ} → cells ≡ numbers loads (16 - left) → cells ≤ slots → 0 < left → Passing slots loads (left - 1)
   passing-on {cells} e l h =
       let m = p .most in
       record {
         most = omega arith;
-        none = failing-on (p .none) (le-ltb slots (getD loads (ports - left) 0) (omega arith)) (omega arith);
+        none = failing-on (p .none) (le-ltb slots (numbers loads (16 - left)) (omega arith)) (omega arith);
       }
 
-  pub passing-found : {cells : ℕ} → cells ≡ getD loads (ports - left) 0 → slots < cells → 0 < left → Lowest ports slots loads (ports - left)
+  pub passing-found : {cells : ℕ} → cells ≡ numbers loads (16 - left) → slots < cells → 0 < left → 16 - left ≡ lowestAbove 16 slots (numbers loads)
   passing-found {cells} e l h =
       let m = p .most in
-      record { is = failing-found (p .none) ports (omega arith) (lt-ltb slots (getD loads (ports - left) 0) (omega arith)) }
+      failing-found (p .none) 16 (omega arith) (lt-ltb slots (numbers loads (16 - left)) (omega arith))
 
-  pub passing-none : left ≤ 0 → Lowest ports slots loads ports
-  passing-none l = record { is = failing-none (p .none) ports (omega arith) }
+  pub passing-none : left ≤ 0 → 16 ≡ lowestAbove 16 slots (numbers loads)
+  passing-none l = failing-none (p .none) 16 (omega arith)

@@ -1,13 +1,12 @@
 // Admit, and the conditions of the refusals that other calls share with it.
 ghost use mathlib.Core.Path.{_≡_};
 ghost use mathlib.Core.Bool.{not};
-ghost use Prim.Native.Nat.{_+_, _*_, _≤_, _<_};
+ghost use Prim.Native.Nat.{_*_, _≤_};
 ghost use lib.Dec.{eqb};
-ghost use lib.ListN.{length, getD, set, replicate};
+ghost use lib.ListN.{length};
 ghost use Rattle.model.specs.Words.{within};
-ghost use Rattle.model.specs.Loads.{input, output};
-ghost use Rattle.model.specs.Refusals.{levels, answered, admitted};
-ghost use Rattle.admission.specs.Overloads.{Size, LoadsOf, Lowest, overloads};
+ghost use Rattle.model.specs.Refusals.{levels, lowestAbove, answered, admitted};
+ghost use Rattle.admission.specs.Overloads.{Size, numbers, EveryLoad, Room, RowAdded, decided};
 use model::Answer;
 use model::Refusal;
 
@@ -57,62 +56,78 @@ pub fn bad_length(length: usize, rows: usize, columns: usize) -> bool
     length / columns != rows
 }
 
-// Adds a count to the load of a port: sixteen counts of 16 bits need 20; the bound is that of 256 counts.
-fn add_to(loads: &mut [usize; 16], port: usize, count: usize)
-    requires { ⌜ (port < 16) × (length (now loads) ≡ 16) × (getD (now loads) port 0 + count ≤ 16776960) ⌝ }
-    ensures { λ _. ⌜ now (loads .exit) ≡ set (now (loads .entry)) port (getD (now (loads .entry)) port 0 + count) ⌝ }
-{
-    loads[port] = loads[port] + count;
+// The load of each input and of each output, at the place of its number less 1, and 0 at a place of no port.
+pub struct Loads {
+    pub inputs: [usize; 16],
+    pub outputs: [usize; 16],
 }
 
-// Adds each count to the load of its input and to that of its output, in one pass.
-fn add_loads(ports: usize, matrix: &[u16], inputs: &mut [usize; 16], outputs: &mut [usize; 16])
-    requires { ⌜ Size ports (now matrix) ⌝ }
-    requires { ⌜ (now inputs ≡ replicate 16 0) × (now outputs ≡ replicate 16 0) ⌝ }
-    ensures { λ _. ⌜ LoadsOf input ports (now (matrix .entry)) (now (inputs .exit)) × LoadsOf output ports (now (matrix .entry)) (now (outputs .exit)) ⌝ }
+// Adds the counts of a row to the loads of its outputs; what they sum to is the load of its input.
+fn add_row(row: &[u16], outputs: &mut [usize; 16]) -> usize
+    requires { ⌜ (length (now row) ≤ 16) × Room (now outputs) ⌝ }
+    ensures { λ r. ⌜ RowAdded (now (row .entry)) (now (outputs .entry)) (now (outputs .exit)) r ⌝ }
 {
-    let mut p: usize = 0;
-    while p < matrix.len() {
-        let count = widths::count(matrix[p]);
-        add_to(inputs, p / ports, count);
-        add_to(outputs, p % ports, count);
-        p += 1;
-    }
-}
-
-// The lowest port whose load is above slots; ports where there is none.
-fn lowest_above(ports: usize, slots: usize, loads: &[usize; 16]) -> usize
-    requires { ⌜ (ports ≤ 16) × (length (now loads) ≡ 16) ⌝ }
-    ensures { λ r. ⌜ Lowest ports slots (now (loads .entry)) r ⌝ }
-{
-    let mut left = ports;
+    let mut load: usize = 0;
+    let mut left = row.len();
     while 0 < left {
-        let x = ports - left;
+        let o = row.len() - left;
+        let count = widths::count(row[o]);
+        outputs[o] = outputs[o] + count;
+        load = load + count;
+        left -= 1;
+    }
+    load
+}
+
+// Every port's load, in one pass over the matrix.
+pub fn loads_of(ports: usize, matrix: &[u16]) -> Loads
+    requires { ⌜ Size ports (now matrix) ⌝ }
+    ensures { λ r. ⌜ EveryLoad ports (now (matrix .entry)) (r .inputs) (r .outputs) ⌝ }
+{
+    let mut inputs: [usize; 16] = [0; 16];
+    let mut outputs: [usize; 16] = [0; 16];
+    let mut from: usize = 0;
+    let mut i: usize = 0;
+    while i < ports {
+        let end = from + ports;
+        inputs[i] = add_row(&matrix[from..end], &mut outputs);
+        from = end;
+        i += 1;
+    }
+    Loads { inputs, outputs }
+}
+
+// The lowest of sixteen ports whose load is above slots; 16 where there is none.
+fn lowest_above(slots: usize, loads: &[usize; 16]) -> usize
+    requires { ⌜ length (now loads) ≡ 16 ⌝ }
+    ensures { λ r. ⌜ r ≡ lowestAbove 16 slots (numbers (now (loads .entry))) ⌝ }
+{
+    let mut left: usize = 16;
+    while 0 < left {
+        let x = 16 - left;
         if slots < loads[x] {
             return x;
         }
         left -= 1;
     }
-    ports
+    16
 }
 
-// Refusals 5 and 6 of a matrix of ports × ports counts.
-pub fn overload(ports: usize, slots: usize, matrix: &[u16]) -> Answer
-    requires { ⌜ Size ports (now matrix) ⌝ }
-    ensures { λ r. ⌜ answered r ≡ overloads ports slots (now (matrix .entry)) ⌝ }
+// Refusals 5 and 6, decided from every port's load and slots.
+pub fn overload(slots: usize, loads: Loads) -> Answer
+    ensures { λ r. ⌜ answered r ≡ decided slots (loads .inputs) (loads .outputs) ⌝ }
 {
-    let mut inputs: [usize; 16] = [0; 16];
-    let mut outputs: [usize; 16] = [0; 16];
-    add_loads(ports, matrix, &mut inputs, &mut outputs);
-    let i = lowest_above(ports, slots, &inputs);
-    if i < ports {
+    let inputs = loads.inputs;
+    let i = lowest_above(slots, &inputs);
+    if i < 16 {
         return Answer::Refused(Refusal::InputLoad {
             port: i + 1,
             cells: inputs[i],
         });
     }
-    let o = lowest_above(ports, slots, &outputs);
-    if o < ports {
+    let outputs = loads.outputs;
+    let o = lowest_above(slots, &outputs);
+    if o < 16 {
         return Answer::Refused(Refusal::OutputLoad {
             port: o + 1,
             cells: outputs[o],
@@ -134,5 +149,5 @@ pub fn admit(ports: usize, slots: usize, matrix: &[u16]) -> Answer
     if bad_length(matrix.len(), ports, ports) {
         return Answer::Refused(Refusal::MatrixLength);
     }
-    overload(ports, slots, matrix)
+    overload(slots, loads_of(ports, matrix))
 }

@@ -5,6 +5,7 @@ use mathlib.Core.Path.{_≡_, sym, ap, _∙_}
 use mathlib.Core.List.{List, [], _∷_}
 use mathlib.Core.Bool.{Bool, true, false, not}
 use native.Mathlib.Omega.{arith}
+use native.Mathlib.Nat.{mod-lt, div-lt-iff-lt-mul}
 use lib.Arith.{digits-div, digits-mod}
 use lib.Dec.{eqb}
 use lib.ListN.{length, getD}
@@ -18,6 +19,11 @@ use Rattle.model.proofs.Partners.{every-map, AtPort, odds-every}
 use Rattle.model.proofs.Splits.{more, less, alike}
 
 -- ---- the load of a port as a sum over the positions of a side
+-- a position's ports are ports of the switch
+pub port-low : (side : Side) {ports p : ℕ} → 1 ≤ ports → p < ports * ports → portOf ports side p < ports
+port-low inputs {ports} {p} l h = div-lt-iff-lt-mul l .1 h
+port-low outputs {ports} {p} l h = mod-lt p l
+
 abbrev pub kind : Side → ℕ → Class
 kind inputs x = input x
 kind outputs x = output x

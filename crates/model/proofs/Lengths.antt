@@ -12,7 +12,7 @@ use borrow.Author.Tests.{eq-eqb, ne-eqb, eqb-false, le-leb, lt-leb, leb-true, lt
 use Rattle.model.specs.Words.{if, both, bit, within, sumTo, Every}
 use Rattle.model.specs.Loads.{Class, input, output, load, Fits}
 use Rattle.model.specs.Frames.{cells, runOf, Legal}
-use Rattle.model.specs.Refusals.{Check, report, clear, bad-ports, bad-slots, levels, overloaded, overload}
+use Rattle.model.specs.Refusals.{Check, report, clear, bad-ports, bad-slots, levels, lowestAbove, overload}
 use Rattle.model.specs.Schedule.{frameOf}
 use Rattle.model.specs.Sheet.{text, decimal, portsLine, slotsLine, pairLine, lines, numberIn, same, bad-line, bad-port, bad-pair, Asked, loads, refused, unless, most, readPairs, readSlots, readPorts, bad-sheet, overloads, readSheet, printCells, printSlots, printFrame, printRefusal, printed, response}
 use Rattle.model.proofs.Cases.{byBool, byEq, byLt, both-true, within-true}
@@ -267,7 +267,7 @@ load-most : (kind : ℕ → Class) (ports slots : ℕ) (matrix : List ℕ) → R
 load-most kind ports slots matrix x most number h =
     let f = first-high (λ x. ltb slots (load (kind x) ports matrix)) ports 0 in
     let w = x .well .rack in
-    (omega arith, (omega arith, (omega (arith, most (overloaded kind ports slots matrix)), tt)))
+    (omega arith, (omega arith, (omega (arith, most (lowestAbove ports slots (λ x. load (kind x) ports matrix))), tt)))
 
 -- loads that are accepted
 abbrev Fitting : ℕ → ℕ → List ℕ → Type 0

@@ -1,66 +1,58 @@
--- Overloads: loads added up in matrix order, and the lowest port above slots.
-use Prim.Native.Nat.{ℕ, suc, _+_, _*_, _≤_, _<_}
-use mathlib.Core.Path.{_≡_, sym, _∙_}
-use mathlib.Core.Logic.{_≢_}
+-- Overloads: the lowest port above slots.
+use Prim.Native.Nat.{ℕ, suc, _+_, _≤_, _<_}
+use mathlib.Core.Path.{_≡_, refl, sym, ap, _∙_}
 use mathlib.Core.List.{List, [], _∷_}
 use mathlib.Core.Bool.{Bool, true, false}
 use native.Mathlib.Omega.{arith}
-use native.Mathlib.Nat.{mod-lt, div-lt-iff-lt-mul}
 use native.Mathlib.Numerals.{add-one}
-use lib.Dec.{eqb, ltb}
-use lib.ListN.{getD}
-use borrow.Author.Tests.{eq-eqb, ne-eqb, lt-ltb, le-ltb, ltb-true, ltb-false}
-use Rattle.model.specs.Words.{if, sumTo}
+use lib.Dec.{ltb}
+use borrow.Author.Tests.{lt-ltb, le-ltb, ltb-true, ltb-false}
 use Rattle.model.specs.Loads.{Class, load}
-use Rattle.model.specs.Refusals.{overloaded, overload}
-use Rattle.model.specs.Rules.{Side, inputs, outputs, portOf}
-use Rattle.model.proofs.Cases.{byBool}
-use Rattle.model.proofs.Sums.{sum-none, sum-more}
+use Rattle.model.specs.Refusals.{Check, report, lowestAbove, aboveSlots, overload}
+use Rattle.model.proofs.Cases.{byBool, byLt}
 use Rattle.model.proofs.Searches.{first-found, first-before, first-is, first-none}
-use Rattle.model.proofs.Halves.{kind, load-side}
-use Rattle.model.proofs.Reports.{Tells}
+use Rattle.model.proofs.Reports.{Tells, report-found, report-on}
 
--- ---- loads, position by position
--- the count at position p where its port is x
-abbrev pub share : (ℕ → ℕ) → List ℕ → ℕ → ℕ → ℕ
-share port matrix x p = if (eqb (port p) x) (getD matrix p 0) 0
+-- ---- decided from the loads of so many ports
+-- the search finds a port, which is carried with its load, or none
+module _ (number ports slots : ℕ) (loads : ℕ → ℕ) (x : ℕ) (is : x ≡ lowestAbove ports slots loads) where
+  pub above-found : x < ports → aboveSlots number ports slots loads ≡ (true, number ∷ (x + 1) ∷ loads x ∷ [])
+  above-found l = rw (← is, lt-ltb x ports l, add-one x)
 
--- of the first n positions, the counts of port x
-unfoldable pub addedTo : (ℕ → ℕ) → List ℕ → ℕ → ℕ → ℕ
-addedTo port matrix n x = sumTo n (share port matrix x)
+  pub above-none : ports ≤ x → aboveSlots number ports slots loads .0 ≡ false
+  above-none l = rw (← is) (le-ltb x ports l)
 
-pub added-none : (port : ℕ → ℕ) (matrix : List ℕ) (x : ℕ) → addedTo port matrix 0 x ≡ 0
-unfolding addedTo
-added-none port matrix x = sum-none (share port matrix x)
+-- more numbers than ports decide the same, if each port's is its load and those of no port are 0
+module _ (number ports most slots : ℕ) (loads numbers : ℕ → ℕ) (room : ports ≤ most)
+    (each : (x : ℕ) → x < ports → numbers x ≡ loads x) (none : (x : ℕ) → ports ≤ x → numbers x ≡ 0) where
+  abbrev lowest : ℕ
+  lowest = lowestAbove ports slots loads
 
-share-own : (port : ℕ → ℕ) (matrix : List ℕ) (x p : ℕ) → port p ≡ x → share port matrix x p ≡ getD matrix p 0
-share-own port matrix x p e = rw (eq-eqb (port p) x e)
+  below : (y : ℕ) → y < ports → y < lowest → ltb slots (numbers y) ≡ false
+  below y h l = ap (ltb slots) (each y h) ∙ first-before (λ x. ltb slots (loads x)) ports 0 y (omega arith) l
 
-share-other : (port : ℕ → ℕ) (matrix : List ℕ) (x p : ℕ) → port p ≢ x → share port matrix x p ≡ 0
-share-other port matrix x p n = rw (ne-eqb (port p) x n)
+  same-found : lowest < ports → lowest ≡ lowestAbove most slots numbers
+  same-found l =
+      sym (first-is (λ x. ltb slots (numbers x)) most 0 lowest (omega arith) (omega arith)
+      (ap (ltb slots) (each lowest l) ∙ first-found (λ x. ltb slots (loads x)) ports 0 (omega arith))
+      (λ y _ k. below y (omega arith) k))
 
-module _ (port : ℕ → ℕ) (matrix : List ℕ) (n x : ℕ) where
-  pub added-own : port n ≡ x → addedTo port matrix (n + 1) x ≡ addedTo port matrix n x + getD matrix n 0
-  unfolding addedTo
-  added-own e = rw (add-one n, sum-more n (share port matrix x), share-own port matrix x n e)
+  same-none : ports ≤ lowest → most ≡ lowestAbove most slots numbers
+  same-none l =
+      sym (first-none (λ x. ltb slots (numbers x)) most 0
+      (λ y _ h. byLt y ports (λ k. below y k (omega arith)) (λ k. ap (ltb slots) (none y k) ∙ le-ltb slots 0 (omega arith)))
+      ∙ omega arith)
 
-  pub added-other : port n ≢ x → addedTo port matrix (n + 1) x ≡ addedTo port matrix n x
-  unfolding addedTo
-  added-other e =
-      rw (add-one n, sum-more n (share port matrix x), share-other port matrix x n e) (omega arith)
+  pub above-same : (cs : List Check) (asked : List ℕ) → report (aboveSlots number most slots numbers ∷ cs) asked ≡ report (aboveSlots number ports slots loads ∷ cs) asked
+  above-same cs asked =
+      byLt lowest ports
+      (λ l. report-found (aboveSlots number most slots numbers) cs asked (above-found number most slots numbers lowest (same-found l) (omega arith))
+      ∙ ap (λ z. number ∷ (lowest + 1) ∷ z ∷ []) (each lowest l)
+      ∙ sym (report-found (aboveSlots number ports slots loads) cs asked (above-found number ports slots loads lowest refl l)))
+      (λ l. report-on (aboveSlots number most slots numbers) cs asked (above-none number most slots numbers most (same-none l) (omega arith))
+      ∙ sym (report-on (aboveSlots number ports slots loads) cs asked (above-none number ports slots loads lowest refl l)))
 
--- a position's ports are ports of the switch
-pub port-low : (side : Side) {ports p : ℕ} → 1 ≤ ports → p < ports * ports → portOf ports side p < ports
-port-low inputs {ports} {p} l h = div-lt-iff-lt-mul l .1 h
-port-low outputs {ports} {p} l h = mod-lt p l
-
--- over all positions, the counts of a port are its load
-pub added-load : (side : Side) (ports : ℕ) (matrix : List ℕ) (x : ℕ) → x < ports
-    → addedTo (portOf ports side) matrix (ports * ports) x ≡ load (kind side x) ports matrix
-unfolding addedTo
-added-load side ports matrix x l = sym (load-side side ports x matrix l)
-
--- ---- the lowest port above slots
+-- ---- the ports of a kind
 -- No port of a kind has a load above slots.
 abbrev pub Light : (ℕ → Class) → ℕ → ℕ → List ℕ → Type 0
 Light kind ports slots matrix = (x : ℕ) → x < ports → load (kind x) ports matrix ≤ slots
@@ -72,22 +64,17 @@ pub record Over (kind : ℕ → Class) (ports slots : ℕ) (matrix : List ℕ) (
   pub lower : (y : ℕ) → y < x → load (kind y) ports matrix ≤ slots
 
 module _ (number : ℕ) (kind : ℕ → Class) (ports slots : ℕ) (matrix : List ℕ) where
+  abbrev loads : ℕ → ℕ
+  loads x = load (kind x) ports matrix
+
   abbrev test : ℕ → Bool
-  test x = ltb slots (load (kind x) ports matrix)
-
-  -- the search finds a port, which is carried with its load, or none
-  module _ (x : ℕ) (is : x ≡ overloaded kind ports slots matrix) where
-    pub overload-found : x < ports → overload number kind ports slots matrix ≡ (true, number ∷ (x + 1) ∷ load (kind x) ports matrix ∷ [])
-    overload-found l = rw (← is, lt-ltb x ports l, add-one x)
-
-    pub overload-none : ports ≤ x → overload number kind ports slots matrix .0 ≡ false
-    overload-none l = rw (← is) (le-ltb x ports l)
+  test x = ltb slots (loads x)
 
   -- the lowest port above slots is reported, with its load
   pub over-reported : (x : ℕ) → Over kind ports slots matrix x → overload number kind ports slots matrix ≡ (true, number ∷ suc x ∷ load (kind x) ports matrix ∷ [])
   over-reported x o =
       rw (← (add-one x))
-      (overload-found x
+      (above-found number ports slots loads x
       (sym (first-is test ports 0 x (omega arith) (let l = o .low in omega arith) (lt-ltb slots (load (kind x) ports matrix) (o .above)) (λ y _ l. le-ltb slots (load (kind y) ports matrix) (o .lower y l))))
       (o .low))
 
@@ -95,16 +82,16 @@ module _ (number : ℕ) (kind : ℕ → Class) (ports slots : ℕ) (matrix : Lis
   pub overload-tells : Tells (overload number kind ports slots matrix) (Light kind ports slots matrix)
   overload-tells =
       record {
-        met = λ f. overload-none ports (sym (first-none test ports 0 (λ x _ h. le-ltb slots (load (kind x) ports matrix) (f x (omega arith))) ∙ omega arith)) (omega arith);
+        met = λ f. above-none number ports slots loads ports (sym (first-none test ports 0 (λ x _ h. le-ltb slots (load (kind x) ports matrix) (f x (omega arith))) ∙ omega arith)) (omega arith);
         known = λ e x h.
-            let l = ltb-false (overloaded kind ports slots matrix) ports e in
+            let l = ltb-false (lowestAbove ports slots loads) ports e in
             ltb-false slots (load (kind x) ports matrix) (first-before test ports 0 x (omega arith) (omega arith));
       }
 
   -- one port is the lowest above slots, or all are light
   pub byOver : {P : Type 0} → ((x : ℕ) → Over kind ports slots matrix x → P) → (Light kind ports slots matrix → P) → P
   byOver over light =
-      let x = overloaded kind ports slots matrix in
+      let x = lowestAbove ports slots loads in
       byBool (ltb x ports)
       (λ e.
       let l = ltb-true x ports e in

@@ -68,15 +68,19 @@ bad-matrix ports matrix = (not (eqb (length matrix) (ports * ports)), 3 ∷ [])
 abbrev pub bad-frame : ℕ → ℕ → List ℕ → Check
 bad-frame ports slots bytes = (not (eqb (length bytes) (slots * ports)), 4 ∷ [])
 
--- The lowest port of a kind whose load is above slots; ports where there is none.
-abbrev pub overloaded : (ℕ → Class) → ℕ → ℕ → List ℕ → ℕ
-overloaded kind ports slots matrix = first (λ x. ltb slots (load (kind x) ports matrix)) 0 ports
+-- The lowest of so many ports whose load is above slots; their number where there is none.
+abbrev pub lowestAbove : ℕ → ℕ → (ℕ → ℕ) → ℕ
+lowestAbove ports slots loads = first (λ x. ltb slots (loads x)) 0 ports
+
+-- A port's load is above slots, decided from the ports' loads and slots alone. Carries the lowest such port and its load.
+abbrev pub aboveSlots : ℕ → ℕ → ℕ → (ℕ → ℕ) → Check
+aboveSlots number ports slots loads =
+    let x = lowestAbove ports slots loads in
+    (ltb x ports, number ∷ suc x ∷ loads x ∷ [])
 
 -- 5, for inputs, and 6, for outputs: a port's load is above slots. Carries the lowest such port and its load.
 abbrev pub overload : ℕ → (ℕ → Class) → ℕ → ℕ → List ℕ → Check
-overload number kind ports slots matrix =
-    let x = overloaded kind ports slots matrix in
-    (ltb x ports, number ∷ suc x ∷ load (kind x) ports matrix ∷ [])
+overload number kind ports slots matrix = aboveSlots number ports slots (λ x. load (kind x) ports matrix)
 
 -- 11: slot or start outside 1 to slots.
 abbrev pub bad-slot : ℕ → ℕ → Check

@@ -17,7 +17,8 @@ use Rattle.model.specs.declared.Answer.{Answer}
 use Rattle.model.specs.declared.Answer.the-variants.{Accepted, Refused}
 use Rattle.model.proofs.Levels.{levels-most}
 use Rattle.model.proofs.Reports.{Refuses, clear-none, clear-some, within-known, refusal-number}
-use Rattle.admission.specs.Overloads.{Size, overloads}
+use Rattle.admission.specs.Overloads.{Size, EveryLoad, decided}
+use Rattle.admission.proofs.Deciding.{decided-loads}
 use Rattle.schedule.specs.Fill.{Fillable}
 
 -- what the tests of a length let pass
@@ -68,23 +69,26 @@ module _ (ports slots : ℕ) (matrix buffer : List ℕ) where
           frame-refused h = refused (4 ∷ []) (omega arith) (rw (sym r-is ∙ r-no, sym s-is ∙ s-no, sym t-is ∙ t-no, sym u-is ∙ h))
 
           module _ (u-no : u ≡ false) where
-            loads-left : overloads ports slots matrix ≡ built ports slots matrix buffer
-            unfolding buildChecks
-            loads-left = rw (sym r-is ∙ r-no, sym s-is ∙ s-no, sym t-is ∙ t-no, sym u-is ∙ u-no)
-
-            pub load-refused : {a : Answer} {x : Refusal} → answered a ≡ overloads ports slots matrix → a ≡ Refused x
-                → Done ports slots matrix buffer (refusal x) buffer
-            load-refused {a} {x} e d = refused (refusal x) (refusal-number x) (sym (ap answered d) ∙ e ∙ loads-left)
-
-            pub fills : {a : Answer} {bytes : List ℕ} → answered a ≡ overloads ports slots matrix → a ≡ Accepted
-                → bytes ≡ frameOf ports (levels slots) matrix → Done ports slots matrix buffer accepted bytes
-            fills {a} e d f =
-                let g : accepted ≡ built ports slots matrix buffer = sym (ap answered d) ∙ e ∙ loads-left in
-                let n : getD (built ports slots matrix buffer) 0 0 ≡ 0 = ap (λ (l : List ℕ). getD l 0 0) (sym g) in
-                record { answers = g; leaves = f ∙ rw (clear-none (buildChecks ports slots matrix buffer) refuses n) }
-
             pub fillable : Fillable ports slots matrix buffer
             fillable =
                 let p = within-known r-is r-no in
                 let n = eqb-false (levels slots) 11 (sym s-is ∙ s-no) in
                 record { low = p .0; high = p .1; power = omega (arith, levels-most slots); square = length-is t-is t-no; size = length-is u-is u-no }
+
+            module _ (ins outs : List ℕ) (loads : EveryLoad ports matrix ins outs) where
+              loads-decide : decided slots ins outs ≡ built ports slots matrix buffer
+              unfolding buildChecks
+              loads-decide =
+                  decided-loads slots ins outs (size-of fillable) loads
+                  ∙ rw (sym r-is ∙ r-no, sym s-is ∙ s-no, sym t-is ∙ t-no, sym u-is ∙ u-no)
+
+              pub load-refused : {a : Answer} {x : Refusal} → answered a ≡ decided slots ins outs → a ≡ Refused x
+                  → Done ports slots matrix buffer (refusal x) buffer
+              load-refused {a} {x} e d = refused (refusal x) (refusal-number x) (sym (ap answered d) ∙ e ∙ loads-decide)
+
+              pub fills : {a : Answer} {bytes : List ℕ} → answered a ≡ decided slots ins outs → a ≡ Accepted
+                  → bytes ≡ frameOf ports (levels slots) matrix → Done ports slots matrix buffer accepted bytes
+              fills {a} e d f =
+                  let g : accepted ≡ built ports slots matrix buffer = sym (ap answered d) ∙ e ∙ loads-decide in
+                  let n : getD (built ports slots matrix buffer) 0 0 ≡ 0 = ap (λ (l : List ℕ). getD l 0 0) (sym g) in
+                  record { answers = g; leaves = f ∙ rw (clear-none (buildChecks ports slots matrix buffer) refuses n) }

@@ -9,7 +9,7 @@ use lib.ListN.{length, getD, set, take, length-set}
 use lib.Seq.{take-suc, take-suc-set, take-all, getD-set-same, getD-set-other}
 use Rattle.model.specs.Rules.{Side, inputs, outputs, portOf}
 use Rattle.model.proofs.Cases.{byEq}
-use Rattle.model.proofs.Overloads.{port-low}
+use Rattle.model.proofs.Halves.{port-low}
 use Rattle.split.specs.Steps.{Wide, lookup, tabled, Sides, Tables}
 
 -- ---- copy

@@ -4,6 +4,7 @@ mod slots;
 
 use admission::bad_length;
 use admission::bad_slots;
+use admission::loads_of;
 use admission::outside;
 use admission::overload;
 use model::Answer;
@@ -74,7 +75,7 @@ pub fn build(ports: usize, slots: usize, matrix: &[u16], frame: &mut [u8]) -> An
     if bad_length(frame.len(), slots, ports) {
         return Answer::Refused(Refusal::FrameLength);
     }
-    if let Answer::Refused(refusal) = overload(ports, slots, matrix) {
+    if let Answer::Refused(refusal) = overload(slots, loads_of(ports, matrix)) {
         return Answer::Refused(refusal);
     }
     fill(ports, slots, matrix, frame);

@@ -30,7 +30,8 @@ fn is_well_formed(ports: usize, slots: usize, matrix: &[u16], frame: &[u8]) -> b
         && frame.len() == slots * ports
 }
 
-fn is_overloaded(ports: usize, slots: usize, matrix: &[u16]) -> bool {
+/// The load of each input and of each output, in one pass over the matrix.
+pub fn loads_of(ports: usize, matrix: &[u16]) -> ([usize; MOST_PORTS], [usize; MOST_PORTS]) {
     let mut inputs = [0; MOST_PORTS];
     let mut outputs = [0; MOST_PORTS];
     for (input, row) in matrix.chunks_exact(ports).enumerate() {
@@ -39,6 +40,11 @@ fn is_overloaded(ports: usize, slots: usize, matrix: &[u16]) -> bool {
             outputs[output] += usize::from(count);
         }
     }
+    (inputs, outputs)
+}
+
+fn is_overloaded(ports: usize, slots: usize, matrix: &[u16]) -> bool {
+    let (inputs, outputs) = loads_of(ports, matrix);
     inputs.iter().chain(&outputs).any(|&load| load > slots)
 }
 

@@ -3,6 +3,8 @@ use borrow.Author.Needs.{needs}
 use borrow.Author.Tests.{not-false, eqb-true}
 use Rattle.model.specs.Refusals.{admitted}
 use Rattle.model.proofs.Reports.{within-known}
+use Rattle.admission.specs.Overloads.{Size}
+use Rattle.admission.proofs.Deciding.{decided-loads}
 use Rattle.admission.proofs.admit.Statement.{statement}
 use Rattle.admission.proofs.admit.Tie as tie
 
@@ -25,8 +27,9 @@ returns-3 c =
       sym (c .before .bad-length .ensures) ∙ c .if3 .taken,
     )
 
-overload-requires : tie.Need-overload-requires
-overload-requires c κs =
+-- what the three tests let pass
+sized : (c : tie.Else3) → let a = c .before .before .before .before .before .before .before .args in Size (a .ports) (a .matrix .now)
+sized c =
     let tested = c .before .before .before .before in
     let ports = within-known (tested .before .outside .ensures) (tested .if1 .left) in
     record {
@@ -38,13 +41,14 @@ overload-requires c κs =
 returns-4 : tie.Need-returns-4
 unfolding admitted
 returns-4 c =
-    let tested = c .before .before .before .before .before in
+    let past = c .before .before in
+    let tested = past .before .before .before .before in
     rw (
       sym (tested .before .outside .ensures) ∙ tested .if1 .left,
-      sym (c .before .before .before .before .bad-slots .ensures) ∙ c .before .before .before .if2 .left,
-      sym (c .before .before .bad-length .ensures) ∙ c .before .if3 .left,
+      sym (past .before .before .before .bad-slots .ensures) ∙ past .before .before .if2 .left,
+      sym (past .before .bad-length .ensures) ∙ past .if3 .left,
     )
-    (c .overload .ensures)
+    (c .overload .ensures ∙ decided-loads _ _ _ (sized past) (c .before .loads-of .ensures))
 
 pub admit-spec : {M : Type 1} → statement M
 admit-spec =
@@ -56,5 +60,6 @@ admit-spec =
     returns-2
     (λ c κs. search needs)
     returns-3
-    overload-requires
+    (λ c κs. sized c)
+    (λ c κs. search needs)
     returns-4)

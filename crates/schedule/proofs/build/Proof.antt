@@ -41,9 +41,10 @@ build-spec =
     (λ c κs. search needs)
     returns-4
     (λ c κs. size-of (passed c))
+    (λ c κs. search needs)
     (λ c. search needs)
     (λ c. done _ _ _ _ _ _ (search (needs, load-refused)))
     (λ c. search needs)
-    (λ c κs. passed (c .before .before .before .before))
+    (λ c κs. passed (c .before .before .before .before .before))
     (λ c. search needs)
     (λ c. done _ _ _ _ _ _ (search (needs, fills))))

@@ -2,7 +2,7 @@ use Prim.Native.Nat.{_≤_, _-_}
 use borrow.Author.Needs.{needs}
 use native.Mathlib.Omega.{arith}
 use Rattle.model.specs.Rules.{inputs, outputs}
-use Rattle.model.proofs.Overloads.{port-low}
+use Rattle.model.proofs.Halves.{port-low}
 use Rattle.schedule.proofs.Tabled.{Tabled, tabled-on, tabled-end}
 use Rattle.schedule.proofs.positions.tabulate.Statement.{statement}
 use Rattle.schedule.proofs.positions.tabulate.Tie as tie
