@@ -37,8 +37,7 @@ adding-start {row} {old} room =
       small = λ x l. absurd (omega arith);
     }
 
-module _ {row old new : List ℕ} {left total count : ℕ} (short : length row ≤ 16) (a : Adding row old left new total) (here : 0 < left)
-    (low : count ≤ 65535) where
+module _ {row old new : List ℕ} {left total count : ℕ} (short : length row ≤ 16) (a : Adding row old left new total) (low : count ≤ 65535) where
   -- the room for one count more
   pub sum-fits : Room old → Fits w64 (numbers new (length row - left) + count)
   sum-fits room = record { fits = omega (arith, a .kept (length row - left) (omega arith), room .most (length row - left)) }
@@ -46,9 +45,9 @@ module _ {row old new : List ℕ} {left total count : ℕ} (short : length row �
   pub total-fits : Fits w64 (total + count)
   total-fits = record { fits = omega (arith, a .total-is, sum-most (length row - left) 65535 (numbers row) (a .small)) }
 
-  pub adding-on : {next : List ℕ} → count ≡ numbers row (length row - left) → next ≡ set new (length row - left) (numbers new (length row - left) + count)
+  pub adding-on : {next : List ℕ} → 0 < left → count ≡ numbers row (length row - left) → next ≡ set new (length row - left) (numbers new (length row - left) + count)
       → Adding row old (left - 1) next (total + count)
-  adding-on {next} c e =
+  adding-on {next} here c e =
       let n : ℕ = length row - left in
       let sum : ℕ = numbers new n + count in
       let m = a .most in

@@ -60,27 +60,27 @@ module _ {slots k power : ℕ} (c : Climbing slots k power) where
       let e : k ≡ 11 = omega arith in
       e ∙ failing-none (c .none) 11 l
 
--- ---- the lowest port above slots: of sixteen ports, all but the last so many are not
-pub record Passing (slots : ℕ) (loads : List ℕ) (left : ℕ) : Type 0 where
-  pub most : left ≤ 16
-  pub none : Failing (λ x. ltb slots (numbers loads x)) (16 - left)
+-- ---- the lowest port above slots: of sixteen ports, those tried are not
+pub record Passing (slots : ℕ) (loads : List ℕ) (untried : ℕ) : Type 0 where
+  pub most : untried ≤ 16
+  pub none : Failing (λ x. ltb slots (numbers loads x)) (16 - untried)
 
 pub passing-start : {slots : ℕ} {loads : List ℕ} → Passing slots loads 16
 passing-start = record { most = omega arith; none = failing-start (omega arith) }
 
-module _ {slots left : ℕ} {loads : List ℕ} (p : Passing slots loads left) where
-  pub passing-on : {cells : ℕ} → cells ≡ numbers loads (16 - left) → cells ≤ slots → 0 < left → Passing slots loads (left - 1)
+module _ {slots untried : ℕ} {loads : List ℕ} (p : Passing slots loads untried) where
+  pub passing-on : {cells : ℕ} → cells ≡ numbers loads (16 - untried) → cells ≤ slots → 0 < untried → Passing slots loads (untried - 1)
   passing-on {cells} e l h =
       let m = p .most in
       record {
         most = omega arith;
-        none = failing-on (p .none) (le-ltb slots (numbers loads (16 - left)) (omega arith)) (omega arith);
+        none = failing-on (p .none) (le-ltb slots (numbers loads (16 - untried)) (omega arith)) (omega arith);
       }
 
-  pub passing-found : {cells : ℕ} → cells ≡ numbers loads (16 - left) → slots < cells → 0 < left → 16 - left ≡ lowestAbove 16 slots (numbers loads)
+  pub passing-found : {cells : ℕ} → cells ≡ numbers loads (16 - untried) → slots < cells → 0 < untried → 16 - untried ≡ lowestAbove 16 slots (numbers loads)
   passing-found {cells} e l h =
       let m = p .most in
-      failing-found (p .none) 16 (omega arith) (lt-ltb slots (numbers loads (16 - left)) (omega arith))
+      failing-found (p .none) 16 (omega arith) (lt-ltb slots (numbers loads (16 - untried)) (omega arith))
 
-  pub passing-none : left ≤ 0 → 16 ≡ lowestAbove 16 slots (numbers loads)
+  pub passing-none : untried ≤ 0 → 16 ≡ lowestAbove 16 slots (numbers loads)
   passing-none l = failing-none (p .none) 16 (omega arith)

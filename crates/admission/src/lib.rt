@@ -102,13 +102,13 @@ fn lowest_above(slots: usize, loads: &[usize; 16]) -> usize
     requires { ⌜ length (now loads) ≡ 16 ⌝ }
     ensures { λ r. ⌜ r ≡ lowestAbove 16 slots (numbers (now (loads .entry))) ⌝ }
 {
-    let mut left: usize = 16;
-    while 0 < left {
-        let x = 16 - left;
+    let mut untried: usize = 16;
+    while 0 < untried {
+        let x = 16 - untried;
         if slots < loads[x] {
             return x;
         }
-        left -= 1;
+        untried -= 1;
     }
     16
 }

@@ -4,10 +4,10 @@ use Rattle.admission.proofs.lowest_above.Statement.{statement}
 use Rattle.admission.proofs.lowest_above.Tie as tie
 
 abbrev Inv-loop : tie.InvT-loop
-Inv-loop slots loads left₀ left = Passing slots loads left
+Inv-loop slots loads untried₀ untried = Passing slots loads untried
 
 abbrev μ-loop : tie.MeasureT-loop
-μ-loop slots loads left₀ left = left
+μ-loop slots loads untried₀ untried = untried
 
 pub lowest-above-spec : {M : Type 1} → statement M
 lowest-above-spec =
