@@ -84,17 +84,20 @@ pub fn loads_of(ports: usize, matrix: &[u16]) -> Loads
     requires { ⌜ Size ports (now matrix) ⌝ }
     ensures { λ r. ⌜ EveryLoad ports (now (matrix .entry)) (r .inputs) (r .outputs) ⌝ }
 {
-    let mut inputs: [usize; 16] = [0; 16];
-    let mut outputs: [usize; 16] = [0; 16];
+    let mut loads = Loads {
+        inputs: [0; 16],
+        outputs: [0; 16],
+    };
     let mut from: usize = 0;
     let mut i: usize = 0;
     while i < ports {
         let end = from + ports;
-        inputs[i] = add_row(&matrix[from..end], &mut outputs);
+        let load = add_row(&matrix[from..end], &mut loads.outputs);
+        loads.inputs[i] = load;
         from = end;
         i += 1;
     }
-    Loads { inputs, outputs }
+    loads
 }
 
 // The lowest of sixteen ports whose load is above slots; 16 where there is none.
@@ -114,19 +117,18 @@ fn lowest_above(slots: usize, loads: &[usize; 16]) -> usize
 }
 
 // Refusals 5 and 6, decided from every port's load and slots.
-pub fn overload(slots: usize, loads: Loads) -> Answer
-    ensures { λ r. ⌜ answered r ≡ decided slots (loads .inputs) (loads .outputs) ⌝ }
+pub fn overload<'a>(slots: usize, inputs: &'a [usize; 16], outputs: &'a [usize; 16]) -> Answer
+    requires { ⌜ (length (now inputs) ≡ 16) × (length (now outputs) ≡ 16) ⌝ }
+    ensures { λ r. ⌜ answered r ≡ decided slots (now (inputs .entry)) (now (outputs .entry)) ⌝ }
 {
-    let inputs = loads.inputs;
-    let i = lowest_above(slots, &inputs);
+    let i = lowest_above(slots, inputs);
     if i < 16 {
         return Answer::Refused(Refusal::InputLoad {
             port: i + 1,
             cells: inputs[i],
         });
     }
-    let outputs = loads.outputs;
-    let o = lowest_above(slots, &outputs);
+    let o = lowest_above(slots, outputs);
     if o < 16 {
         return Answer::Refused(Refusal::OutputLoad {
             port: o + 1,
@@ -149,5 +151,6 @@ pub fn admit(ports: usize, slots: usize, matrix: &[u16]) -> Answer
     if bad_length(matrix.len(), ports, ports) {
         return Answer::Refused(Refusal::MatrixLength);
     }
-    overload(slots, loads_of(ports, matrix))
+    let loads = loads_of(ports, matrix);
+    overload(slots, &loads.inputs, &loads.outputs)
 }

@@ -75,7 +75,8 @@ pub fn build(ports: usize, slots: usize, matrix: &[u16], frame: &mut [u8]) -> An
     if bad_length(frame.len(), slots, ports) {
         return Answer::Refused(Refusal::FrameLength);
     }
-    if let Answer::Refused(refusal) = overload(slots, loads_of(ports, matrix)) {
+    let loads = loads_of(ports, matrix);
+    if let Answer::Refused(refusal) = overload(slots, &loads.inputs, &loads.outputs) {
         return Answer::Refused(refusal);
     }
     fill(ports, slots, matrix, frame);

@@ -41,14 +41,15 @@ sized c =
 returns-4 : tie.Need-returns-4
 unfolding admitted
 returns-4 c =
-    let past = c .before .before in
+    let added = c .before .before .before .before in
+    let past = added .before in
     let tested = past .before .before .before .before in
     rw (
       sym (tested .before .outside .ensures) ∙ tested .if1 .left,
       sym (past .before .before .before .bad-slots .ensures) ∙ past .before .before .if2 .left,
       sym (past .before .bad-length .ensures) ∙ past .if3 .left,
     )
-    (c .overload .ensures ∙ decided-loads _ _ _ (sized past) (c .before .loads-of .ensures))
+    (c .overload .ensures ∙ decided-loads _ _ _ (sized past) (added .loads-of .ensures))
 
 pub admit-spec : {M : Type 1} → statement M
 admit-spec =

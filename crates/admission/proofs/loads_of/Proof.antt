@@ -5,10 +5,10 @@ use Rattle.admission.proofs.loads_of.Statement.{statement}
 use Rattle.admission.proofs.loads_of.Tie as tie
 
 abbrev Inv-loop : tie.InvT-loop
-Inv-loop ports matrix inputs₀ outputs₀ from₀ i₀ inputs outputs from i = Rows ports matrix i from inputs outputs
+Inv-loop ports matrix loads₀ from₀ i₀ loads from i = Rows ports matrix i from (loads .inputs) (loads .outputs)
 
 abbrev μ-loop : tie.MeasureT-loop
-μ-loop ports matrix inputs₀ outputs₀ from₀ i₀ inputs outputs from i = ports - i
+μ-loop ports matrix loads₀ from₀ i₀ loads from i = ports - i
 
 pub loads-of-spec : {M : Type 1} → statement M
 loads-of-spec =

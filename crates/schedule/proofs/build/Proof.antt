@@ -45,6 +45,6 @@ build-spec =
     (λ c. search needs)
     (λ c. done _ _ _ _ _ _ (search (needs, load-refused)))
     (λ c. search needs)
-    (λ c κs. passed (c .before .before .before .before .before))
+    (λ c κs. passed (c .before .before .before .before .before .before .before .before))
     (λ c. search needs)
     (λ c. done _ _ _ _ _ _ (search (needs, fills))))
