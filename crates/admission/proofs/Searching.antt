@@ -12,7 +12,7 @@ use Rattle.model.specs.Words.{first}
 use Rattle.model.specs.Refusals.{levels, lowestAbove}
 use Rattle.model.proofs.Cases.{byEq}
 use Rattle.model.proofs.Searches.{first-is, first-none}
-use Rattle.admission.specs.Overloads.{numbers}
+use Rattle.admission.specs.Overloads.{valueAt}
 
 pub record Failing (t : ℕ → Bool) (x : ℕ) : Type 0 where
   pub below : (y : ℕ) → y < x → t y ≡ false
@@ -63,24 +63,24 @@ module _ {slots k power : ℕ} (c : Climbing slots k power) where
 -- ---- the lowest port above slots: of sixteen ports, those tried are not
 pub record Passing (slots : ℕ) (loads : List ℕ) (untried : ℕ) : Type 0 where
   pub most : untried ≤ 16
-  pub none : Failing (λ x. ltb slots (numbers loads x)) (16 - untried)
+  pub none : Failing (λ x. ltb slots (valueAt loads x)) (16 - untried)
 
 pub passing-start : {slots : ℕ} {loads : List ℕ} → Passing slots loads 16
 passing-start = record { most = omega arith; none = failing-start (omega arith) }
 
 module _ {slots untried : ℕ} {loads : List ℕ} (p : Passing slots loads untried) where
-  pub passing-on : {cells : ℕ} → cells ≡ numbers loads (16 - untried) → cells ≤ slots → 0 < untried → Passing slots loads (untried - 1)
+  pub passing-on : {cells : ℕ} → cells ≡ valueAt loads (16 - untried) → cells ≤ slots → 0 < untried → Passing slots loads (untried - 1)
   passing-on {cells} e l h =
       let m = p .most in
       record {
         most = omega arith;
-        none = failing-on (p .none) (le-ltb slots (numbers loads (16 - untried)) (omega arith)) (omega arith);
+        none = failing-on (p .none) (le-ltb slots (valueAt loads (16 - untried)) (omega arith)) (omega arith);
       }
 
-  pub passing-found : {cells : ℕ} → cells ≡ numbers loads (16 - untried) → slots < cells → 0 < untried → 16 - untried ≡ lowestAbove 16 slots (numbers loads)
+  pub passing-found : {cells : ℕ} → cells ≡ valueAt loads (16 - untried) → slots < cells → 0 < untried → 16 - untried ≡ lowestAbove 16 slots (valueAt loads)
   passing-found {cells} e l h =
       let m = p .most in
-      failing-found (p .none) 16 (omega arith) (lt-ltb slots (numbers loads (16 - untried)) (omega arith))
+      failing-found (p .none) 16 (omega arith) (lt-ltb slots (valueAt loads (16 - untried)) (omega arith))
 
-  pub passing-none : untried ≤ 0 → 16 ≡ lowestAbove 16 slots (numbers loads)
+  pub passing-none : untried ≤ 0 → 16 ≡ lowestAbove 16 slots (valueAt loads)
   passing-none l = failing-none (p .none) 16 (omega arith)

@@ -6,7 +6,7 @@ ghost use lib.Dec.{eqb};
 ghost use lib.ListN.{length};
 ghost use Rattle.model.specs.Words.{within};
 ghost use Rattle.model.specs.Refusals.{levels, lowestAbove, answered, admitted};
-ghost use Rattle.admission.specs.Overloads.{Size, numbers, EveryLoad, Room, RowAdded, decided};
+ghost use Rattle.admission.specs.Overloads.{Size, valueAt, EveryLoad, Room, RowAdded, decided};
 use model::Answer;
 use model::Refusal;
 
@@ -103,7 +103,7 @@ pub fn loads_of(ports: usize, matrix: &[u16]) -> Loads
 // The lowest of sixteen ports whose load is above slots; 16 where there is none.
 fn lowest_above(slots: usize, loads: &[usize; 16]) -> usize
     requires { ⌜ length (now loads) ≡ 16 ⌝ }
-    ensures { λ r. ⌜ r ≡ lowestAbove 16 slots (numbers (now (loads .entry))) ⌝ }
+    ensures { λ r. ⌜ r ≡ lowestAbove 16 slots (valueAt (now (loads .entry))) ⌝ }
 {
     let mut untried: usize = 16;
     while 0 < untried {

@@ -26,7 +26,7 @@ pub length-is : {l n : ℕ} {t : Bool} → t ≡ not (eqb l n) → t ≡ false �
 length-is {l} {n} e f = eqb-true l n (not-false (eqb l n) (sym e ∙ f))
 
 pub size-of : {ports slots : ℕ} {matrix buffer : List ℕ} → Fillable ports slots matrix buffer → Size ports matrix
-size-of f = record { least = f .low; most = f .high; square = f .square }
+size-of f = record { most = f .high; square = f .square }
 
 -- the answer is Build's, and so are the bytes
 pub record Done (ports slots : ℕ) (matrix buffer answer bytes : List ℕ) : Type 0 where

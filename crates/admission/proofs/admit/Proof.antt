@@ -33,7 +33,6 @@ sized c =
     let tested = c .before .before .before .before in
     let ports = within-known (tested .before .outside .ensures) (tested .if1 .left) in
     record {
-      least = ports .0;
       most = ports .1;
       square = eqb-true _ _ (not-false _ (sym (c .before .bad-length .ensures) ∙ c .if3 .left));
     }
