@@ -27,7 +27,7 @@ pub record EveryLoad (ports : ℕ) (matrix ins outs : List ℕ) : Type 0 where
   pub of-inputs : Given ports (λ i. load (input i) ports matrix) ins
   pub of-outputs : Given ports (λ o. load (output o) ports matrix) outs
 
--- Sixteen sums that have room for one count more: fifteen counts of 16 bits or less are added up in each.
+-- Sixteen sums with room for one count more: each is at most what fifteen counts of 16 bits come to.
 pub record Room (sums : List ℕ) : Type 0 where
   pub len : length sums ≡ 16
   pub most : (x : ℕ) → valueAt sums x ≤ 15 * 65535
