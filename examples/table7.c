@@ -1,4 +1,5 @@
 /* Builds the frame of the Table 7 load, inspects it, and counts: gcc -Iinclude examples/table7.c target/staticlib/libexports.a */
+#include <inttypes.h>
 #include <stdio.h>
 
 #include "frame_builder.h"
@@ -29,11 +30,21 @@ static void print_slots(const uint8_t *frame, size_t length)
     }
 }
 
+/* Prints what pair (4, 4) has in two slots of the frame; its lead is in quarters of a cell, as the frame has four slots. */
+static void print_count(const uint8_t *frame, size_t length, size_t start)
+{
+    size_t cells;
+    int64_t lead;
+    if (frame_builder_count_pair(PORTS, SLOTS, frame, length, 4, 4, start, 2, &cells, &lead) != FRAME_BUILDER_ACCEPTED)
+        return;
+    printf("pair (4, 4), 2 slots from slot %zu: %zu cells, lead %" PRId64 "/%d of a cell\n", start, cells, lead, SLOTS);
+}
+
 int main(void)
 {
     uint16_t matrix[PORTS * PORTS] = {2, 2, 0, 0, 0, 0, 0, 0, 0, 0, 0, 0, 1, 1, 0, 2};
     uint8_t frame[SLOTS * PORTS];
-    size_t first, second, cells;
+    size_t first, second;
 
     size_t answer = frame_builder_build(PORTS, SLOTS, matrix, PORTS * PORTS, frame, sizeof frame, &first, &second);
     print_answer("build", answer, first, second);
@@ -43,9 +54,8 @@ int main(void)
 
     answer = frame_builder_inspect(PORTS, SLOTS, matrix, PORTS * PORTS, frame, sizeof frame, &first, &second);
     print_answer("inspect", answer, first, second);
-    answer = frame_builder_count_pair(PORTS, SLOTS, frame, sizeof frame, 4, 4, 4, 2, &cells);
-    if (answer == FRAME_BUILDER_ACCEPTED)
-        printf("pair (4, 4), 2 slots from slot 4: %zu cells\n", cells);
+    print_count(frame, sizeof frame, 4);
+    print_count(frame, sizeof frame, 2);
 
     matrix[0]++;
     answer = frame_builder_build(PORTS, SLOTS, matrix, PORTS * PORTS, frame, sizeof frame, &first, &second);

@@ -7,8 +7,8 @@
  * WORDS. Ports and slots are numbered from 1, inputs and outputs separately. A load matrix has one 16-bit cell count per pair, row by row:
  * all outputs of input 1, then of input 2, and so on. The load of a port is the sum of its row or column. A frame is slots x ports bytes,
  * slot 1 first; within a slot there is one byte per input: the output it sends to, or 0 for idle. A slice is a matrix or a frame as a call
- * is lent it: a pointer, and the number of elements. A lent number is a size_t that a call is lent to write to: *first, *second, *start,
- * *size, *cells.
+ * is lent it: a pointer, and the number of elements. A lent number is one that a call is lent to write to: *first, *second, *start, *size
+ * and *cells, each a size_t, and *lead, an int64_t.
  *
  * ANSWERS. Every call takes any numbers and slices of any length. It tries its refusals, and Inspect then its faults, in the order of its
  * table below, and returns the number of the first whose condition holds, or 0 if none does. It writes its lent numbers whatever it
@@ -19,7 +19,7 @@
  * - a slice's pointer points to as many elements as its length says, and a lent number's to one;
  * - each is aligned as C asks of its type;
  * - what a call writes overlaps nothing else lent in the same call. So *first and *second are two numbers even where neither is looked at,
- *   and Build's frame has no byte of the matrix. What is only read may overlap, as a matrix and Inspect's frame;
+ *   *cells and *lead too, and Build's frame has no byte of the matrix. What is only read may overlap, as a matrix and Inspect's frame;
  * - no pointer is null, but for that of a slice of length 0. Nothing is read or written there, and the call is refused, since neither a
  *   matrix nor a frame of any switch is empty.
  * What a call writes needs no value before. No call keeps a pointer.
@@ -39,7 +39,7 @@
 #include <stdint.h>
 
 /* The version of the project. It stands in this line alone; whatever else says the version reads it from here. */
-#define FRAME_BUILDER_VERSION "1.0.0"
+#define FRAME_BUILDER_VERSION "2.0.0"
 
 /* Limits. */
 #define FRAME_BUILDER_MAX_PORTS 16
@@ -182,26 +182,41 @@ size_t frame_builder_inspect(size_t ports, size_t slots, const uint16_t *matrix,
 size_t frame_builder_slot_view(size_t ports, size_t slots, const uint8_t *frame, size_t frame_length, size_t slot, size_t *start,
                                size_t *size);
 
-/* Service count: the cells of a pair, of an input or of an output in a run of the frame, `length` slots from slot `start` on; after the
- * last slot comes slot 1 again. The frame may have any bytes. A pair's cells are the bytes of its input that are its output, an input's
- * are its bytes that are not 0, an output's are all bytes that are it. REFUSED_SLOT_NUMBER is about the start, REFUSED_PORT_NUMBER about
- * the input and the output.
+/* Service count: the cells of a pair, of an input or of an output in a run of the frame, `length` slots from slot `start` on, and the lead
+ * of that run; after the last slot comes slot 1 again. The frame may have any bytes. A pair's cells are the bytes of its input that are its
+ * output, an input's are its bytes that are not 0, an output's are all bytes that are it. REFUSED_SLOT_NUMBER is about the start,
+ * REFUSED_PORT_NUMBER about the input and the output.
  *
- *     answer                  *cells
- *     ACCEPTED                the cells, 0 to 16,000,000
- *     REFUSED_PORTS           0
- *     REFUSED_SLOTS           0
- *     REFUSED_FRAME_LENGTH    0
- *     REFUSED_SLOT_NUMBER     0
- *     REFUSED_PORT_NUMBER     0
- *     REFUSED_RUN_LENGTH      0
+ * The lead says how far the run is ahead of its share:
+ *
+ *     slots x the cells of the run - length x the cells of the same pair, input or output in one whole frame, as counted in that frame
+ *
+ * Its unit is 1/slots of a cell: divided by slots, it is how many cells the run has had above its share, and it is negative where the run
+ * is behind. Length 0 and whole turns of the frame have lead 0, so that a whole turn more or less leaves the lead as it is. Whatever the
+ * bytes, |lead| is at most slots x slots / 4 for a pair or an input, and ports times as much for an output, to which every input may send
+ * in the same slot.
+ *
+ * For a frame that Build made, counted with the ports and slots that Build was given, 3 x |lead| <= (2k + 1) x slots, where slots are 2^k,
+ * and |lead| is at most what stands here. Both are proved, for every pair, input and output and every run.
+ *
+ *     slots     1     2     4     8    16    32    64   128     256     512   1,024
+ *     |lead|    0     2     6    18    46   114   270   626   1,422   3,186   7,054
+ *
+ *     answer                  *cells                        *lead
+ *     ACCEPTED                the cells, 0 to 16,000,000    the lead, -4,194,304 to 4,194,304
+ *     REFUSED_PORTS           0                             0
+ *     REFUSED_SLOTS           0                             0
+ *     REFUSED_FRAME_LENGTH    0                             0
+ *     REFUSED_SLOT_NUMBER     0                             0
+ *     REFUSED_PORT_NUMBER     0                             0
+ *     REFUSED_RUN_LENGTH      0                             0
  */
 size_t frame_builder_count_pair(size_t ports, size_t slots, const uint8_t *frame, size_t frame_length, size_t input, size_t output,
-                                size_t start, size_t length, size_t *cells);
+                                size_t start, size_t length, size_t *cells, int64_t *lead);
 size_t frame_builder_count_input(size_t ports, size_t slots, const uint8_t *frame, size_t frame_length, size_t input, size_t start,
-                                 size_t length, size_t *cells);
+                                 size_t length, size_t *cells, int64_t *lead);
 size_t frame_builder_count_output(size_t ports, size_t slots, const uint8_t *frame, size_t frame_length, size_t output, size_t start,
-                                  size_t length, size_t *cells);
+                                  size_t length, size_t *cells, int64_t *lead);
 
 #ifdef __cplusplus
 }

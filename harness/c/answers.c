@@ -14,6 +14,7 @@
 
 #define COUNT_OF(array) (sizeof(array) / sizeof *(array))
 #define UNSET ((size_t)0xaaaaaaaaaaaaaaaa)
+#define UNSET_LEAD ((int64_t)0x5555555555555555)
 #define ERRNO 12345
 #define MOST_PORTS FRAME_BUILDER_MAX_PORTS
 #define MOST_SLOTS FRAME_BUILDER_MAX_SLOTS
@@ -89,11 +90,15 @@ struct lent {
 
 /* Each lent number stands between two that must stay. */
 struct numbers {
-    size_t before, first, between, second, after;
+    size_t before, first, between, second, beside;
+    int64_t lead;
+    size_t after;
 };
 
-static size_t make_call(enum call call, const struct lent *l, size_t *first, size_t *second)
+static size_t make_call(enum call call, const struct lent *l, struct numbers *n)
 {
+    size_t *first = &n->first, *second = &n->second;
+    int64_t *lead = &n->lead;
     switch (call) {
     case ADMIT:
         return frame_builder_admit(l->ports, l->slots, l->matrix, l->matrix_length, first, second);
@@ -104,23 +109,24 @@ static size_t make_call(enum call call, const struct lent *l, size_t *first, siz
     case SLOT_VIEW:
         return frame_builder_slot_view(l->ports, l->slots, l->frame, l->frame_length, l->slot, first, second);
     case COUNT_PAIR:
-        return frame_builder_count_pair(l->ports, l->slots, l->frame, l->frame_length, l->input, l->output, l->slot, l->length, first);
+        return frame_builder_count_pair(l->ports, l->slots, l->frame, l->frame_length, l->input, l->output, l->slot, l->length, first, lead);
     case COUNT_INPUT:
-        return frame_builder_count_input(l->ports, l->slots, l->frame, l->frame_length, l->input, l->slot, l->length, first);
+        return frame_builder_count_input(l->ports, l->slots, l->frame, l->frame_length, l->input, l->slot, l->length, first, lead);
     default:
-        return frame_builder_count_output(l->ports, l->slots, l->frame, l->frame_length, l->output, l->slot, l->length, first);
+        return frame_builder_count_output(l->ports, l->slots, l->frame, l->frame_length, l->output, l->slot, l->length, first, lead);
     }
 }
 
-/* The call answers with these numbers and writes nothing else beside them. A count has one lent number. */
-static int answers(enum call call, const struct lent *lent, size_t number, size_t first, size_t second)
+/* The call answers with these numbers and writes nothing else beside them. A count's second value is its lead. */
+static int answers(enum call call, const struct lent *lent, size_t number, size_t first, int64_t second)
 {
-    struct numbers n = {UNSET, UNSET, UNSET, UNSET, UNSET};
+    struct numbers n = {UNSET, UNSET, UNSET, UNSET, UNSET, UNSET_LEAD, UNSET};
     errno = ERRNO;
-    size_t got = make_call(call, lent, &n.first, &n.second);
-    size_t expected = call < COUNT_PAIR ? second : UNSET;
-    return got == number && n.first == first && n.second == expected && n.before == UNSET && n.between == UNSET && n.after == UNSET
-           && errno == ERRNO;
+    size_t got = make_call(call, lent, &n);
+    size_t expected = call < COUNT_PAIR ? (size_t)second : UNSET;
+    int64_t lead = call < COUNT_PAIR ? UNSET_LEAD : second;
+    return got == number && n.first == first && n.second == expected && n.lead == lead && n.before == UNSET && n.between == UNSET
+           && n.beside == UNSET && n.after == UNSET && errno == ERRNO;
 }
 
 /* An edit of what an accepted call is lent, and the answer then. */
@@ -128,7 +134,8 @@ struct expected {
     const char *what;
     enum call call;
     struct lent lent;
-    size_t number, first, second;
+    size_t number, first;
+    int64_t second; /* Service count: the lead */
 };
 
 #define PORTS 4
@@ -142,6 +149,7 @@ static uint8_t too_large[SLOTS * PORTS] = {1, 0, 0, 4, 2, 0, 0, 5, 1, 0, 0, 255,
 static uint8_t twice[SLOTS * PORTS] = {1, 0, 0, 4, 2, 0, 0, 1, 1, 0, 0, 2, 2, 0, 4, 4};
 static uint8_t miscounted[SLOTS * PORTS] = {1, 0, 0, 4, 2, 0, 0, 1, 1, 0, 0, 2, 2, 0, 0, 0};
 static uint8_t bunched[SLOTS * PORTS] = {1, 0, 0, 4, 1, 0, 0, 2, 2, 0, 0, 1, 2, 0, 0, 4};
+static uint8_t crowded[SLOTS * PORTS] = {1, 1, 1, 1, 1, 1, 1, 1, 0, 0, 0, 0, 0, 0, 0, 255};
 
 #define MATRIX(matrix) matrix, PORTS *PORTS
 #define FRAME(frame) frame, SLOTS *PORTS
@@ -198,7 +206,12 @@ static const struct expected expectations[] = {
     {"slot view: no frame, ports 0", SLOT_VIEW, {0, 4, NO_MATRIX, NO_FRAME, 3, 0, 0, 0}, 1, 0, 0},
     {"slot view: no frame, slots 0", SLOT_VIEW, {4, 0, NO_MATRIX, NO_FRAME, 3, 0, 0, 0}, 2, 0, 0},
 
-    {"count pair: accepted", COUNT_PAIR, {4, 4, NO_MATRIX, FRAME(built), 4, 2, 4, 4}, 0, 2, 0},
+    {"count pair: a cell ahead", COUNT_PAIR, {4, 4, NO_MATRIX, FRAME(built), 4, 2, 4, 4}, 0, 2, 4},
+    {"count pair: a cell behind", COUNT_PAIR, {4, 4, NO_MATRIX, FRAME(built), 2, 2, 4, 4}, 0, 0, -4},
+    {"count pair: no slots", COUNT_PAIR, {4, 4, NO_MATRIX, FRAME(built), 2, 0, 4, 4}, 0, 0, 0},
+    {"count pair: a whole turn", COUNT_PAIR, {4, 4, NO_MATRIX, FRAME(built), 2, 4, 4, 4}, 0, 2, 0},
+    {"count pair: many turns and three slots", COUNT_PAIR, {4, 4, NO_MATRIX, FRAME(built), 2, 999999, 4, 4}, 0, 499999, -2},
+    {"count pair: any bytes", COUNT_PAIR, {4, 4, NO_MATRIX, FRAME(crowded), 1, 2, 4, 1}, 0, 2, 4},
     {"count pair: ports", COUNT_PAIR, {0, 4, NO_MATRIX, FRAME(built), 4, 2, 4, 4}, 1, 0, 0},
     {"count pair: slots", COUNT_PAIR, {4, 0, NO_MATRIX, FRAME(built), 4, 2, 4, 4}, 2, 0, 0},
     {"count pair: frame length", COUNT_PAIR, {4, 4, NO_MATRIX, built, 15, 4, 2, 4, 4}, 4, 0, 0},
@@ -210,7 +223,10 @@ static const struct expected expectations[] = {
     {"count pair: no frame, ports 0", COUNT_PAIR, {0, 4, NO_MATRIX, NO_FRAME, 4, 2, 4, 4}, 1, 0, 0},
     {"count pair: no frame, slots 0", COUNT_PAIR, {4, 0, NO_MATRIX, NO_FRAME, 4, 2, 4, 4}, 2, 0, 0},
 
-    {"count input: accepted", COUNT_INPUT, {4, 4, NO_MATRIX, FRAME(built), 1, 1000000, 4, 0}, 0, 1000000, 0},
+    {"count input: the longest run", COUNT_INPUT, {4, 4, NO_MATRIX, FRAME(built), 1, 1000000, 4, 0}, 0, 1000000, 0},
+    {"count input: ahead", COUNT_INPUT, {4, 4, NO_MATRIX, FRAME(miscounted), 1, 3, 4, 0}, 0, 3, 3},
+    {"count input: behind", COUNT_INPUT, {4, 4, NO_MATRIX, FRAME(miscounted), 4, 1, 4, 0}, 0, 0, -3},
+    {"count input: any bytes", COUNT_INPUT, {4, 4, NO_MATRIX, FRAME(crowded), 3, 1, 4, 0}, 0, 0, -3},
     {"count input: ports", COUNT_INPUT, {17, 4, NO_MATRIX, FRAME(built), 1, 2, 4, 0}, 1, 0, 0},
     {"count input: slots", COUNT_INPUT, {4, 7, NO_MATRIX, FRAME(built), 1, 2, 4, 0}, 2, 0, 0},
     {"count input: frame length", COUNT_INPUT, {4, 4, NO_MATRIX, built, 12, 1, 2, 4, 0}, 4, 0, 0},
@@ -221,7 +237,11 @@ static const struct expected expectations[] = {
     {"count input: no frame, ports 0", COUNT_INPUT, {0, 4, NO_MATRIX, NO_FRAME, 1, 2, 4, 0}, 1, 0, 0},
     {"count input: no frame, slots 0", COUNT_INPUT, {4, 0, NO_MATRIX, NO_FRAME, 1, 2, 4, 0}, 2, 0, 0},
 
-    {"count output: accepted", COUNT_OUTPUT, {4, 4, NO_MATRIX, FRAME(built), 3, 3, 0, 1}, 0, 2, 0},
+    {"count output: behind", COUNT_OUTPUT, {4, 4, NO_MATRIX, FRAME(built), 3, 3, 0, 1}, 0, 2, -1},
+    {"count output: ahead", COUNT_OUTPUT, {4, 4, NO_MATRIX, FRAME(built), 1, 3, 0, 1}, 0, 3, 3},
+    {"count output: never used", COUNT_OUTPUT, {4, 4, NO_MATRIX, FRAME(built), 3, 3, 0, 3}, 0, 0, 0},
+    {"count output: any bytes, ahead", COUNT_OUTPUT, {4, 4, NO_MATRIX, FRAME(crowded), 1, 2, 0, 1}, 0, 8, 16},
+    {"count output: any bytes, behind", COUNT_OUTPUT, {4, 4, NO_MATRIX, FRAME(crowded), 3, 2, 0, 1}, 0, 0, -16},
     {"count output: ports", COUNT_OUTPUT, {0, 4, NO_MATRIX, FRAME(built), 3, 3, 0, 1}, 1, 0, 0},
     {"count output: slots", COUNT_OUTPUT, {4, 9, NO_MATRIX, FRAME(built), 3, 3, 0, 1}, 2, 0, 0},
     {"count output: frame length", COUNT_OUTPUT, {2, 4, NO_MATRIX, FRAME(built), 3, 3, 0, 1}, 4, 0, 0},
@@ -291,14 +311,14 @@ static void fill_load(uint16_t *matrix, size_t ports, size_t slots, size_t step)
     }
 }
 
-/* All calls are accepted, with the cells of a full load, on this matrix and this frame. */
+/* All calls are accepted, with the cells of a full load in whole turns, on this matrix and this frame. */
 static int all_accept(size_t ports, size_t slots, uint16_t *matrix, uint8_t *frame)
 {
     size_t turns = 1000, length = turns * slots <= 1000000 ? turns * slots : slots;
     struct lent lent = {ports, slots, matrix, ports * ports, frame, slots * ports, slots, length, ports, 1};
     fill_load(matrix, ports, slots, 1 + slots / ports);
     return answers(ADMIT, &lent, 0, 0, 0) && answers(BUILD, &lent, 0, 0, 0) && answers(INSPECT, &lent, 0, 0, 0)
-           && answers(SLOT_VIEW, &lent, 0, (slots - 1) * ports, ports)
+           && answers(SLOT_VIEW, &lent, 0, (slots - 1) * ports, (int64_t)ports)
            && answers(COUNT_PAIR, &lent, 0, length / slots * matrix[(ports - 1) * ports], 0)
            && answers(COUNT_INPUT, &lent, 0, length, 0) && answers(COUNT_OUTPUT, &lent, 0, length, 0);
 }
@@ -364,11 +384,30 @@ static void check_overlap(void)
     check(answers(INSPECT, &lent, FRAME_BUILDER_FAULT_PAIR_COUNT, 1, 1), "a matrix that is the frame");
 }
 
+/* The furthest leads of any bytes: all inputs send to output 16 in the first half of the frame, and nothing in the second. */
+static void check_furthest(void)
+{
+    static uint8_t frame[MOST_FRAME];
+    size_t half = MOST_SLOTS / 2, turns = 976;
+    struct lent lent = {MOST_PORTS, MOST_SLOTS, NO_MATRIX, frame, MOST_FRAME, 1, half, 16, 16};
+    memset(frame, 16, MOST_FRAME / 2);
+    check(answers(COUNT_OUTPUT, &lent, 0, 8192, 4194304), "the furthest ahead of outputs");
+    check(answers(COUNT_INPUT, &lent, 0, 512, 262144), "the furthest ahead of inputs");
+    check(answers(COUNT_PAIR, &lent, 0, 512, 262144), "the furthest ahead of pairs");
+    lent.length = turns * MOST_SLOTS + half;
+    check(answers(COUNT_OUTPUT, &lent, 0, (turns + 1) * 8192, 4194304), "the furthest ahead of outputs, after whole turns");
+    lent.slot += half;
+    check(answers(COUNT_OUTPUT, &lent, 0, turns * 8192, -4194304), "the furthest behind of outputs, after whole turns");
+    check(answers(COUNT_INPUT, &lent, 0, turns * 512, -262144), "the furthest behind of inputs, after whole turns");
+    check(answers(COUNT_PAIR, &lent, 0, turns * 512, -262144), "the furthest behind of pairs, after whole turns");
+}
+
 int main(void)
 {
     setvbuf(stdout, NULL, _IOLBF, 0);
     check_texts();
     check_answers();
+    check_furthest();
     check_bounds();
     check_overlap();
     check_threads();

@@ -24,7 +24,9 @@ struct record {
 };
 
 struct answer {
-    uint64_t number, first, second, harm;
+    uint64_t number, first;
+    uint64_t second; /* Service count: the lead, in two's complement */
+    uint64_t harm;
 };
 
 /* Bytes lent to a call, with a margin before and a margin after, and a copy of it all. */
@@ -92,6 +94,19 @@ static enum harm harm_done(uint64_t call, const struct lent *matrix, const struc
     return same_margins(frame) ? NONE : AROUND_FRAME;
 }
 
+static size_t make_count(const struct record *r, const uint8_t *frame, size_t *cells, int64_t *lead)
+{
+    switch (r->call) {
+    case COUNT_PAIR:
+        return frame_builder_count_pair(r->ports, r->slots, frame, r->frame_length, r->input, r->output, r->slot, r->length, cells, lead);
+    case COUNT_INPUT:
+        return frame_builder_count_input(r->ports, r->slots, frame, r->frame_length, r->input, r->slot, r->length, cells, lead);
+    case COUNT_OUTPUT:
+        return frame_builder_count_output(r->ports, r->slots, frame, r->frame_length, r->output, r->slot, r->length, cells, lead);
+    }
+    exit(2);
+}
+
 static size_t make_call(const struct record *r, const uint16_t *matrix, uint8_t *frame, size_t *first, size_t *second)
 {
     switch (r->call) {
@@ -104,16 +119,10 @@ static size_t make_call(const struct record *r, const uint16_t *matrix, uint8_t 
     case SLOT_VIEW:
         return frame_builder_slot_view(r->ports, r->slots, frame, r->frame_length, r->slot, first, second);
     }
-    *second = 0;
-    switch (r->call) {
-    case COUNT_PAIR:
-        return frame_builder_count_pair(r->ports, r->slots, frame, r->frame_length, r->input, r->output, r->slot, r->length, first);
-    case COUNT_INPUT:
-        return frame_builder_count_input(r->ports, r->slots, frame, r->frame_length, r->input, r->slot, r->length, first);
-    case COUNT_OUTPUT:
-        return frame_builder_count_output(r->ports, r->slots, frame, r->frame_length, r->output, r->slot, r->length, first);
-    }
-    exit(2);
+    int64_t lead = INT64_MAX;
+    size_t number = make_count(r, frame, first, &lead);
+    *second = (size_t)lead;
+    return number;
 }
 
 /* Makes one call and answers it. */

@@ -55,6 +55,7 @@ static void make_call(void)
 {
     size_t ports = asked.ports, slots = asked.slots, matrix_length = asked.matrix_length, frame_length = asked.frame_length;
     size_t slot = asked.slot, length = asked.length, port = asked.port, first, second;
+    int64_t lead;
     const uint16_t *matrix = asked.matrix;
     uint8_t *frame = asked.frame;
     top = __builtin_frame_address(0);
@@ -72,13 +73,13 @@ static void make_call(void)
         asked.answer = frame_builder_slot_view(ports, slots, frame, frame_length, slot, &first, &second);
         break;
     case COUNT_PAIR:
-        asked.answer = frame_builder_count_pair(ports, slots, frame, frame_length, port, port, slot, length, &first);
+        asked.answer = frame_builder_count_pair(ports, slots, frame, frame_length, port, port, slot, length, &first, &lead);
         break;
     case COUNT_INPUT:
-        asked.answer = frame_builder_count_input(ports, slots, frame, frame_length, port, slot, length, &first);
+        asked.answer = frame_builder_count_input(ports, slots, frame, frame_length, port, slot, length, &first, &lead);
         break;
     case COUNT_OUTPUT:
-        asked.answer = frame_builder_count_output(ports, slots, frame, frame_length, port, slot, length, &first);
+        asked.answer = frame_builder_count_output(ports, slots, frame, frame_length, port, slot, length, &first, &lead);
         break;
     default:
         asked.answer = take_known_bytes();

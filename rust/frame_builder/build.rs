@@ -18,6 +18,9 @@ const VARIABLES: [&str; 6] = [
     "PKG_CONFIG_LIBDIR",
 ];
 
+/// How the version begins of a library that has the calls as this crate makes them.
+const CALLS: &str = "2.";
+
 const ADVICE: &str = "\
 What to do, one of these:
   - run `./install --prefix DIR` in a checkout of the frame builder, and set FRAME_BUILDER_PREFIX=DIR
@@ -78,12 +81,23 @@ fn find() -> Result<Library, String> {
     let mut tried = String::from("the library is not found. Tried, in this order:\n");
     for (place, (name, way)) in (1..).zip(ways) {
         match way() {
-            Ok(library) => return Ok(library),
+            Ok(library) => return with_these_calls(library),
             Err(Miss::Nothing(why)) => tried.push_str(&format!("  {place}. {name}: {why}\n")),
             Err(Miss::Broken(why)) => return Err(format!("{why}\n{ADVICE}")),
         }
     }
     Err(tried + ADVICE)
+}
+
+/// Refuses a library whose calls take other arguments, which the linker would not notice.
+fn with_these_calls(library: Library) -> Result<Library, String> {
+    let (archive, version) = (library.archive.display(), &library.version);
+    if version.starts_with(CALLS) {
+        return Ok(library);
+    }
+    let why =
+        format!("{archive} is of version {version}, and this crate makes the calls of {CALLS}x");
+    Err(format!("{why}\n{ADVICE}"))
 }
 
 /// Way 1: a folder that the library is installed in.

@@ -34,6 +34,19 @@ pub fn runs() {
     idle(4, 4, 16, pair, 1, 1000000);
 }
 
+// Runs as far ahead and as far behind as any of their flow, and one of them after many turns.
+pub fn leads() {
+    let pair = Who::Pair {
+        input: 4,
+        output: 4,
+    };
+    sheet(pair, 4, 2);
+    sheet(pair, 2, 2);
+    sheet(Who::Output(1), 1, 3);
+    sheet(Who::Output(1), 4, 1);
+    sheet(Who::Output(1), 4, 999997);
+}
+
 // Bytes that no builder writes.
 pub fn any_bytes() {
     let bytes = [3u8, 3, 255, 0];

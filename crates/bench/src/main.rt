@@ -1,5 +1,5 @@
 // The bench loads of document 01 that are not marked P, as far as Admit, Slot view and Service count answer them: for each
-// case a line with the call, what is asked of it, and the answer's number and values.
+// case a line with the call, what is asked of it, and the answer's number and values, the last of a count's its lead.
 mod admits;
 mod counts;
 mod show;
@@ -16,6 +16,7 @@ fn main() {
     views::sizes();
     views::two_at_once();
     counts::runs();
+    counts::leads();
     counts::any_bytes();
     counts::sizes();
     counts::questions();

@@ -1,4 +1,6 @@
 // A case's line: the call, what is asked of it, and the numbers of its answer.
+ghost use mathlib.Core.Path.{_≡_};
+ghost use lib.IntN.{natAbs};
 use model::Answer;
 use model::Refusal;
 use model::Service;
@@ -8,6 +10,22 @@ use model::Who;
 fn number(n: usize) {
     io::write_all(1, b" ");
     io::print_decimal(1, n as u64);
+}
+
+// How far a signed number is from 0.
+fn distance(n: i64) -> u64
+    ensures { λ r. ⌜ r ≡ natAbs n ⌝ }
+{
+    if n < 0 { (-1 - n) as u64 + 1 } else { n as u64 }
+}
+
+// A signed number after a space.
+fn signed(n: i64) {
+    io::write_all(1, b" ");
+    if n < 0 {
+        io::write_all(1, b"-");
+    }
+    io::print_decimal(1, distance(n));
 }
 
 // A number after its name.
@@ -89,7 +107,7 @@ fn whom(who: Who) {
     }
 }
 
-// 0 and the cells, or the refusal's number.
+// 0, the cells and the lead, or the refusal's number.
 pub fn count(ports: usize, slots: usize, frame: &[u8], who: Who, start: usize, len: usize) {
     rack(b"Service count", ports, slots);
     named(b"bytes", frame.len());
@@ -99,7 +117,10 @@ pub fn count(ports: usize, slots: usize, frame: &[u8], who: Who, start: usize, l
     io::write_all(1, b":");
     let answer = service::service_count(ports, slots, frame, who, start, len);
     match answer {
-        Service::Counted(count) => load(0, count.cells),
+        Service::Counted(count) => {
+            load(0, count.cells);
+            signed(count.lead);
+        }
         Service::Refused(r) => refusal(r),
     }
     io::write_all(1, b"\n");

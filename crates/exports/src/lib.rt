@@ -1,10 +1,11 @@
-// The C interface: numbers and slices only. Each answer is document 01's number, 0 for none, and up to two values.
+// The C interface: numbers and slices only. Each answer is document 01's number, 0 for none, and up to two values; a count's
+// second is signed.
 ghost use mathlib.Core.Path.{_≡_};
 ghost use Rattle.model.specs.Refusals.{admitted};
 ghost use Rattle.model.specs.Build.{built, left};
 ghost use Rattle.model.specs.Inspect.{inspected};
 ghost use Rattle.model.specs.Service.{viewNumber, viewStart, viewSize, service};
-ghost use Rattle.numbers.specs.Numbers.{Two, Three};
+ghost use Rattle.numbers.specs.Numbers.{Three, Replied};
 use model::Answer;
 use model::Who;
 
@@ -62,7 +63,7 @@ pub extern "C" fn frame_builder_build(
     n.number
 }
 
-// Service count; the cells are the first value.
+// Service count; the cells and the lead are 0 where it is refused.
 fn count(
     ports: usize,
     slots: usize,
@@ -71,11 +72,14 @@ fn count(
     start: usize,
     len: usize,
     cells: &mut usize,
+    lead: &mut i64,
 ) -> usize
-    ensures { λ r. ⌜ Two (service ports slots (now (frame .entry)) who start len) r (now (cells .exit)) ⌝ }
+    ensures { λ r. ⌜ Replied (service ports slots (now (frame .entry)) who start len) r (now (cells .exit)) (now (lead .exit)) ⌝ }
 {
     let n = numbers::of_service(service::service_count(ports, slots, frame, who, start, len));
-    *cells = n.first;
+    *cells = n.cells;
+    let signed = n.lead;
+    *lead = signed;
     n.number
 }
 
@@ -90,11 +94,12 @@ pub extern "C" fn frame_builder_count_pair(
     start: usize,
     len: usize,
     cells: &mut usize,
+    lead: &mut i64,
 ) -> usize
-    ensures { λ r. ⌜ Two (service ports slots (now (frame .entry)) (Who.Pair input output) start len) r (now (cells .exit)) ⌝ }
+    ensures { λ r. ⌜ Replied (service ports slots (now (frame .entry)) (Who.Pair input output) start len) r (now (cells .exit)) (now (lead .exit)) ⌝ }
 {
     let who = Who::Pair { input, output };
-    count(ports, slots, frame, who, start, len, cells)
+    count(ports, slots, frame, who, start, len, cells, lead)
 }
 
 // Service count for an input.
@@ -107,10 +112,20 @@ pub extern "C" fn frame_builder_count_input(
     start: usize,
     len: usize,
     cells: &mut usize,
+    lead: &mut i64,
 ) -> usize
-    ensures { λ r. ⌜ Two (service ports slots (now (frame .entry)) (Who.Input input) start len) r (now (cells .exit)) ⌝ }
+    ensures { λ r. ⌜ Replied (service ports slots (now (frame .entry)) (Who.Input input) start len) r (now (cells .exit)) (now (lead .exit)) ⌝ }
 {
-    count(ports, slots, frame, Who::Input(input), start, len, cells)
+    count(
+        ports,
+        slots,
+        frame,
+        Who::Input(input),
+        start,
+        len,
+        cells,
+        lead,
+    )
 }
 
 // Service count for an output.
@@ -123,10 +138,20 @@ pub extern "C" fn frame_builder_count_output(
     start: usize,
     len: usize,
     cells: &mut usize,
+    lead: &mut i64,
 ) -> usize
-    ensures { λ r. ⌜ Two (service ports slots (now (frame .entry)) (Who.Output output) start len) r (now (cells .exit)) ⌝ }
+    ensures { λ r. ⌜ Replied (service ports slots (now (frame .entry)) (Who.Output output) start len) r (now (cells .exit)) (now (lead .exit)) ⌝ }
 {
-    count(ports, slots, frame, Who::Output(output), start, len, cells)
+    count(
+        ports,
+        slots,
+        frame,
+        Who::Output(output),
+        start,
+        len,
+        cells,
+        lead,
+    )
 }
 
 // Slot view: where in the frame the part begins, and how many bytes it has, stand in for the part itself.

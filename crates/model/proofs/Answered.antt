@@ -1,9 +1,10 @@
 -- Each call's definition answers by its cases.
-use Prim.Native.Nat.{ℕ, suc, _-_, _*_, _<_}
+use Prim.Native.Nat.{ℕ, suc, _-_, _*_, _≤_, _<_}
 use mathlib.Core.Path.{_≡_, sym, ap, ap₂, _∙_}
 use mathlib.Core.List.{List, [], _∷_}
 use mathlib.Core.Bool.{true, false}
 use native.Mathlib.Omega.{arith}
+use lib.IntN.{ℤ, pos, _-ℤ_}
 use lib.ListN.{length, getD}
 use borrow.Author.Tests.{not-false}
 use Rattle.model.specs.Words.{within}
@@ -13,16 +14,18 @@ use Rattle.model.specs.Refusals.{Check, report, clear, bad-ports, bad-sl
 use Rattle.model.specs.Schedule.{frameOf}
 use Rattle.model.specs.Build.{left, buildChecks, built}
 use Rattle.model.specs.Inspect.{byteTooLarge, outputTwice, pairCount, unbalancedBlock, inspected}
-use Rattle.model.specs.Service.{viewChecks, viewNumber, viewStart, viewSize, viewed, classOf, bad-who, bad-length, repeated, service}
+use Rattle.model.specs.Service.{viewChecks, viewNumber, viewStart, viewSize, viewed, classOf, bad-who, bad-length, repeated, lead, Reply, countChecks, service}
 use Rattle.model.specs.declared.Who.{Who}
 use Rattle.model.specs.declared.Who.the-variants.{Pair, Input, Output}
 use Rattle.model.proofs.Cases.{from-one, byLt, Within, both-true, within-yes, within-true}
 use Rattle.model.proofs.Levels.{Power, power-level}
 use Rattle.model.proofs.OneFrame.{only-frame}
 use Rattle.model.proofs.Reports.{Tells, ports-tells, slots-tells, matrix-tells, frame-tells, clear-none, clear-some, broken, byFact, slot-tells, length-tells}
+use Rattle.model.proofs.Replies.{count, reply-refused, reply-counted}
+use Rattle.model.proofs.Integers.{minus-ahead, minus-behind}
 use Rattle.model.proofs.Overloads.{byOver}
 use Rattle.model.proofs.Demand2.{WellFormed, past-load, well-frame, overloads, light-fits, admit-answers, build-answers, accepts-yes, build-keeps}
-use Rattle.model.proofs.Answers.{Exactly, exactly, RackRefused, ports-1, slots-2, LoadRefused, FrameRefused, SlotRefused, rack, matrix-3, matrix, frame-4, slot-11, SlotFound, Admits, refused, input-5, output-6, accepted, Builds, Inspects, found, Views, seen, Names, of-pair, of-input, of-output, Counts, port-12, length-13, counted, ByCases}
+use Rattle.model.proofs.Answers.{Exactly, exactly, RackRefused, ports-1, slots-2, LoadRefused, FrameRefused, SlotRefused, rack, matrix-3, matrix, frame-4, slot-11, SlotFound, Admits, refused, input-5, output-6, accepted, Builds, Inspects, found, Views, seen, Names, of-pair, of-input, of-output, Counts, port-12, length-13, counted-ahead, counted-behind, ByCases}
 use Rattle.model.proofs.Clean.{find-only, fault-means}
 use Rattle.model.proofs.Responses.{respond-exactly}
 
@@ -71,14 +74,20 @@ module _ (ports slots : ℕ) (bytes : List ℕ) (slot : ℕ) where
       rw (ports-tells ports .met p, slots-tells slots .met s, frame-tells ports slots bytes .met f, broken (slot-tells slots slot) b)
 
   -- none of 1, 2, 4 and 11 holds where the slot is found
+  slot-met : {s : ℕ} → SlotFound ports slots bytes slot s
+      → (bad-ports ports .0 ≡ false) × (bad-slots slots .0 ≡ false) × (bad-frame ports slots bytes .0 ≡ false) × (bad-slot slots slot .0 ≡ false)
+  slot-met f = (
+    ports-tells ports .met (f .rack),
+    slots-tells slots .met (f .power),
+    frame-tells ports slots bytes .met (f .size),
+    slot-tells slots slot .met (let l = f .low in let e = f .number in (omega arith, omega arith)),
+  )
+
   slot-clear : {s : ℕ} → SlotFound ports slots bytes slot s → (cs : List Check) (asked : List ℕ) → report (slotChecks cs) asked ≡ report cs asked
-  slot-clear f cs asked =
-      rw (
-        ports-tells ports .met (f .rack),
-        slots-tells slots .met (f .power),
-        frame-tells ports slots bytes .met (f .size),
-        slot-tells slots slot .met (let l = f .low in let e = f .number in (omega arith, omega arith)),
-      )
+  slot-clear f cs asked = let m = slot-met f in rw (m .0, m .1, m .2, m .3)
+
+  slot-none : {s : ℕ} → SlotFound ports slots bytes slot s → (cs : List Check) → clear (slotChecks cs) ≡ clear cs
+  slot-none f cs = let m = slot-met f in rw (m .0, m .1, m .2, m .3)
 
 -- one of them holds, or none
 byRack : {P : Type 0} (ports slots : ℕ) → ((n : ℕ) → RackRefused ports slots n → P) → (Within 1 16 ports → Power slots → P) → P
@@ -223,29 +232,46 @@ module _ (ports slots : ℕ) (bytes : List ℕ) (who : Who) (start len : ℕ) wh
   abbrev lastChecks : List Check
   lastChecks = bad-who ports who ∷ bad-length len ∷ []
 
-  -- the count that is asked for
-  abbrev count : List ℕ
-  count = 0 ∷ cells (classOf who) ports (repeated ports slots bytes (start - 1) len) ∷ []
+  abbrev asked : List ℕ
+  asked = count ports slots bytes who start len
+
+  reply : {n : ℕ} → report (slotChecks ports slots bytes start lastChecks) asked ≡ n ∷ [] → 0 < n
+      → _≡_ {A = Reply} (record { numbers = n ∷ []; ahead = pos 0 }) (service ports slots bytes who start len)
+  unfolding countChecks
+  reply e h = reply-refused ports slots bytes who start len e (λ z. omega arith)
+
+  -- a run that is counted: its cells, and its lead
+  found-counted : {s : ℕ} → SlotFound ports slots bytes start s → {c : Class} → Names ports who c → len ≤ 1000000 → {z : ℤ}
+      → pos (slots * cells c ports (repeated ports slots bytes s len)) -ℤ pos (len * cells c ports bytes) ≡ z
+      → _≡_ {A = Reply} (record { numbers = 0 ∷ cells c ports (repeated ports slots bytes s len) ∷ []; ahead = z }) (service ports slots bytes who start len)
+  unfolding countChecks lead
+  found-counted {s} f {c} n l e =
+      let at : start - 1 ≡ s = (let h = f .number in omega arith) in
+      let none : clear (slotChecks ports slots bytes start lastChecks) ≡ true
+      = slot-none ports slots bytes start f lastChecks ∙ rw (who-tells ports who .met (c, n), length-tells len .met l) in
+      rw (sym e, sym at, sym (names-class n)) (reply-counted ports slots bytes who start len none)
 
   -- what a case says is Service count's answer
-  count-only : (given : List ℕ) → Counts ports slots bytes who start len given → given ≡ service ports slots bytes who start len
-  unfolding service
-  count-only given (refused r) = sym (slot-reported ports slots bytes start lastChecks count r)
-  count-only given (port-12 f b) = sym (slot-clear ports slots bytes start f lastChecks count ∙ rw (broken (who-tells ports who) (λ n. b (n .0) (n .1))))
+  count-only : (given : Reply) → Counts ports slots bytes who start len given → given ≡ service ports slots bytes who start len
+  count-only given (refused r) = reply (slot-reported ports slots bytes start lastChecks asked r) (slot-low r)
+  count-only given (port-12 f b) =
+      reply (slot-clear ports slots bytes start f lastChecks asked ∙ rw (broken (who-tells ports who) (λ n. b (n .0) (n .1)))) (omega arith)
   count-only given (length-13 {s} f {c} n b) =
-      sym (slot-clear ports slots bytes start f lastChecks count
-      ∙ rw (who-tells ports who .met (c, n), broken (length-tells len) (λ l. omega arith)))
-  count-only given (counted {s} f {c} n l) =
-      let h : start - 1 ≡ s = (let e = f .number in omega arith) in
-      sym (slot-clear ports slots bytes start f lastChecks count
-      ∙ rw (who-tells ports who .met (c, n), length-tells len .met l, names-class n, h))
+      reply (slot-clear ports slots bytes start f lastChecks asked
+      ∙ rw (who-tells ports who .met (c, n), broken (length-tells len) (λ l. omega arith))) (omega arith)
+  count-only given (counted-ahead f n l m e) = found-counted f n l (minus-ahead _ _ m e)
+  count-only given (counted-behind f n l m e) = found-counted f n l (minus-behind _ _ m e)
 
   pub count-exactly : Exactly (Counts ports slots bytes who start len) (service ports slots bytes who start len)
   count-exactly =
       bySlot ports slots bytes start (λ n r. exactly count-only (refused r))
       (λ s f. byFact (who-tells ports who) (λ b. exactly count-only (port-12 f (λ c n. b (c, n))))
       (λ n. byFact (length-tells len) (λ b. exactly count-only (length-13 f (n .1) (byLt 1000000 len (λ l. l) (λ l. absurd (b l)))))
-      (λ l. exactly count-only (counted f (n .1) l))))
+      (λ l.
+      let had = slots * cells (n .0) ports (repeated ports slots bytes s len) in
+      let share = len * cells (n .0) ports bytes in
+      byLt had share (λ h. exactly count-only (counted-behind f (n .1) l (share - suc had) (omega arith)))
+      (λ h. exactly count-only (counted-ahead f (n .1) l (had - share) (omega arith))))))
 
 -- ---- all of them
 -- Every call and the sheet program answer by their cases.

@@ -4,6 +4,7 @@ use Prim.Native.Nat.{ℕ, suc, _+_, _*_, _≤_, _<_}
 use mathlib.Core.Path.{_≡_, subst, refl}
 use mathlib.Core.Logic.{_⊎_}
 use mathlib.Core.List.{List, [], _∷_, _++_, map}
+use lib.IntN.{pos, negsuc}
 use lib.ListN.{length, getD, take, drop, set, replicate}
 use Rattle.model.specs.Words.{Near}
 use Rattle.model.specs.Loads.{Class, pair, output, Of, load, input, Fits}
@@ -12,7 +13,7 @@ use Rattle.model.specs.Refusals.{admitted, refusal, answered}
 use Rattle.model.specs.Rules.{Scheduled}
 use Rattle.model.specs.Build.{left, built}
 use Rattle.model.specs.Inspect.{inspected, finding}
-use Rattle.model.specs.Service.{viewNumber, viewStart, viewSize, viewed, repeated, served, service}
+use Rattle.model.specs.Service.{viewNumber, viewStart, viewSize, viewed, repeated, Reply, served, service}
 use Rattle.model.specs.Sheet.{text, portsLine, slotsLine, pairLine, Asked, loads, printFrame, printRefusal, response}
 use Rattle.model.specs.Sheet as asked
 use Rattle.model.specs.declared.Refusal.{Refusal}
@@ -152,13 +153,20 @@ pub data Names (ports : ℕ) : Who → Class → Type 0 where
   of-input : {i : ℕ} → i < ports → Names ports (Input (suc i)) (input i)
   of-output : {o : ℕ} → o < ports → Names ports (Output (suc o)) (output o)
 
--- 1, 2, 4, 11 of the start; 12 where no such port is named; 13; or 0 and the cells of the run.
-pub data Counts (ports slots : ℕ) (bytes : List ℕ) (who : Who) (start len : ℕ) : List ℕ → Type 0 where
-  refused : {n : ℕ} → SlotRefused ports slots bytes start n → Counts ports slots bytes who start len (n ∷ [])
-  port-12 : {s : ℕ} → SlotFound ports slots bytes start s → ((c : Class) → Names ports who c → ⊥) → Counts ports slots bytes who start len (12 ∷ [])
-  length-13 : {s : ℕ} → SlotFound ports slots bytes start s → {c : Class} → Names ports who c → 1000000 < len → Counts ports slots bytes who start len (13 ∷ [])
-  counted : {s : ℕ} → SlotFound ports slots bytes start s → {c : Class} → Names ports who c → len ≤ 1000000
-      → Counts ports slots bytes who start len (0 ∷ cells c ports (repeated ports slots bytes s len) ∷ [])
+-- 1, 2, 4, 11 of the start; 12 where no such port is named; 13; each with lead 0. Or 0 and the cells of the run, and the lead:
+-- n where slots × cells is n more than length × the cells of the whole frame, and −(n + 1), which is negsuc n, where it is n + 1 less.
+pub data Counts (ports slots : ℕ) (bytes : List ℕ) (who : Who) (start len : ℕ) : Reply → Type 0 where
+  refused : {n : ℕ} → SlotRefused ports slots bytes start n → Counts ports slots bytes who start len (record { numbers = n ∷ []; ahead = pos 0 })
+  port-12 : {s : ℕ} → SlotFound ports slots bytes start s → ((c : Class) → Names ports who c → ⊥)
+      → Counts ports slots bytes who start len (record { numbers = 12 ∷ []; ahead = pos 0 })
+  length-13 : {s : ℕ} → SlotFound ports slots bytes start s → {c : Class} → Names ports who c → 1000000 < len
+      → Counts ports slots bytes who start len (record { numbers = 13 ∷ []; ahead = pos 0 })
+  counted-ahead : {s : ℕ} → SlotFound ports slots bytes start s → {c : Class} → Names ports who c → len ≤ 1000000
+      → (n : ℕ) → slots * cells c ports (repeated ports slots bytes s len) ≡ len * cells c ports bytes + n
+      → Counts ports slots bytes who start len (record { numbers = 0 ∷ cells c ports (repeated ports slots bytes s len) ∷ []; ahead = pos n })
+  counted-behind : {s : ℕ} → SlotFound ports slots bytes start s → {c : Class} → Names ports who c → len ≤ 1000000
+      → (n : ℕ) → slots * cells c ports (repeated ports slots bytes s len) + suc n ≡ len * cells c ports bytes
+      → Counts ports slots bytes who start len (record { numbers = 0 ∷ cells c ports (repeated ports slots bytes s len) ∷ []; ahead = negsuc n })
 
 -- ---- the sheet
 -- A position is one of those listed.
@@ -234,8 +242,8 @@ pub fault-numbers : (slot port size : ℕ)
     ≡ (0 ∷ []) ∷ (101 ∷ slot ∷ port ∷ []) ∷ (102 ∷ slot ∷ port ∷ []) ∷ (103 ∷ slot ∷ port ∷ []) ∷ (104 ∷ slot ∷ size ∷ []) ∷ []
 fault-numbers slot port size = refl
 
--- Acceptance is 0, a count 0 and its cells, and a refusal has its number in each answer.
+-- Acceptance is 0, a count 0 and its cells with its lead, and a refusal has its number in each answer, and no lead.
 pub answer-numbers : (r : Refusal) (c : Count)
     → (answered Accepted ≡ 0 ∷ []) × (answered (answer.Refused r) ≡ refusal r) × (finding (inspection.Refused r) ≡ refusal r)
-    × (served (Counted c) ≡ 0 ∷ c .cells ∷ []) × (served (served-as.Refused r) ≡ refusal r)
+    × (served (Counted c) ≡ record { numbers = 0 ∷ c .cells ∷ []; ahead = c .lead }) × (served (served-as.Refused r) ≡ record { numbers = refusal r; ahead = pos 0 })
 answer-numbers r c = (refl, refl, refl, refl, refl)

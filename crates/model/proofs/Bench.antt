@@ -1,10 +1,11 @@
 -- The nine bench loads of document 01 that are marked P: one list of cases, computed from the definitions. A second list
 -- has a case for each answer that they do not reach. The seam load is in Tight.
-use Prim.Native.Nat.{ℕ, _*_}
+use Prim.Native.Nat.{ℕ, suc, _*_}
 use Prim.Native.String.{String}
 use mathlib.Core.Path.{_≡_, refl}
 use mathlib.Core.List.{List, [], _∷_, _++_, map}
 use native.Mathlib.Omega.{arith}
+use lib.IntN.{ℤ, pos, negsuc}
 use lib.ListN.{replicate}
 use Rattle.model.specs.Words.{Near, sumTo}
 use Rattle.model.specs.Loads.{pair, load}
@@ -12,7 +13,7 @@ use Rattle.model.specs.Frames.{cells, runOf}
 use Rattle.model.specs.Refusals.{admitted}
 use Rattle.model.specs.Schedule.{walk, settleAt, favours, slotOf, frameOf}
 use Rattle.model.specs.Build.{buildChecks, built, left}
-use Rattle.model.specs.Service.{viewChecks, viewNumber, viewStart, viewSize, viewed, service, repeated}
+use Rattle.model.specs.Service.{viewChecks, viewNumber, viewStart, viewSize, viewed, repeated, lead, Reply, countChecks, service}
 use Rattle.model.specs.Wire.{Carried, none, chain, wire, share, Accurate}
 use Rattle.model.specs.Sheet.{text, digits, portsLine, slotsLine, pairLine, lines, numbersFrom, readPairs, loads, readSheet, printSlots, response}
 use Rattle.model.specs.declared.Who.{Who}
@@ -37,6 +38,19 @@ turnedAway ports slots matrix refusal =
       gives = admitted ports slots matrix ++ (built ports slots matrix buffer ++ left ports slots matrix buffer);
       says = refusal ++ (refusal ++ buffer);
     }
+
+-- A count's answer: its numbers, how far the run is ahead, and how far behind.
+abbrev aheadBy : ℤ → ℕ
+aheadBy (pos n) = n
+aheadBy (negsuc n) = 0
+
+abbrev behindBy : ℤ → ℕ
+behindBy (pos n) = 0
+behindBy (negsuc n) = suc n
+
+counting : Reply → List ℕ → ℕ → ℕ → Case
+counting reply numbers ahead behind =
+    record { gives = reply .numbers ++ (aheadBy (reply .ahead) ∷ behindBy (reply .ahead) ∷ []); says = numbers ++ (ahead ∷ behind ∷ []) }
 
 -- one cell from each port to its own number
 abbrev own : List ℕ
@@ -76,7 +90,8 @@ cases =
     ∷ record { gives = admitted 2 4 (2 ∷ 2 ∷ 0 ∷ 0 ∷ []); says = 0 ∷ [] }
     ∷ turnedAway 2 4 (3 ∷ 0 ∷ 2 ∷ 0 ∷ []) (6 ∷ 1 ∷ 5 ∷ [])
     ∷ turnedAway 2 4 (5 ∷ 0 ∷ 0 ∷ 0 ∷ []) (5 ∷ 1 ∷ 5 ∷ [])
-    ∷ record { gives = service 4 4 table7Frame (Pair 4 4) 4 2; says = 0 ∷ 2 ∷ [] }
+    -- one cell more than its share: four parts of a quarter
+    ∷ counting (service 4 4 table7Frame (Pair 4 4) 4 2) (0 ∷ 2 ∷ []) 4 0
     -- the same run on the wire: 2 cells, and a share of 1, which is 4 over 2 ^ k
     ∷ record { gives = cells (pair 3 3) 4 (runOf 4 3 2 (wire twice)) ∷ share (pair 3 3) 0 twice 3 2 ∷ []; says = 2 ∷ 4 ∷ [] }
     ∷ []
@@ -103,7 +118,7 @@ unfolding printed digits printSlots response
 sheet-printed = rw (sheet-asks, table7-framed)
 
 pub bench : map (λ c. c .gives) cases ≡ map (λ c. c .says) cases
-unfolding cases frame turnedAway sumTo load cells runOf admitted buildChecks service repeated chain wire share
+unfolding cases frame turnedAway counting sumTo load cells runOf admitted buildChecks countChecks service repeated lead chain wire share
 bench = rw (small-framed .0, small-framed .1, small-framed .2, own-framed, table7-framed, sheet-printed)
 
 -- the bound of that run for k = 2 is 5/3, which is 20 over 3 × 2 ^ k: 24 for the cells is within 20 of 12 for the share
@@ -124,9 +139,9 @@ views slot says =
       says = says;
     }
 
--- A count over both slots of a frame of two cells of (1, 2) and one of (2, 1).
-countsTo : Who → ℕ → Case
-countsTo who cells = record { gives = service 2 2 (2 ∷ 0 ∷ 2 ∷ 1 ∷ []) who 1 2; says = 0 ∷ cells ∷ [] }
+-- A count in a frame of two slots with two cells of (1, 2) and one of (2, 1).
+counts : Who → ℕ → ℕ → ℕ → ℕ → ℕ → Case
+counts who start len had ahead behind = counting (service 2 2 (2 ∷ 0 ∷ 2 ∷ 1 ∷ []) who start len) (0 ∷ had ∷ []) ahead behind
 
 pub others : List Case
 others =
@@ -151,13 +166,18 @@ others =
     ∷ views 2 (0 ∷ 2 ∷ 2 ∷ 2 ∷ 1 ∷ [])
     ∷ views 0 (11 ∷ 0 ∷ 0 ∷ [])
     ∷ views 3 (11 ∷ 0 ∷ 0 ∷ [])
-    -- a pair and the one turned round, an input, an output
-    ∷ countsTo (Pair 1 2) 2
-    ∷ countsTo (Pair 2 1) 1
-    ∷ countsTo (Input 1) 2
-    ∷ countsTo (Output 1) 1
+    -- a pair and the one turned round, an input, an output, over the whole frame
+    ∷ counts (Pair 1 2) 1 2 2 0 0
+    ∷ counts (Pair 2 1) 1 2 1 0 0
+    ∷ counts (Input 1) 1 2 2 0 0
+    ∷ counts (Output 1) 1 2 1 0 0
+    -- one behind after the first slot, one ahead after the second, two turns on too, and a run of no slots
+    ∷ counts (Pair 2 1) 1 1 0 0 1
+    ∷ counts (Input 2) 2 1 1 1 0
+    ∷ counts (Output 1) 2 5 3 1 0
+    ∷ counts (Output 2) 2 0 0 0 0
     ∷ []
 
 pub others-answered : map (λ c. c .gives) others ≡ map (λ c. c .says) others
-unfolding others answers views countsTo digits portsLine slotsLine pairLine lines numbersFrom readPairs readSheet printSlots response sumTo load cells runOf service repeated viewChecks walk settleAt favours slotOf frameOf
+unfolding others answers views counting counts digits portsLine slotsLine pairLine lines numbersFrom readPairs readSheet printSlots response sumTo load cells runOf countChecks service repeated lead viewChecks walk settleAt favours slotOf frameOf
 others-answered = refl

@@ -15,6 +15,7 @@ pub mod Blocks
 pub mod Legal
 pub mod OneFrame
 pub mod Reports
+pub mod Replies
 pub mod Overloads
 pub mod Demand2
 pub mod Accuracy
@@ -25,6 +26,8 @@ pub mod Reached
 pub mod Queues
 pub mod Rows
 pub mod Runs
+pub mod Integers
+pub mod Leads
 pub mod Inspected
 pub mod Answers
 pub mod Faults

@@ -2,7 +2,7 @@
 use Prim.Native.Nat.{ℕ, _*_, _≤_}
 use mathlib.Core.Path.{_≡_, refl, sym, ap, _∙_}
 use mathlib.Core.Logic.{_≢_}
-use mathlib.Core.List.{List, [], _∷_}
+use mathlib.Core.List.{List, [], _∷_, _++_}
 use mathlib.Core.Bool.{Bool, true, false, not, true≢false}
 use native.Mathlib.Omega.{arith}
 use lib.Dec.{eqb, ltb}
@@ -30,6 +30,12 @@ pub report-clear : (cs : List Check) (asked : List ℕ) → clear cs ≡ true �
 report-clear [] asked = λ e. refl
 report-clear (c ∷ cs) asked =
     byBool (c .0) (λ b. rw b (λ e. absurd (true≢false (sym e)))) (λ b. rw b (λ e. report-clear cs asked e))
+
+-- where none of the first holds, the others decide
+pub clear-then : (cs ds : List Check) → clear cs ≡ true → clear (cs ++ ds) ≡ clear ds
+clear-then [] ds = λ e. refl
+clear-then (c ∷ cs) ds =
+    byBool (c .0) (λ b. rw b (λ e. absurd (true≢false (sym e)))) (λ b. rw b (λ e. clear-then cs ds e))
 
 -- where one holds, it does not matter what is asked for
 pub report-refused : (cs : List Check) (asked other : List ℕ) → clear cs ≡ false → report cs asked ≡ report cs other

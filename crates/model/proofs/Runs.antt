@@ -4,8 +4,8 @@ use mathlib.Core.Path.{_≡_, sym, ap, _∙_}
 use mathlib.Core.List.{List}
 use mathlib.Core.Bool.{Bool}
 use native.Mathlib.Omega.{arith}
-use native.Mathlib.Nat.{mod-eq-of-lt, add-mul-mod-self-right, mul-le-mul-right, div-add-mod', add-mod-left, mod-lt}
-use lib.ListN.{length, getD, take, drop, length-take, length-drop}
+use native.Mathlib.Nat.{mod-eq-of-lt, add-mul-mod-self-right, mul-le-mul-right, div-add-mod', add-mod-left, mod-add-mod, mod-lt}
+use lib.ListN.{length, length-append, getD, take, drop, length-take, length-drop}
 use Rattle.model.specs.Words.{bit, sumTo}
 use Rattle.model.specs.Loads.{Class}
 use Rattle.model.specs.Frames.{counts, cells, runOf}
@@ -58,6 +58,24 @@ run-most c ports start len bytes =
     let part = drop (start * ports) bytes in
     omega (arith, cells-most c ports (take (len * ports) part), length-take (len * ports) part, length-drop (start * ports) bytes)
 
+-- a run of a frame that repeats has at most ports cells for each slot
+repeated-length : (ports slots : ℕ) (bytes : List ℕ) (start len : ℕ) → length (repeated ports slots bytes start len) ≤ len * ports
+unfolding repeated runOf
+repeated-length ports slots bytes start zero = omega arith
+repeated-length ports slots bytes start (suc len) =
+    let slot = runOf ports (start % slots) 1 bytes in
+    let rest = repeated ports slots bytes (suc start) len in
+    omega (
+      arith,
+      length-append slot rest,
+      length-take (1 * ports) (drop (start % slots * ports) bytes),
+      repeated-length ports slots bytes (suc start) len,
+    )
+
+pub repeated-most : (c : Class) (ports slots : ℕ) (bytes : List ℕ) (start len : ℕ) → cells c ports (repeated ports slots bytes start len) ≤ len * ports
+repeated-most c ports slots bytes start len =
+    omega (arith, cells-most c ports (repeated ports slots bytes start len), repeated-length ports slots bytes start len)
+
 module _ (ports slots : ℕ) (bytes : List ℕ) (size : length bytes ≡ slots * ports) where
   -- a run of so many slots is inside the frame
   run-ends : (start len : ℕ) → start + len ≤ slots → (start + len) * ports ≤ length bytes
@@ -95,6 +113,28 @@ module _ (ports slots : ℕ) (bytes : List ℕ) (size : length bytes ≡ slots *
       cells-append ports c 1 (runOf ports (start % slots) 1 bytes) (repeated ports slots bytes (suc start) len) (run-length ports (start % slots) 1 bytes (run-ends (start % slots) 1 (omega arith)))
       ∙ omega (arith, cells-repeated c h (suc start) len, one, rest, sum-append 1 len f, ap (λ z. sumTo z f) e)
 
+  -- where in the frame a run starts is all that its start says
+  pub cells-from : (c : Class) → 1 ≤ slots → (start len : ℕ)
+      → cells c ports (repeated ports slots bytes start len) ≡ cells c ports (repeated ports slots bytes (start % slots) len)
+  cells-from c h start len =
+      cells-repeated c h start len
+      ∙ sum-ext len _ _ (λ t l. ap (inSlot c) (sym (mod-add-mod start slots t)))
+      ∙ sym (cells-repeated c h (start % slots) len)
+
+  -- the whole frame, slot by slot
+  cells-whole : (c : Class) → sumTo slots (λ t. inSlot c (t % slots)) ≡ cells c ports bytes
+  cells-whole c =
+      sum-ext slots (λ t. inSlot c (t % slots)) (λ t. inSlot c (0 + t)) (λ t l. ap (inSlot c) (mod-eq-of-lt l ∙ omega arith))
+      ∙ sym (cells-slots c 0 slots (omega arith))
+      ∙ ap (cells c ports) (run-all ports slots bytes size)
+
+  -- whole turns of the frame, from wherever they start
+  pub cells-rounds : (c : Class) → 1 ≤ slots → (start w : ℕ) → cells c ports (repeated ports slots bytes start (w * slots)) ≡ w * cells c ports bytes
+  cells-rounds c h start w =
+      cells-repeated c h start (w * slots)
+      ∙ sum-rounds slots (λ t. inSlot c (t % slots)) (λ t. ap (inSlot c) (add-mod-left slots t)) w start
+      ∙ ap (λ z. w * z) (cells-whole c)
+
   -- whole turns, the slots from start to the frame's end, and the rest from the frame's first slot on
   pub cells-turns : (c : Class) (start len turns head tail : ℕ) → start < slots → turns ≡ len / slots
       → head ≡ min (len % slots) (slots - start) → head + tail ≡ len % slots
@@ -112,10 +152,6 @@ module _ (ports slots : ℕ) (bytes : List ℕ) (size : length bytes ≡ slots *
       let split = sum-append (turns * slots) (head + tail) (λ x. h (start + x)) in
       let split' = sum-append head tail (λ x. h (start + x)) in
       let again = sum-ext (head + tail) (λ x. h (start + (turns * slots + x))) (λ x. h (start + x)) (λ x l. on x) in
-      let whole : sumTo slots h ≡ cells c ports bytes =
-      sum-ext slots h (λ x. g (0 + x)) (λ x l. ap g (mod-eq-of-lt l ∙ omega arith))
-      ∙ sym (cells-slots c 0 slots (omega arith))
-      ∙ ap (cells c ports) (run-all ports slots bytes size) in
       let front : sumTo head (λ x. h (start + x)) ≡ cells c ports (runOf ports start head bytes) =
       sum-ext head (λ x. h (start + x)) (λ x. g (start + x)) (λ x l. ap g (mod-eq-of-lt (omega arith)))
       ∙ sym (cells-slots c start head (omega arith)) in
@@ -125,4 +161,4 @@ module _ (ports slots : ℕ) (bytes : List ℕ) (size : length bytes ≡ slots *
       ∙ sym (cells-slots c 0 tail (omega arith)) in
       cells-repeated c one start len
       ∙ ap (λ z. sumTo z (λ x. h (start + x))) parts
-      ∙ omega (arith, split, split', again, sum-rounds slots h round turns start, ap (λ z. turns * z) whole, front, back)
+      ∙ omega (arith, split, split', again, sum-rounds slots h round turns start, ap (λ z. turns * z) (cells-whole c), front, back)

@@ -10,6 +10,7 @@ pub mod Build
 pub mod Inspect
 pub mod Service
 pub mod Wire
+pub mod Lead
 pub mod Queue
 pub mod Row
 pub mod Sheet

@@ -4,6 +4,7 @@ use mathlib.Core.List.{List, [], _∷_, _++_}
 use mathlib.Core.Bool.{Bool, not}
 use lib.Dec.{ltb}
 use lib.ListN.{getD, take, drop}
+use lib.IntN.{ℤ, pos, _-ℤ_}
 use Rattle.model.specs.Words.{if, both, within}
 use Rattle.model.specs.Loads.{Class, pair, input, output}
 use Rattle.model.specs.Frames.{cells, runOf}
@@ -55,15 +56,25 @@ unfoldable pub repeated : ℕ → ℕ → List ℕ → ℕ → ℕ → List ℕ
 repeated ports slots bytes start zero = []
 repeated ports slots bytes start (suc len) = runOf ports (start % slots) 1 bytes ++ repeated ports slots bytes (suc start) len
 
--- An answer as numbers: a refusal's, or 0 and the cells.
-abbrev pub served : Service → List ℕ
-served (Counted c) = 0 ∷ c .cells ∷ []
-served (Refused r) = refusal r
+-- How far ahead a run is: slots × its cells, less its length × the cells of one whole frame, as counted in that frame. An
+-- integer, below 0 where the run is behind; over slots, it is the cells that the run has above its share.
+unfoldable pub lead : Class → ℕ → ℕ → List ℕ → ℕ → ℕ → ℤ
+lead c ports slots bytes start len =
+    pos (slots * cells c ports (repeated ports slots bytes start len)) -ℤ pos (len * cells c ports bytes)
 
--- Service count: 1, 2, 4, 11, 12, 13. The number is the count over the run's bytes.
-unfoldable pub service : ℕ → ℕ → List ℕ → Who → ℕ → ℕ → List ℕ
-service ports slots bytes who start len =
-    report (
+-- An answer: its numbers, and a lead.
+pub record Reply : Type 0 where
+  pub numbers : List ℕ
+  pub ahead : ℤ
+
+-- A count's answer is 0 and the cells, and the lead; a refusal's is its own numbers, and 0 for the lead.
+abbrev pub served : Service → Reply
+served (Counted c) = record { numbers = 0 ∷ c .cells ∷ []; ahead = c .lead }
+served (Refused r) = record { numbers = refusal r; ahead = pos 0 }
+
+-- Service count: 1, 2, 4, 11, 12, 13.
+unfoldable pub countChecks : ℕ → ℕ → List ℕ → Who → ℕ → ℕ → List Check
+countChecks ports slots bytes who start len =
     bad-ports ports
     ∷ bad-slots slots
     ∷ bad-frame ports slots bytes
@@ -71,4 +82,12 @@ service ports slots bytes who start len =
     ∷ bad-who ports who
     ∷ bad-length len
     ∷ []
-    ) (0 ∷ cells (classOf who) ports (repeated ports slots bytes (start - 1) len) ∷ [])
+
+-- The number is the count over the run's bytes, and the lead is that run's.
+unfoldable pub service : ℕ → ℕ → List ℕ → Who → ℕ → ℕ → Reply
+service ports slots bytes who start len =
+    let checks = countChecks ports slots bytes who start len in
+    record {
+      numbers = report checks (0 ∷ cells (classOf who) ports (repeated ports slots bytes (start - 1) len) ∷ []);
+      ahead = if (clear checks) (lead (classOf who) ports slots bytes (start - 1) len) (pos 0);
+    }

@@ -40,9 +40,11 @@ pub enum Who {
     Output(usize),
 }
 
-// What a run had of a pair or a port.
+// What a run had of a pair or a port, and how far ahead that is: slots × cells, less the run's length × the cells of one
+// whole frame, below 0 where the run is behind.
 pub struct Count {
     pub cells: usize,
+    pub lead: i64,
 }
 
 // What Service count answers.

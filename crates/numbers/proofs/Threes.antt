@@ -1,15 +1,18 @@
 -- The numbers of an answer are those of any that equals it.
 use Prim.Native.Nat.{ℕ}
-use mathlib.Core.Path.{_≡_, subst}
-use lib.ListN.{getD}
+use mathlib.Core.Path.{_≡_, subst, _∙_}
 use mathlib.Core.List.{List}
-use Rattle.numbers.specs.Numbers.{Two, Three}
+use lib.IntN.{ℤ}
+use lib.ListN.{getD}
+use Rattle.model.specs.Service.{Reply}
+use Rattle.numbers.specs.Numbers.{Three, Replied}
 
 pub three-of : {a b : List ℕ} {number first second : ℕ} → Three a number first second → a ≡ b → Three b number first second
 three-of {number = n} {first = f} {second = s} t e = subst (λ (l : List ℕ). Three l n f s) e t
 
-pub two-of : {a b : List ℕ} {number first second : ℕ} → Three a number first second → a ≡ b → Two b number first
-two-of {number = n} {first = f} t e = subst (λ (l : List ℕ). Two l n f) e (record { number-is = t .number-is; first-is = t .first-is })
+pub replied-of : {a b : Reply} {number cells : ℕ} {lead read : ℤ} → Replied a number cells lead → a ≡ b → read ≡ lead → Replied b number cells read
+replied-of {number = n} {cells = c} {read = z} t e r =
+    subst (λ (reply : Reply). Replied reply n c z) e (record { number-is = t .number-is; cells-is = t .cells-is; lead-is = r ∙ t .lead-is })
 
 -- the numbers of an answer that an enum has, from those of its case
 module _ {E : Type 0} (numbered : E → List ℕ) (x y : E) (e : x ≡ y) where

@@ -2,7 +2,9 @@
 use Prim.Native.Nat.{ℕ}
 use mathlib.Core.Path.{_≡_}
 use mathlib.Core.List.{List}
+use lib.IntN.{ℤ}
 use lib.ListN.{getD}
+use Rattle.model.specs.Service.{Reply}
 
 -- The numbers of an answer, one by one.
 pub record Three (answer : List ℕ) (number first second : ℕ) : Type 0 where
@@ -10,7 +12,8 @@ pub record Three (answer : List ℕ) (number first second : ℕ) : Type 0 where
   pub first-is : first ≡ getD answer 1 0
   pub second-is : second ≡ getD answer 2 0
 
--- The first two of them, where no answer has a second value.
-pub record Two (answer : List ℕ) (number first : ℕ) : Type 0 where
-  pub number-is : number ≡ getD answer 0 0
-  pub first-is : first ≡ getD answer 1 0
+-- Those of a count's answer: its number, the cells and the lead.
+pub record Replied (answer : Reply) (number cells : ℕ) (lead : ℤ) : Type 0 where
+  pub number-is : number ≡ getD (answer .numbers) 0 0
+  pub cells-is : cells ≡ getD (answer .numbers) 1 0
+  pub lead-is : lead ≡ answer .ahead

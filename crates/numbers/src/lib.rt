@@ -3,7 +3,7 @@ ghost use mathlib.Core.Path.{_≡_};
 ghost use Rattle.model.specs.Refusals.{refusal, answered};
 ghost use Rattle.model.specs.Inspect.{finding};
 ghost use Rattle.model.specs.Service.{served};
-ghost use Rattle.numbers.specs.Numbers.{Three};
+ghost use Rattle.numbers.specs.Numbers.{Three, Replied};
 use model::Answer;
 use model::Inspection;
 use model::Refusal;
@@ -14,6 +14,13 @@ pub struct Numbers {
     pub number: usize,
     pub first: usize,
     pub second: usize,
+}
+
+// A count's number, its cells and its lead, 0 where it is refused.
+pub struct CountNumbers {
+    pub number: usize,
+    pub cells: usize,
+    pub lead: i64,
 }
 
 // A number with two values.
@@ -73,11 +80,22 @@ pub fn of_inspection(inspection: Inspection) -> Numbers
 }
 
 // What Service count answers, as numbers.
-pub fn of_service(service: Service) -> Numbers
-    ensures { λ r. ⌜ Three (served service) (r .number) (r .first) (r .second) ⌝ }
+pub fn of_service(service: Service) -> CountNumbers
+    ensures { λ r. ⌜ Replied (served service) (r .number) (r .cells) (r .lead) ⌝ }
 {
     match service {
-        Service::Counted(count) => three(0, count.cells, 0),
-        Service::Refused(refusal) => of_refusal(refusal),
+        Service::Counted(count) => CountNumbers {
+            number: 0,
+            cells: count.cells,
+            lead: count.lead,
+        },
+        Service::Refused(refusal) => {
+            let n = of_refusal(refusal);
+            CountNumbers {
+                number: n.number,
+                cells: n.first,
+                lead: 0,
+            }
+        }
     }
 }

@@ -3,3 +3,4 @@ pub mod Checks
 pub mod Whom
 pub mod Counting
 pub mod Turns
+pub mod Signed

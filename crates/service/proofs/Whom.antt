@@ -1,17 +1,17 @@
--- Whom a count is for: its ports, and the bytes that count.
-use Prim.Native.Nat.{ℕ, suc, _-_, _≤_}
-use mathlib.Core.Path.{_≡_, sym, _∙_}
+-- Whom a count is for: its ports, and the bytes that can count.
+use Prim.Native.Nat.{ℕ, suc, _-_, _≤_, _<_}
+use mathlib.Core.Path.{_≡_, refl, sym, _∙_}
 use mathlib.Core.Bool.{Bool, true, false, not}
 use native.Mathlib.Omega.{arith}
 use lib.Dec.{eqb}
-use borrow.Author.Tests.{not-true, not-false}
-use Rattle.model.specs.Words.{both, bit, within}
+use borrow.Author.Tests.{eq-eqb, not-true, not-false}
+use Rattle.model.specs.Words.{bit, within}
 use Rattle.model.specs.Frames.{counts}
 use Rattle.model.specs.Service.{classOf, portsWithin}
 use Rattle.model.specs.declared.Who.{Who}
 use Rattle.model.specs.declared.Who.the-variants.{Pair, Input, Output}
 use Rattle.model.proofs.Cases.{both-true, within-true}
-use Rattle.service.specs.Whom.{Numbered}
+use Rattle.service.specs.Whom.{Numbered, firstByte, nextByte}
 
 -- ---- refusal 12
 module _ (ports : ℕ) {i o : ℕ} (who : Who) (is : who ≡ Pair i o) {a : Bool} (p : a ≡ not (within 1 ports i)) where
@@ -27,33 +27,53 @@ input-alone ports who is p = rw is p
 pub output-alone : (ports : ℕ) {o : ℕ} (who : Who) {a : Bool} → who ≡ Output o → a ≡ not (within 1 ports o) → a ≡ not (portsWithin ports who)
 output-alone ports who is p = rw is p
 
--- ports within 1 to ports are numbered from 1
-within-numbered : (ports : ℕ) (who : Who) → portsWithin ports who ≡ true → Numbered who
-within-numbered ports (Pair i o) e =
+-- ---- what is known where it does not hold
+pub who-numbered : (ports : ℕ) (who : Who) → portsWithin ports who ≡ true → Numbered who
+who-numbered ports (Pair i o) e =
     let b = both-true (within 1 ports i) (within 1 ports o) e in
     (within-true 1 ports i (b .0) .0, within-true 1 ports o (b .1) .0)
-within-numbered ports (Input i) e = within-true 1 ports i e .0
-within-numbered ports (Output o) e = within-true 1 ports o e .0
+who-numbered ports (Input i) e = within-true 1 ports i e .0
+who-numbered ports (Output o) e = within-true 1 ports o e .0
 
-pub who-numbered : (ports : ℕ) (who : Who) {a : Bool} → a ≡ not (portsWithin ports who) → a ≡ false → Numbered who
-who-numbered ports who p e = within-numbered ports who (not-false (portsWithin ports who) (sym p ∙ e))
+-- the first byte that can count is one of the first slot
+pub who-placed : (ports : ℕ) (who : Who) → portsWithin ports who ≡ true → firstByte (classOf who) < nextByte ports (classOf who)
+who-placed ports (Pair i o) e =
+    let b = both-true (within 1 ports i) (within 1 ports o) e in
+    let w = within-true 1 ports i (b .0) in
+    omega (arith, w .0, w .1)
+who-placed ports (Input i) e = let w = within-true 1 ports i e in omega (arith, w .0, w .1)
+who-placed ports (Output o) e = omega arith
 
--- ---- a byte that counts
+-- and the next at most a slot later
+pub next-most : (ports : ℕ) (who : Who) → portsWithin ports who ≡ true → nextByte ports (classOf who) ≤ ports
+next-most ports (Pair i o) e = omega arith
+next-most ports (Input i) e = omega arith
+next-most ports (Output o) e = let w = within-true 1 ports o e in omega (arith, w .0, w .1)
+
+-- ---- the bytes that can count
 pub pair-input : (who : Who) {i o : ℕ} → Numbered who → who ≡ Pair i o → 1 ≤ i
 pair-input who n is = (rw is at n) .0
 
 pub input-input : (who : Who) {i : ℕ} → Numbered who → who ≡ Input i → 1 ≤ i
 input-input who n is = rw is at n
 
+module _ (who : Who) where
+  pub pair-first : {i o : ℕ} → who ≡ Pair i o → i - 1 ≡ firstByte (classOf who)
+  pair-first is = rw is
+
+  pub input-first : {i : ℕ} → who ≡ Input i → i - 1 ≡ firstByte (classOf who)
+  input-first is = rw is
+
 back : (o : ℕ) → 1 ≤ o → o ≡ suc (o - 1)
 back o l = omega arith
 
-module _ (who : Who) (at byte : ℕ) (n : Numbered who) {r : ℕ} where
-  pub pair-counts : {i o : ℕ} → who ≡ Pair i o → r ≡ bit (both (eqb at (i - 1)) (eqb byte o)) → r ≡ bit (counts (classOf who) at byte)
-  pair-counts {i} {o} is e = rw (is, ← (back o ((rw is at n) .1))) e
+-- a byte there counts for a pair or an output if it is the output, for an input if it is not 0
+module _ (who : Who) (byte : ℕ) (n : Numbered who) {r : ℕ} where
+  pub pair-counts : {i o : ℕ} → who ≡ Pair i o → r ≡ bit (eqb byte o) → r ≡ bit (counts (classOf who) (firstByte (classOf who)) byte)
+  pair-counts {i} {o} is e = rw (is, eq-eqb (i - 1) (i - 1) refl, ← (back o ((rw is at n) .1))) e
 
-  pub input-counts : {i : ℕ} → who ≡ Input i → r ≡ bit (both (eqb at (i - 1)) (not (eqb byte 0))) → r ≡ bit (counts (classOf who) at byte)
-  input-counts is e = rw is e
+  pub input-counts : {i : ℕ} → who ≡ Input i → r ≡ bit (not (eqb byte 0)) → r ≡ bit (counts (classOf who) (firstByte (classOf who)) byte)
+  input-counts {i} is e = rw (is, eq-eqb (i - 1) (i - 1) refl) e
 
-  pub output-counts : {o : ℕ} → who ≡ Output o → r ≡ bit (both true (eqb byte o)) → r ≡ bit (counts (classOf who) at byte)
+  pub output-counts : {o : ℕ} → who ≡ Output o → r ≡ bit (eqb byte o) → r ≡ bit (counts (classOf who) (firstByte (classOf who)) byte)
   output-counts {o} is e = rw (is, ← (back o (rw is at n))) e

@@ -6,7 +6,7 @@ use std::hint::black_box;
 use std::process::ExitCode;
 use std::time::Instant;
 
-use calls::{Calls, Inspection, Library};
+use calls::{Calls, Class, Inspection, Library};
 use loads::{full_load, Call, Random, Shape};
 
 const USAGE: &str = "benchmark [--repetitions COUNT]";
@@ -28,6 +28,37 @@ const SIZES: [(Shape, usize); 4] = [
 const fn shape(ports: usize, slots: usize) -> Shape {
     Shape { ports, slots }
 }
+
+/// The start and the length of the runs that are counted.
+const RUNS: [(u64, u64); 2] = [(1, 1_024), (512, 1_000_000)];
+
+/// What the counts of an output are compared with.
+const COUNTED: [(&str, Class); 2] = [
+    (
+        "pair",
+        Class::Pair {
+            input: 16,
+            output: 16,
+        },
+    ),
+    ("input", Class::Input { port: 16 }),
+];
+
+/// The unit of a table's times: its nanoseconds, and the digits after the point.
+struct Unit {
+    nanoseconds: f64,
+    digits: usize,
+}
+
+const NANOSECONDS: Unit = Unit {
+    nanoseconds: 1.0,
+    digits: 0,
+};
+
+const MICROSECONDS: Unit = Unit {
+    nanoseconds: 1_000.0,
+    digits: 3,
+};
 
 /// A row of the table: the medians of two kinds of work, in nanoseconds.
 struct Row {
@@ -127,16 +158,22 @@ fn build_row<B: Calls>(candidate: &B, (shape, cells): (Shape, usize), repetition
     compare(name, repetitions, left, right)
 }
 
+/// The frames of some loads, each with its load.
+fn frames_of<'l, B: Calls>(candidate: &B, loads: &'l [Call]) -> Vec<(&'l Call, Vec<u8>)> {
+    let frames = loads.iter().map(|call| {
+        let mut frame = vec![0; call.frame_length];
+        build_once(candidate, call, &mut frame);
+        (call, frame)
+    });
+    frames.collect()
+}
+
 /// Times Inspect on clean frames against the builds that made them.
 fn inspect_row<B: Calls>(candidate: &B, repetitions: usize) -> Row {
     let (shape, cells) = SIZES[0];
     let loads = loads_of(shape, cells);
+    let clean = frames_of(candidate, &loads);
     let mut frame = vec![0; shape.frame_length()];
-    let mut clean = Vec::new();
-    for call in &loads {
-        build_once(candidate, call, &mut frame);
-        clean.push((call, frame.clone()));
-    }
     let (mut next_left, mut next_right) = (in_turn(&clean), in_turn(&loads));
     let left = || {
         let (call, frame) = next_left();
@@ -148,12 +185,37 @@ fn inspect_row<B: Calls>(candidate: &B, repetitions: usize) -> Row {
     compare(name, repetitions, left, right)
 }
 
-fn print_table(headings: [&str; 4], rows: &[Row]) {
+/// Times Service count of a pair and of an input against that of an output, over full frames.
+fn count_rows<B: Calls>(
+    candidate: &B,
+    (start, length): (u64, u64),
+    repetitions: usize,
+) -> [Row; 2] {
+    let (shape, cells) = SIZES[0];
+    let loads = loads_of(shape, cells);
+    let frames = frames_of(candidate, &loads);
+    let count_once = |class, (call, frame): &(&Call, Vec<u8>)| {
+        let count = candidate.service_count(call.ports, call.slots, frame, class, start, length);
+        assert!(black_box(count).is_ok());
+    };
+    COUNTED.map(|(name, class)| {
+        let (mut next_left, mut next_right) = (in_turn(&frames), in_turn(&frames));
+        let left = || count_once(class, next_left());
+        let right = || count_once(Class::Output { port: 16 }, next_right());
+        let name = format!("{name}, {length} from slot {start}");
+        compare(name, repetitions, left, right)
+    })
+}
+
+fn print_table(headings: [&str; 4], unit: Unit, rows: &[Row]) {
     let [name, left, right, ratio] = headings;
     println!("{name:<28}{left:>24}{right:>24}{ratio:>10}");
     for row in rows {
-        let (left, right, ratio) = (row.left, row.right, row.ratio);
-        println!("{:<28}{left:>24.0}{right:>24.0}{ratio:>10.3}", row.name);
+        let [left, right] = [row.left, row.right].map(|time| {
+            let (time, digits) = (time / unit.nanoseconds, unit.digits);
+            format!("{time:.digits$}")
+        });
+        println!("{:<28}{left:>24}{right:>24}{:>10.3}", row.name, row.ratio);
     }
 }
 
@@ -176,13 +238,27 @@ fn main() -> ExitCode {
     let builds = SIZES.map(|size| build_row(&candidate, size, repetitions));
     print_table(
         ["name", "candidate median ns", "plain median ns", "ratio"],
+        NANOSECONDS,
         &builds,
     );
     println!();
     let inspections = [inspect_row(&candidate, repetitions)];
     print_table(
         ["name", "inspect median ns", "build median ns", "ratio"],
+        NANOSECONDS,
         &inspections,
+    );
+    println!();
+    let counts = RUNS.map(|run| count_rows(&candidate, run, repetitions));
+    print_table(
+        [
+            "count 16 x 1024, full",
+            "count median us",
+            "output median us",
+            "ratio",
+        ],
+        MICROSECONDS,
+        counts.as_flattened(),
     );
     ExitCode::SUCCESS
 }

@@ -4,7 +4,7 @@ use std::io::{BufReader, Read, Write};
 use std::process::{Child, ChildStdin, ChildStdout, Command, Stdio};
 use std::sync::Mutex;
 
-use crate::{Answer, Calls, Class, Inspection, Refusal, Service};
+use crate::{Answer, Calls, Class, Count, Inspection, Refusal, Service};
 
 /// The calls as `harness/c/calls.c` numbers them.
 #[derive(Clone, Copy, Default)]
@@ -90,7 +90,7 @@ impl InC {
         }
     }
 
-    /// The answer's number and its two values; a frame lent for writing is written.
+    /// The answer's number and its two values, a count's cells and lead; a frame lent for writing is written.
     fn make(&self, record: &[u8], written: &mut [u8]) -> [u64; 3] {
         let idle = self.idle.lock().expect("no thread panics here").pop();
         let mut process = idle.unwrap_or_else(|| Process::start(self.program));
@@ -268,7 +268,11 @@ impl Calls for InC {
             ..Record::default()
         };
         match self.make(&record.bytes(), &mut []) {
-            [0, cells, 0] => Ok(cells),
+            [0, cells, lead] => Ok(Count {
+                cells,
+                // The same 64 bits, read with a sign.
+                lead: lead as i64,
+            }),
             refused => Err(refusal_of(refused)),
         }
     }

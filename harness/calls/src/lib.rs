@@ -8,13 +8,13 @@ mod program;
 
 pub use in_c::InC;
 pub use library::Library;
-pub use reference::{Class, Inspection, Refusal};
+pub use reference::{Class, Count, Inspection, Refusal};
 
 /// What Admit and Build answer.
 pub type Answer = Result<(), Refusal>;
 
 /// What Service count answers.
-pub type Service = Result<u64, Refusal>;
+pub type Service = Result<Count, Refusal>;
 
 /// The calls a program makes on a frame builder.
 pub trait Calls {
@@ -37,7 +37,7 @@ pub trait Calls {
         number: &mut u64,
     ) -> &'f [u8];
 
-    /// Counts the cells of a class in a run of the repeating frame.
+    /// Counts the cells of a class in a run of the repeating frame, with their lead.
     fn service_count(
         &self,
         ports: u64,

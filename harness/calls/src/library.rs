@@ -2,7 +2,7 @@
 
 use frame_builder::{Fault, Who};
 
-use crate::{program, Answer, Calls, Class, Inspection, Refusal, Service, SheetProgram};
+use crate::{program, Answer, Calls, Class, Count, Inspection, Refusal, Service, SheetProgram};
 
 /// The proved frame builder.
 #[derive(Clone, Copy, Debug, Default)]
@@ -60,6 +60,13 @@ fn who_of(class: Class) -> Who {
     }
 }
 
+fn count_of(count: frame_builder::Count) -> Count {
+    Count {
+        cells: count.cells as u64,
+        lead: count.lead,
+    }
+}
+
 impl Calls for Library {
     fn admit(&self, ports: u64, slots: u64, matrix: &[u16]) -> Answer {
         frame_builder::admit(ports as usize, slots as usize, matrix).map_err(refusal_of)
@@ -102,7 +109,7 @@ impl Calls for Library {
         let (ports, slots) = (ports as usize, slots as usize);
         let (start, length) = (start as usize, length as usize);
         frame_builder::service_count(ports, slots, frame, who_of(class), start, length)
-            .map(|cells| cells as u64)
+            .map(count_of)
             .map_err(refusal_of)
     }
 }

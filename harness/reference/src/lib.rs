@@ -14,6 +14,6 @@ pub mod wire;
 pub use admission::admit;
 pub use build::build;
 pub use inspect::{inspect, Inspection};
-pub use query::{service_count, slot_view, Class, LONGEST_RUN};
+pub use query::{service_count, slot_view, Class, Count, LONGEST_RUN};
 pub use refusal::Refusal;
 pub use sheet::{respond, LONGEST_SHEET};

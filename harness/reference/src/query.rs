@@ -50,7 +50,16 @@ pub fn slot_view(ports: u64, slots: u64, frame: &[u8], slot: u64) -> Result<Rang
     Ok(end - ports as usize..end)
 }
 
-/// The cells of a run of the repeating frame, or the first refusal of 1, 2, 4, 11, 12, 13.
+/// What Service count answers.
+#[derive(Clone, Copy, Debug, PartialEq, Eq)]
+pub struct Count {
+    /// The cells of the run.
+    pub cells: u64,
+    /// How far they are ahead of the run's share, in parts of 1/slots of a cell; below 0 is behind.
+    pub lead: i64,
+}
+
+/// The cells of a run of the repeating frame and their lead, or the first refusal of 1, 2, 4, 11, 12, 13.
 pub fn service_count(
     ports: u64,
     slots: u64,
@@ -58,15 +67,21 @@ pub fn service_count(
     class: Class,
     start: u64,
     length: u64,
-) -> Result<u64, Refusal> {
+) -> Result<Count, Refusal> {
     slot_view(ports, slots, frame, start)?;
     require(class.is_within(ports), Refusal::PortNumber)?;
     require(length <= LONGEST_RUN, Refusal::RunLength)?;
-    let mut cells = 0;
-    let mut slot = start;
-    for _ in 0..length {
-        cells += class.cells_in_slot(&frame[slot_view(ports, slots, frame, slot)?]);
-        slot = if slot == slots { 1 } else { slot + 1 };
-    }
-    Ok(cells)
+    let cells = cells_of_run(ports, frame, class, start, length);
+    let of_frame = cells_of_run(ports, frame, class, 1, slots);
+    let [slots, length] = [slots, length].map(i128::from);
+    let lead = slots * i128::from(cells) - length * i128::from(of_frame);
+    let lead = i64::try_from(lead).expect("no run is 2^63 parts from its share");
+    Ok(Count { cells, lead })
+}
+
+/// The cells of so many slots of a frame that repeats for ever, looked at one after the other.
+fn cells_of_run(ports: u64, frame: &[u8], class: Class, start: u64, length: u64) -> u64 {
+    let slots = frame.chunks(ports as usize).cycle();
+    let run = slots.skip(start as usize - 1).take(length as usize);
+    run.map(|slot| class.cells_in_slot(slot)).sum()
 }

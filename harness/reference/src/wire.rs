@@ -129,6 +129,11 @@ impl Course {
         further(self.greatest(1, anywhere), self.greatest(-1, anywhere))
     }
 
+    /// The run on which the class gets furthest ahead of its share.
+    pub fn furthest_ahead(&self) -> Run {
+        self.greatest(1, |_| true).1
+    }
+
     /// The run on which the class falls furthest behind its share.
     pub fn furthest_behind(&self) -> Run {
         self.greatest(-1, |_| true).1

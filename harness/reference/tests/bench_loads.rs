@@ -2,7 +2,7 @@
 
 use reference::wire::{self, Course, Frame, Run};
 use reference::{
-    admit, build, inspect, respond, service_count, slot_view, Class, Inspection, Refusal,
+    admit, build, inspect, respond, service_count, slot_view, Class, Count, Inspection, Refusal,
 };
 
 const TABLE_7: [u16; 16] = [2, 2, 0, 0, 0, 0, 0, 0, 0, 0, 0, 0, 1, 1, 0, 2];
@@ -97,7 +97,8 @@ fn count_across_the_end_of_the_frame() {
         input: 4,
         output: 4,
     };
-    assert_eq!(service_count(4, 4, &TABLE_7_FRAME, class, 4, 2), Ok(2));
+    let count = Count { cells: 2, lead: 4 };
+    assert_eq!(service_count(4, 4, &TABLE_7_FRAME, class, 4, 2), Ok(count));
 
     let frame = Frame {
         ports: 4,
@@ -127,7 +128,36 @@ fn idle_loads_and_empty_runs() {
         }
     }
     for class in [Class::Input { port: 1 }, Class::Output { port: 4 }] {
-        assert_eq!(service_count(4, 4, &TABLE_7_FRAME, class, 3, 0), Ok(0));
+        let count = Count { cells: 0, lead: 0 };
+        assert_eq!(service_count(4, 4, &TABLE_7_FRAME, class, 3, 0), Ok(count));
+    }
+}
+
+/// Pair (4, 1) has its one cell of four slots in slot 2; output 1 has three, and none in slot 4.
+#[test]
+fn leads_of_table_7() {
+    let pair = Class::Pair {
+        input: 4,
+        output: 1,
+    };
+    let output = Class::Output { port: 1 };
+    for (class, start, length, cells, lead) in [
+        (pair, 2, 1, 1, 3),
+        (pair, 1, 2, 1, 2),
+        (pair, 1, 1, 0, -1),
+        (pair, 3, 3, 0, -3),
+        (output, 1, 3, 3, 3),
+        (output, 4, 1, 0, -3),
+        (output, 3, 3, 2, -1),
+        (Class::Input { port: 4 }, 2, 3, 3, 0),
+        (Class::Input { port: 3 }, 2, 3, 0, 0),
+        (pair, 3, 4, 1, 0),
+        (pair, 3, 43, 10, -3),
+        (output, 4, 1_000_000, 750_000, 0),
+        (output, 4, 999_997, 749_997, -3),
+    ] {
+        let count = service_count(4, 4, &TABLE_7_FRAME, class, start, length);
+        assert_eq!(count, Ok(Count { cells, lead }), "{class:?}");
     }
 }
 

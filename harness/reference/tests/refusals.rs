@@ -1,7 +1,7 @@
 //! The order of each call's refusals, with every later condition holding too.
 
 use reference::{
-    admit, build, inspect, service_count, slot_view, Class, Inspection, Refusal, LONGEST_RUN,
+    admit, build, inspect, service_count, slot_view, Class, Count, Inspection, Refusal, LONGEST_RUN,
 };
 
 /// Both inputs and output 2 are above 8 slots.
@@ -112,8 +112,13 @@ fn count_order() {
     assert_eq!(count(2, 2, 4, port(9), 9, long), Err(Refusal::SlotNumber));
     assert_eq!(count(2, 2, 4, port(9), 2, long), Err(Refusal::PortNumber));
     assert_eq!(count(2, 2, 4, port(2), 2, long), Err(Refusal::RunLength));
-    assert_eq!(count(2, 2, 4, port(2), 2, LONGEST_RUN), Ok(LONGEST_RUN));
-    assert_eq!(count(2, 2, 4, port(1), 2, 5), Ok(2));
+    let longest = Count {
+        cells: LONGEST_RUN,
+        lead: 0,
+    };
+    assert_eq!(count(2, 2, 4, port(2), 2, LONGEST_RUN), Ok(longest));
+    let behind = Count { cells: 2, lead: -1 };
+    assert_eq!(count(2, 2, 4, port(1), 2, 5), Ok(behind));
 }
 
 #[test]

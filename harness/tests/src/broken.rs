@@ -1,6 +1,6 @@
 //! Builders that must be sent back, each the reference with one call replaced.
 
-use calls::{Answer, Calls, Class, Inspection, Reference, Refusal, Service, SheetProgram};
+use calls::{Answer, Calls, Class, Count, Inspection, Reference, Refusal, Service, SheetProgram};
 
 type AdmitCall = fn(u64, u64, &[u16]) -> Answer;
 type BuildCall = fn(u64, u64, &[u16], &mut [u8]) -> Answer;
@@ -371,8 +371,54 @@ pub fn share_for_count(
     length: u64,
 ) -> Service {
     let right = reference::service_count(ports, slots, frame, class, start, length)?;
-    let whole = reference::service_count(ports, slots, frame, class, 1, slots);
-    Ok(whole.map_or(right, |cells| cells * length / slots))
+    let whole = reference::service_count(ports, slots, frame, class, 1, slots)?;
+    Ok(Count {
+        cells: whole.cells * length / slots,
+        ..right
+    })
+}
+
+/// Turns the lead's sign round.
+pub fn lead_turned_round(
+    ports: u64,
+    slots: u64,
+    frame: &[u8],
+    class: Class,
+    start: u64,
+    length: u64,
+) -> Service {
+    let Count { cells, lead } =
+        reference::service_count(ports, slots, frame, class, start, length)?;
+    Ok(Count { cells, lead: -lead })
+}
+
+/// Takes the run's cells for those of the whole frame.
+pub fn load_of_the_run(
+    ports: u64,
+    slots: u64,
+    frame: &[u8],
+    class: Class,
+    start: u64,
+    length: u64,
+) -> Service {
+    let Count { cells, .. } = reference::service_count(ports, slots, frame, class, start, length)?;
+    let lead = (slots * cells) as i64 - (length * cells) as i64;
+    Ok(Count { cells, lead })
+}
+
+/// Gives no lead for a run that is longer than the frame.
+pub fn lead_of_short_runs(
+    ports: u64,
+    slots: u64,
+    frame: &[u8],
+    class: Class,
+    start: u64,
+    length: u64,
+) -> Service {
+    let Count { cells, lead } =
+        reference::service_count(ports, slots, frame, class, start, length)?;
+    let lead = if length > slots { 0 } else { lead };
+    Ok(Count { cells, lead })
 }
 
 /// A number as a 32-bit word keeps it.
@@ -411,6 +457,21 @@ pub fn cut_run(
     length: u64,
 ) -> Service {
     reference::service_count(ports, slots, frame, class, start, cut(length))
+}
+
+/// Gives the lead as a 32-bit word without a sign keeps it.
+pub fn cut_lead(
+    ports: u64,
+    slots: u64,
+    frame: &[u8],
+    class: Class,
+    start: u64,
+    length: u64,
+) -> Service {
+    let Count { cells, lead } =
+        reference::service_count(ports, slots, frame, class, start, length)?;
+    let lead = cut(lead as u64) as i64;
+    Ok(Count { cells, lead })
 }
 
 /// Takes a matrix that is too long, and looks at its beginning only.

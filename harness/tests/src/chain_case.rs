@@ -7,7 +7,7 @@ use reference::wire::{Course, Frame};
 use crate::build_case::{build_and_compare, lend_bytes, wire_frame};
 use crate::hits::Hits;
 use crate::queue_case::check_queue;
-use crate::share_case::{check_share, expect_chain, random_class};
+use crate::share_case::{check_share, class_of, expect_chain, random_class};
 use crate::verdict::Verdict;
 
 /// The classes that are looked at on a chain.
@@ -55,18 +55,21 @@ pub fn check_chain(
     Ok(())
 }
 
-/// In some chains, a flow that has the cells of a seam in about half of the calls.
-fn straying_flow(shape: Shape, random: &mut Random) -> Option<Flow> {
+/// In some cases, a flow that has the cells of a seam.
+pub fn straying_flow(shape: Shape, random: &mut Random) -> Option<Flow> {
     let seam = Seam::of_slots(shape.slots).filter(|_| shape.ports > 1 && random.one_in(3));
     seam.map(|seam| Flow::random(shape, seam.cells, random))
 }
 
+/// A load of the seam: the flow alone at its ports, or beside a partner.
+pub fn straying_load(flow: Flow, shape: Shape, random: &mut Random) -> Call {
+    let company = random.pick(&[Company::Nobody, Company::Partner]);
+    flow.load(company, shape, random)
+}
+
 /// Any classes, and the flow of the seam where there is one.
 fn random_classes(shape: Shape, flow: Option<Flow>, random: &mut Random) -> Vec<Class> {
-    let straying = flow.map(|flow| Class::Pair {
-        input: flow.input as u64 + 1,
-        output: flow.output as u64 + 1,
-    });
+    let straying = flow.map(class_of);
     let any = std::iter::repeat_with(|| random_class(shape.ports as u64, random));
     straying.into_iter().chain(any).take(CLASSES).collect()
 }
@@ -83,8 +86,7 @@ fn chain_shape(kind: ChainKind, random: &mut Random) -> Shape {
 /// A call that fits, is overloaded, is junk, or asks for another shape of the same length.
 fn next_call(kind: ChainKind, shape: Shape, flow: Option<Flow>, random: &mut Random) -> Call {
     if let Some(flow) = flow.filter(|_| random.one_in(2)) {
-        let company = random.pick(&[Company::Nobody, Company::Partner]);
-        return flow.load(company, shape, random);
+        return straying_load(flow, shape, random);
     }
     match random.below(10) {
         0 | 1 => load_of_shape(random.pick(&LoadKind::OVERLOADED), shape, random),

@@ -11,16 +11,26 @@ pub const QUEUE_REACHED_AFTER: &str = "queue bound reached after a slot";
 /// As many cells waited before a slot's cell left as the sharp bound allows.
 pub const QUEUE_REACHED_BEFORE: &str = "queue bound reached before a cell leaves";
 
-/// What is counted for each k from 1 to 10; with k = 0 nothing strays.
-pub const FOR_EACH_K: [&str; 3] = [RUN_REACHED, QUEUE_REACHED_AFTER, QUEUE_REACHED_BEFORE];
+/// A run of one repeating frame had a lead of p(k) cells or more, ahead or behind.
+pub const LEAD_REACHED: &str = "lead of half the sharp bound reached in one frame";
 
-/// How many times each named thing happened, and how deep queues stood.
+/// What is counted for each k from 1 to 10; with k = 0 nothing strays.
+pub const FOR_EACH_K: [&str; 4] = [
+    RUN_REACHED,
+    LEAD_REACHED,
+    QUEUE_REACHED_AFTER,
+    QUEUE_REACHED_BEFORE,
+];
+
+/// How many times each named thing happened, how deep queues stood, and how far leads were from 0.
 #[derive(Clone, Debug, Default)]
 pub struct Hits {
     counts: BTreeMap<String, u64>,
     counts_at: BTreeMap<(&'static str, u32), u64>,
     /// By k and the switch's place in its row, in parts of 1/2^k of a cell.
     depths: BTreeMap<(u32, usize), i128>,
+    /// By k, the furthest from 0 of the leads of built frames.
+    leads: BTreeMap<u32, i128>,
 }
 
 impl Hits {
@@ -39,6 +49,12 @@ impl Hits {
         *depth = parts.max(*depth);
     }
 
+    /// A built frame of 2^k slots had a run whose lead was so far from 0.
+    pub fn stray(&mut self, k: u32, parts: i128) {
+        let furthest = self.leads.entry(k).or_insert(parts);
+        *furthest = parts.max(*furthest);
+    }
+
     pub fn merge(&mut self, other: Hits) {
         for (name, count) in other.counts {
             *self.counts.entry(name).or_default() += count;
@@ -49,6 +65,9 @@ impl Hits {
         for ((k, place), parts) in other.depths {
             self.deepen(k, place, parts);
         }
+        for (k, parts) in other.leads {
+            self.stray(k, parts);
+        }
     }
 
     pub fn count_at(&self, name: &'static str, k: u32) -> u64 {
@@ -58,6 +77,11 @@ impl Hits {
     /// The deepest queue, where one was run.
     pub fn deepest(&self, k: u32, place: usize) -> Option<i128> {
         self.depths.get(&(k, place)).copied()
+    }
+
+    /// The lead that was furthest from 0, where a built frame was counted.
+    pub fn furthest_lead(&self, k: u32) -> Option<i128> {
+        self.leads.get(&k).copied()
     }
 
     /// How often something happened, by its name or by that of `name_at`.
@@ -88,7 +112,9 @@ impl Hits {
         names.extend((1..=16).map(|ports| format!("build with {ports} ports")));
         names.extend((0..=10).map(|k| format!("build with {} slots", 1 << k)));
         names.extend(CHAIN_EVENTS.map(str::to_string));
+        names.extend((0..=10).map(|k| format!("leads of a frame of {} slots", 1 << k)));
         names.extend((1..=10).map(|k| name_at(RUN_REACHED, k)));
+        names.extend((1..=10).map(|k| name_at(LEAD_REACHED, k)));
         names.push(name_at(QUEUE_REACHED_AFTER, 1));
         names.push(name_at(QUEUE_REACHED_BEFORE, 1));
         names.extend((2..=5).map(|switches| format!("row of {switches} switches")));
@@ -118,6 +144,7 @@ pub fn outcomes() -> Vec<String> {
     names.extend(refusal_names("view", &[1, 2, 4, 11]));
     names.extend(refusal_names("count", &[1, 2, 4, 11, 12, 13]));
     names.extend(["pair", "input", "output"].map(|class| format!("count of {class}")));
+    names.extend(["above 0", "0", "below 0"].map(|lead| format!("count with lead {lead}")));
     names
 }
 

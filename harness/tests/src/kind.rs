@@ -7,6 +7,7 @@ use crate::build_case::{check_admit, check_build};
 use crate::chain_case::{check_chain, ChainKind};
 use crate::hits::Hits;
 use crate::inspect_case::check_inspection;
+use crate::lead_case::check_leads;
 use crate::query_case::{check_count, check_view, RunKind, ViewKind};
 use crate::row_case::check_row;
 use crate::sheet_case::check_sheet;
@@ -23,6 +24,7 @@ pub enum Kind {
     Sheet(SheetKind),
     Chain(ChainKind),
     Row,
+    Lead,
 }
 
 impl Kind {
@@ -35,7 +37,7 @@ impl Kind {
         kinds.extend(RunKind::ALL.iter().copied().map(Kind::Count));
         kinds.extend(SheetKind::ALL.iter().copied().map(Kind::Sheet));
         kinds.extend(ChainKind::ALL.iter().copied().map(Kind::Chain));
-        kinds.push(Kind::Row);
+        kinds.extend([Kind::Row, Kind::Lead]);
         kinds
     }
 
@@ -49,6 +51,7 @@ impl Kind {
             Kind::Sheet(kind) => ("sheet", kind.name()),
             Kind::Chain(kind) => ("chain", kind.name()),
             Kind::Row => ("row", "random"),
+            Kind::Lead => ("lead", "built"),
         };
         format!("{call}/{given}")
     }
@@ -69,6 +72,7 @@ impl Kind {
             Kind::Sheet(kind) => check_sheet(candidate, kind, random, hits),
             Kind::Chain(kind) => check_chain(candidate, kind, random, hits),
             Kind::Row => check_row(candidate, random, hits),
+            Kind::Lead => check_leads(candidate, random, hits),
         }
     }
 }

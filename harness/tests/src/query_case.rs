@@ -1,6 +1,6 @@
 //! Cases of Slot view and Service count.
 
-use calls::{Calls, Class};
+use calls::{Calls, Class, Count};
 use loads::{junk_number, load_of_shape, random_shape, Call, LoadKind, Random};
 use reference::LONGEST_RUN;
 
@@ -110,8 +110,9 @@ pub fn count_and_compare(
     let given = candidate.service_count(call.ports, call.slots, bytes, class, start, length);
     let right = reference::service_count(call.ports, call.slots, bytes, class, start, length);
     hits.add(outcome("count", &right));
-    if right.is_ok() {
+    if let Ok(Count { lead, .. }) = right {
         hits.add(format!("count of {}", class_name(class)));
+        hits.add(format!("count with lead {}", lead_name(lead)));
     }
     expect_equal("count", &given, &right)?;
     frame.expect_same("frame after count", &before)
@@ -130,10 +131,10 @@ fn any_frame(junk: bool, random: &mut Random) -> (Call, Lent<u8>) {
     (call, frame)
 }
 
-/// Bytes for a frame: any bytes, or any outputs, or those that Build leaves.
+/// Bytes for a frame: any bytes, or any outputs, or those that Build leaves, or one output for all inputs and then nothing.
 pub fn any_bytes(call: &Call, random: &mut Random) -> Vec<u8> {
     let mut bytes = random.bytes(call.frame_length);
-    match random.below(3) {
+    match random.below(4) {
         0 => bytes.fill_with(|| random.between(0, call.ports) as u8),
         1 => drop(reference::build(
             call.ports,
@@ -141,6 +142,11 @@ pub fn any_bytes(call: &Call, random: &mut Random) -> Vec<u8> {
             &call.matrix,
             &mut bytes,
         )),
+        2 => {
+            let (busy, idle) = bytes.split_at_mut(random.place(call.frame_length + 1));
+            busy.fill(random.between(1, call.ports) as u8);
+            idle.fill(0);
+        }
         _ => {}
     }
     bytes
@@ -204,6 +210,14 @@ fn junk_class(ports: u64, random: &mut Random) -> Class {
             input: 1,
             output: outside,
         },
+    }
+}
+
+fn lead_name(lead: i64) -> &'static str {
+    match lead {
+        1.. => "above 0",
+        0 => "0",
+        _ => "below 0",
     }
 }
 

@@ -1,12 +1,13 @@
 //! Rows of switches: a flow passes from one to the next, each with a chain of frames of its own.
 
-use calls::{Calls, Class};
+use calls::Calls;
 use loads::{Company, Flow, Random, Seam, Shape};
 use reference::queue::{ahead_behind_a_switch, pass_row, Switch};
 use reference::wire::{Course, Frame};
 
 use crate::build_case::{build_and_compare, lend_bytes, wire_frame};
 use crate::hits::Hits;
+use crate::share_case::class_of;
 use crate::verdict::{expect, Verdict};
 
 /// What all switches of a row have in common.
@@ -62,14 +63,10 @@ impl Row {
             slots: self.slots,
         };
         let flow = Flow::random(shape, self.cells, random);
-        let class = Class::Pair {
-            input: flow.input as u64 + 1,
-            output: flow.output as u64 + 1,
-        };
         let chain = self.chain(candidate, flow, shape, random)?;
         let latest = random.pick(&[5, 5, 5, self.slots as u64]);
         Ok(Switch {
-            course: Course::of(&chain, class),
+            course: Course::of(&chain, class_of(flow)),
             delay: random.between(0, latest) as usize,
         })
     }

@@ -1,7 +1,7 @@
 //! How far classes stray from their share on a chain.
 
 use calls::Class;
-use loads::Random;
+use loads::{Flow, Random};
 use reference::wire::{self, deviation, Course, Frame, Run};
 
 use crate::hits::{Hits, RUN_REACHED};
@@ -38,6 +38,14 @@ pub fn random_class(ports: u64, random: &mut Random) -> Class {
             input: random.between(1, ports),
             output: port,
         },
+    }
+}
+
+/// The flow's pair, as Service count names it.
+pub fn class_of(flow: Flow) -> Class {
+    Class::Pair {
+        input: flow.input as u64 + 1,
+        output: flow.output as u64 + 1,
     }
 }
 

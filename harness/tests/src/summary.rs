@@ -1,18 +1,19 @@
 //! What is said of the bounds at the end of a run.
 
-use reference::wire::deviation;
+use reference::wire::{demanded, deviation};
 
 use crate::hits::{Hits, FOR_EACH_K};
 
 /// The places of a row that have a column: one switch by itself, then the second to the fifth of a row.
 const PLACES: [usize; 5] = [1, 2, 3, 4, 5];
 
-/// A line for each thing that is counted for each k, then the table of the deepest queues.
+/// A line for each thing that is counted for each k, then the tables of the furthest leads and the deepest queues.
 pub fn summary(hits: &Hits) -> Vec<String> {
     let mut lines: Vec<String> = FOR_EACH_K
         .iter()
         .filter_map(|name| line(hits, name))
         .collect();
+    lines.extend(leads(hits));
     lines.extend(depths(hits));
     lines
 }
@@ -26,6 +27,30 @@ fn line(hits: &Hits, name: &'static str) -> Option<String> {
         .collect();
     let any = counts.map(|(_, count)| count).sum::<u64>() > 0;
     any.then(|| format!("{name}: {}", said.join(", ")))
+}
+
+/// The leads of built frames that were furthest from 0, beside what is allowed; nothing where no such frame was counted.
+fn leads(hits: &Hits) -> Vec<String> {
+    let rows = (0..=10).filter_map(|k| {
+        let seen = hits.furthest_lead(k)?;
+        let (slots, sharp) = (1 << k, 2 * deviation(k));
+        let allowed = demanded(k) as f64 / 3.0;
+        let ratio = seen as f64 / allowed;
+        Some(format!(
+            "{k:>3} {slots:>9} {seen:>9} {allowed:>13.3} {sharp:>9} {ratio:>9.4}"
+        ))
+    });
+    let rows: Vec<String> = rows.collect();
+    if rows.is_empty() {
+        return rows;
+    }
+    let title = "furthest leads of built frames, in parts of 1/2^k of a cell";
+    let head = format!(
+        "{:>3} {:>9} {:>9} {:>13} {:>9} {:>9}",
+        "k", "slots", "seen", "(2k+1)2^k/3", "2^k 2p(k)", "ratio"
+    );
+    let lines = [title.to_string(), head];
+    lines.into_iter().chain(rows).collect()
 }
 
 /// The deepest queues beside what is allowed, in cells; nothing where no queue was run.

@@ -39,6 +39,14 @@ fn numbers_cut_to_32_bits() {
     sent_back!(inspect: cut_slots, "hostile/inspect");
     sent_back!(slot_view: cut_view, "hostile/view");
     sent_back!(service_count: cut_run, "hostile/count");
+    sent_back!(service_count: cut_lead, "hostile/count");
+}
+
+#[test]
+fn leads_out_of_the_air() {
+    sent_back!(service_count: lead_turned_round, "hostile/count");
+    sent_back!(service_count: load_of_the_run, "hostile/count");
+    sent_back!(service_count: lead_of_short_runs, "hostile/count");
 }
 
 #[test]

@@ -207,6 +207,26 @@ fn counts_out_of_the_air() {
 }
 
 #[test]
+fn leads_out_of_the_air() {
+    sent_back!(service_count: lead_turned_round, "count/");
+    sent_back!(service_count: load_of_the_run, "count/");
+    sent_back!(service_count: lead_of_short_runs, "count/");
+    sent_back!(service_count: cut_lead, "count/");
+    sent_back!(service_count: lead_turned_round, "lead/");
+    sent_back!(service_count: load_of_the_run, "lead/");
+    sent_back!(service_count: lead_of_short_runs, "lead/");
+    sent_back!(service_count: cut_lead, "lead/");
+}
+
+#[test]
+fn leads_of_broken_frames() {
+    sent_back!(build: bunched, "lead/");
+    sent_back!(build: idle_frame, "lead/");
+    sent_back!(build: copied_on, "lead/");
+    sent_back!(build: refuse_all, "lead/");
+}
+
+#[test]
 fn sheets_without_an_answer() {
     sent_back!(respond: silent_refusal, "sheet/");
 }

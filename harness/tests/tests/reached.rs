@@ -77,7 +77,7 @@ fn half_of_it_from_the_beginning_of_a_frame() {
     }
 }
 
-/// The flow's cells counted by Service count, on each frame of the seam by itself.
+/// The flow's cells and leads by Service count, on each frame of the seam by itself.
 #[test]
 fn the_same_by_service_count() {
     for seam in SEAMS {
@@ -89,7 +89,10 @@ fn the_same_by_service_count() {
         };
         let first = count(alone(seam), turn + 1, back).unwrap();
         let second = count(beside(seam), 1, back).unwrap();
-        assert_eq!(u128::from(first + second), course.cells(run), "{seam:?}");
+        let cells = u128::from(first.cells + second.cells);
+        assert_eq!(cells, course.cells(run), "{seam:?}");
+        let leads = [first.lead, second.lead].map(i128::from);
+        assert_eq!(leads, [-deviation(seam.k); 2], "{seam:?}");
     }
 }
 

@@ -51,6 +51,7 @@ extern "C" {
         start: usize,
         length: usize,
         cells: &mut usize,
+        lead: &mut i64,
     ) -> usize;
     fn frame_builder_count_input(
         ports: usize,
@@ -61,6 +62,7 @@ extern "C" {
         start: usize,
         length: usize,
         cells: &mut usize,
+        lead: &mut i64,
     ) -> usize;
     fn frame_builder_count_output(
         ports: usize,
@@ -71,6 +73,7 @@ extern "C" {
         start: usize,
         length: usize,
         cells: &mut usize,
+        lead: &mut i64,
     ) -> usize;
 }
 
@@ -127,19 +130,19 @@ pub fn service_count(
 ) -> Numbers {
     let (bytes, size) = (frame.as_ptr(), frame.len());
     let mut given = Numbers::default();
-    let cells = &mut given.first;
+    let (cells, lead) = (&mut given.first, &mut given.lead);
     // SAFETY: the slice is readable for its length.
     given.number = unsafe {
         match who {
             Who::Pair { input, output } => frame_builder_count_pair(
-                ports, slots, bytes, size, input, output, start, length, cells,
+                ports, slots, bytes, size, input, output, start, length, cells, lead,
             ),
-            Who::Input(port) => {
-                frame_builder_count_input(ports, slots, bytes, size, port, start, length, cells)
-            }
-            Who::Output(port) => {
-                frame_builder_count_output(ports, slots, bytes, size, port, start, length, cells)
-            }
+            Who::Input(port) => frame_builder_count_input(
+                ports, slots, bytes, size, port, start, length, cells, lead,
+            ),
+            Who::Output(port) => frame_builder_count_output(
+                ports, slots, bytes, size, port, start, length, cells, lead,
+            ),
         }
     };
     given

@@ -20,6 +20,9 @@
 //! A frame is **balanced** if the cells of every pair, input and output are spread evenly: a frame of two or more slots has two
 //! halves, which differ by at most one cell, each half is split again, and so on down to the slots.
 //!
+//! A **run** is some consecutive slots of the repeating frame. Its **share** is the part of a whole frame's cells that falls to so
+//! many slots, and its **lead** is how far its cells are above that share, in parts of 1/slots of a cell; below 0 it is behind.
+//!
 //! # Calls
 //!
 //! | call | what it does | refusals |
@@ -28,7 +31,7 @@
 //! | [`build`] | fills a frame | 1, 2, 3, 4, 5, 6 |
 //! | [`inspect`] | looks over a frame that came from anywhere | 1, 2, 3, 4 |
 //! | [`slot_view`] | shows a slot's part of a frame | 1, 2, 4, 11 |
-//! | [`service_count`] | counts the cells that a pair, an input or an output gets in a run of slots | 1, 2, 4, 11, 12, 13 |
+//! | [`service_count`] | counts the cells that a pair, an input or an output gets in a run, with their lead | 1, 2, 4, 11, 12, 13 |
 //!
 //! Every call takes any numbers and slices of any length, and none panics. One that cannot be answered is turned away with a
 //! [`Refusal`], the first in the table's order that holds. **A refusal leaves everything as it was**: above all, a refused [`build`]
@@ -47,7 +50,7 @@
 //! Four ports and four slots. Input 1 sends two cells to output 1 and two to output 2, input 4 one each to 1 and 2 and two to 4.
 //!
 //! ```
-//! use frame_builder::{build, inspect, service_count, slot_view, Inspection, Refusal, Who};
+//! use frame_builder::{build, inspect, service_count, slot_view, Count, Inspection, Refusal, Who};
 //!
 //! # fn main() -> Result<(), Refusal> {
 //! let (ports, slots) = (4, 4);
@@ -73,9 +76,10 @@
 //! // In slot 2 input 1 sends to output 2 and input 4 to output 1.
 //! assert_eq!(slot_view(ports, slots, &frame, 2)?, [2, 0, 0, 1]);
 //!
-//! // Two slots from slot 4 on are slot 4 and, as the frame repeats, slot 1.
+//! // Two slots from slot 4 on are slot 4 and, as the frame repeats, slot 1. Both have a cell, and the share is one: the pair is a
+//! // cell ahead, four quarters.
 //! let pair = Who::Pair { input: 4, output: 4 };
-//! assert_eq!(service_count(ports, slots, &frame, pair, 4, 2)?, 2);
+//! assert_eq!(service_count(ports, slots, &frame, pair, 4, 2)?, Count { cells: 2, lead: 4 });
 //!
 //! // Five cells from input 3 do not fit four slots, and the frame stays as it is.
 //! let before = frame;
@@ -101,8 +105,9 @@
 //! 3. `rt staticlib exports`, which proves it and writes it, in the checkout that `FRAME_BUILDER_SOURCE` names, or in the one that
 //!    the crate stands in. It needs the Rattle kit.
 //!
-//! A variable that is set and leads to no library is an error, as is an installed one that is not whole: nothing else is taken in its
-//! place. An empty variable is as one that is not set. Where no way leads to a library, the error says why each of them did not.
+//! A variable that is set and leads to no library is an error, as is an installed one that is not whole, and one of another version
+//! than 2, whose calls take other arguments: nothing else is taken in its place. An empty variable is as one that is not set. Where
+//! no way leads to a library, the error says why each of them did not.
 //!
 //! A crate that depends on this one directly has in its own build script `DEP_FRAME_BUILDER_ARCHIVE`, the archive,
 //! `DEP_FRAME_BUILDER_INCLUDE`, the folder of the C header, and `DEP_FRAME_BUILDER_VERSION`.
@@ -110,6 +115,7 @@
 #![deny(unsafe_code)]
 #![warn(missing_docs)]
 
+mod count;
 #[allow(unsafe_code)]
 mod exported;
 mod inspection;
@@ -117,6 +123,7 @@ mod numbers;
 mod refusal;
 mod who;
 
+pub use count::Count;
 pub use inspection::{Fault, Inspection};
 pub use refusal::Refusal;
 pub use who::Who;
@@ -230,7 +237,8 @@ pub fn slot_view(ports: usize, slots: usize, frame: &[u8], slot: usize) -> Resul
     Ok(rest.get(..given.second).unwrap_or_default())
 }
 
-/// Counts the cells of a pair, an input or an output in a run of the repeating frame, `length` slots from slot `start` on.
+/// Counts the cells of a pair, an input or an output in a run of the repeating frame, `length` slots from slot `start` on, and says
+/// how far they are ahead of the run's share, or behind: its [lead](Count).
 ///
 /// The frame may have any bytes: for a pair, those of the input that are the output's number are counted, for an input, its bytes
 /// that are not 0, for an output, all bytes that are its number. After the last slot comes slot 1 again.
@@ -240,17 +248,20 @@ pub fn slot_view(ports: usize, slots: usize, frame: &[u8], slot: usize) -> Resul
 /// Refusals 1, 2, 4, 11, 12 and 13, the first of them that holds.
 ///
 /// ```
-/// use frame_builder::{service_count, Refusal, Who};
+/// use frame_builder::{service_count, Count, Refusal, Who};
 ///
 /// // In slot 1 input 1 sends to output 1 and input 2 to output 2, in slot 2 input 2 to output 1.
 /// let frame = [1, 2, 0, 1];
 /// // Slots 2, 1, 2.
+/// let count = |who| service_count(2, 2, &frame, who, 2, 3);
+/// // One cell a frame: a cell and a half is the share of three slots.
 /// let pair = Who::Pair { input: 2, output: 1 };
-/// assert_eq!(service_count(2, 2, &frame, pair, 2, 3), Ok(2));
-/// assert_eq!(service_count(2, 2, &frame, Who::Input(1), 2, 3), Ok(1));
-/// assert_eq!(service_count(2, 2, &frame, Who::Output(1), 2, 3), Ok(3));
-/// assert_eq!(service_count(2, 2, &frame, Who::Input(3), 2, 3), Err(Refusal::PortNumber));
-/// assert_eq!(service_count(2, 2, &frame, Who::Input(1), 1, 1_000_001), Err(Refusal::RunLength));
+/// assert_eq!(count(pair), Ok(Count { cells: 2, lead: 1 }));
+/// assert_eq!(count(Who::Input(1)), Ok(Count { cells: 1, lead: -1 }));
+/// // A cell in every slot.
+/// assert_eq!(count(Who::Output(1)), Ok(Count { cells: 3, lead: 0 }));
+/// assert_eq!(count(Who::Input(3)), Err(Refusal::PortNumber));
+/// assert_eq!(service_count(2, 2, &frame, pair, 1, 1_000_001), Err(Refusal::RunLength));
 /// ```
 pub fn service_count(
     ports: usize,
@@ -259,9 +270,8 @@ pub fn service_count(
     who: Who,
     start: usize,
     length: usize,
-) -> Result<usize, Refusal> {
-    let given = exported::service_count(ports, slots, frame, who, start, length);
-    given.answer().map(|()| given.first)
+) -> Result<Count, Refusal> {
+    exported::service_count(ports, slots, frame, who, start, length).count()
 }
 
 /// The example of the README is run too.

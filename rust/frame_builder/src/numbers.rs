@@ -1,13 +1,14 @@
 //! Answers as numbers, the form in which they cross from the library.
 
-use crate::{Fault, Refusal};
+use crate::{Count, Fault, Refusal};
 
-/// An answer's number, and two values where it has them.
+/// An answer's number, and two values where it has them; a count has its cells and its lead.
 #[derive(Default)]
 pub struct Numbers {
     pub number: usize,
     pub first: usize,
     pub second: usize,
+    pub lead: i64,
 }
 
 impl Numbers {
@@ -16,6 +17,11 @@ impl Numbers {
             0 => Ok(()),
             _ => Err(self.refusal()),
         }
+    }
+
+    pub fn count(&self) -> Result<Count, Refusal> {
+        let (cells, lead) = (self.first, self.lead);
+        self.answer().map(|()| Count { cells, lead })
     }
 
     fn refusal(&self) -> Refusal {

@@ -2,7 +2,7 @@
 
 use std::error::Error;
 
-use frame_builder::{admit, build, inspect, service_count, slot_view, Fault, Inspection};
+use frame_builder::{admit, build, inspect, service_count, slot_view, Count, Fault, Inspection};
 use frame_builder::{Refusal, Who};
 
 /// Every refusal, from a call that is refused so.
@@ -118,4 +118,44 @@ fn a_refused_build_leaves_every_byte() {
         assert!(build(ports, slots, matrix, &mut frame).is_err());
         assert_eq!(frame, [7; 4]);
     }
+}
+
+#[test]
+fn counts_have_a_lead() {
+    // In a frame of four slots input 1 sends to output 1 in slots 1 and 3, and input 4 in slot 2.
+    let matrix = [2, 2, 0, 0, 0, 0, 0, 0, 0, 0, 0, 0, 1, 1, 0, 2];
+    let mut frame = [0; 16];
+    assert_eq!(build(4, 4, &matrix, &mut frame), Ok(()));
+    let pair = Who::Pair {
+        input: 4,
+        output: 1,
+    };
+    for (who, start, length, cells, lead) in [
+        (pair, 2, 1, 1, 3),
+        (pair, 3, 3, 0, -3),
+        (Who::Output(1), 1, 3, 3, 3),
+        (Who::Output(1), 4, 1, 0, -3),
+        (Who::Input(1), 2, 3, 3, 0),
+        (Who::Input(2), 2, 3, 0, 0),
+        (Who::Output(1), 4, 0, 0, 0),
+        (Who::Output(1), 4, 1_000_000, 750_000, 0),
+        (Who::Output(1), 4, 999_997, 749_997, -3),
+    ] {
+        let count = service_count(4, 4, &frame, who, start, length);
+        assert_eq!(count, Ok(Count { cells, lead }), "{who}, {start}, {length}");
+    }
+}
+
+#[test]
+fn the_farthest_leads_of_any_bytes() {
+    // All inputs send to output 16 in the first half of the frame, and nothing in the second.
+    let frame = [[16; 8_192], [0; 8_192]].concat();
+    let count = |who, start| {
+        let count = service_count(16, 1_024, &frame, who, start, 512);
+        count.map(|count| count.lead)
+    };
+    assert_eq!(count(Who::Output(16), 1), Ok(4_194_304));
+    assert_eq!(count(Who::Output(16), 513), Ok(-4_194_304));
+    assert_eq!(count(Who::Input(16), 1), Ok(262_144));
+    assert_eq!(count(Who::Input(16), 513), Ok(-262_144));
 }

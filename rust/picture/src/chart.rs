@@ -69,9 +69,9 @@ fn thirds(course: &Course) -> i64 {
 
 /// The picture of a flow.
 pub fn draw_flow(course: &Course) -> String {
-    let cells = count(course.load as usize, "cell");
+    let cells = count(course.load, "cell");
     let slots = count(course.slots as usize, "slot");
-    let name = course.flow.name();
+    let name = course.name();
     let halvings = course.halvings();
     let title = format!("{name}: m = {cells} in a frame of 2^k = {slots} (k = {halvings})");
     let plot = Plot::of(course);
@@ -240,21 +240,14 @@ fn draw_dots(page: &mut Page, plot: &Plot, course: &Course) {
 
 #[cfg(test)]
 mod tests {
+    use frame_builder::Who;
+
     use super::*;
-    use crate::flow::Flow;
-    use crate::frame::Frame;
-
-    fn course(text: &str, flow: Flow) -> Course {
-        Course::of(&Frame::read(text.as_bytes()).unwrap(), flow).unwrap()
-    }
-
-    fn table7(flow: Flow) -> Course {
-        course(include_str!("../../../examples/table7.answer"), flow)
-    }
+    use crate::flow::tests::{course, pair, table7};
 
     #[test]
     fn the_line_of_pair_4_4_of_table_7() {
-        let course = table7(Flow::Pair(4, 4));
+        let course = table7(pair(4, 4));
         let plot = Plot::of(&course);
         // Half a cell is 196 / (1.15 × 5/3) / 2 = 51.13 high, a slot 1052 / 4 = 263 wide.
         let path = course_path(&plot, &course);
@@ -264,7 +257,7 @@ mod tests {
 
     #[test]
     fn a_flow_that_keeps_its_share_is_one_line() {
-        for flow in [Flow::Input(4), Flow::Input(2), Flow::Pair(2, 2)] {
+        for flow in [Who::Input(4), Who::Input(2), pair(2, 2)] {
             let course = table7(flow);
             let path = course_path(&Plot::of(&course), &course);
             assert_eq!(path.data(), "M84 300H1136");
@@ -273,7 +266,7 @@ mod tests {
 
     #[test]
     fn words_of_table_7() {
-        let drawn = draw_flow(&table7(Flow::Pair(4, 4)));
+        let drawn = draw_flow(&table7(pair(4, 4)));
         for words in [
             "<title>Pair (4, 4): m = 2 cells in a frame of 2^k = 4 slots (k = 2)</title>",
             "at most +0.5 (after slot 1), at least \u{2212}0.5 (after slot 3)<",
@@ -284,14 +277,14 @@ mod tests {
         ] {
             assert!(drawn.contains(words), "{words}");
         }
-        let full = draw_flow(&table7(Flow::Input(4)));
+        let full = draw_flow(&table7(Who::Input(4)));
         assert!(full.contains("Cells ahead of share: at most 0, at least 0<"));
     }
 
     #[test]
     fn a_whole_bound_is_a_whole_number() {
         let text = "(frame (ports 1) (slots 2))\n(slot 1 (1 1))\n(slot 2)\n";
-        let drawn = draw_flow(&course(text, Flow::Pair(1, 1)));
+        let drawn = draw_flow(&course(text, pair(1, 1)));
         assert!(drawn.contains("bound of any run: +2p(k) cells = +1<"));
         assert!(drawn.contains("bound asked for: +(2k + 1)/3 cells = +1<"));
     }
@@ -299,14 +292,14 @@ mod tests {
     #[test]
     fn a_bound_with_many_digits_is_a_fraction_too() {
         let text = include_str!("../../../examples/full.answer");
-        let drawn = draw_flow(&course(text, Flow::Pair(15, 1)));
+        let drawn = draw_flow(&course(text, pair(15, 1)));
         assert!(drawn.contains("bound of any run: +2p(k) cells = +270/64 \u{2248} +4.219<"));
     }
 
     #[test]
     fn a_frame_of_one_slot_has_no_room() {
         let text = "(frame (ports 1) (slots 1))\n(slot 1 (1 1))\n";
-        let drawn = draw_flow(&course(text, Flow::Pair(1, 1)));
+        let drawn = draw_flow(&course(text, pair(1, 1)));
         assert!(drawn.contains("bound of any run: \u{b1}2p(k) cells = 0<"));
     }
 
@@ -316,7 +309,7 @@ mod tests {
         let idle = (513..=1_024).map(|slot| format!("(slot {slot})\n"));
         let slots: String = busy.chain(idle).collect();
         let text = format!("(frame (ports 1) (slots 1024))\n{slots}");
-        let course = course(&text, Flow::Output(1));
+        let course = course(&text, Who::Output(1));
         let plot = Plot::of(&course);
         assert_eq!(course.farthest_ahead(), (512, 256 * 1_024));
         assert!(plot.y_of(256 * 1_024) > TOP);

@@ -1,90 +1,43 @@
 //! A pair, an input or an output, and how far it is ahead of its share along a frame.
 
+use frame_builder::{service_count, Who};
+
 use crate::frame::Frame;
 use crate::request::ADVICE;
-
-/// Which cells are looked at.
-#[derive(Debug, Clone, Copy, PartialEq, Eq)]
-pub enum Flow {
-    /// Input and output.
-    Pair(usize, usize),
-    Input(usize),
-    Output(usize),
-}
-
-impl Flow {
-    /// The name of the flow in a title.
-    pub fn name(self) -> String {
-        match self {
-            Flow::Pair(input, output) => format!("Pair ({input}, {output})"),
-            Flow::Input(input) => format!("Input {input}"),
-            Flow::Output(output) => format!("Output {output}"),
-        }
-    }
-
-    /// Whether a byte of an input is a cell of the flow.
-    fn has(self, input: usize, byte: u8) -> bool {
-        match self {
-            Flow::Pair(from, output) => input == from && usize::from(byte) == output,
-            Flow::Input(from) => input == from && byte != 0,
-            Flow::Output(output) => usize::from(byte) == output,
-        }
-    }
-
-    /// The flow's cells in a slot.
-    fn cells(self, row: &[u8]) -> i64 {
-        let places = (1..).zip(row);
-        places
-            .filter(|&(input, &byte)| self.has(input, byte))
-            .count() as i64
-    }
-
-    /// Refuses a port that the frame does not have.
-    fn check(self, ports: usize) -> Result<(), String> {
-        let (input, output) = match self {
-            Flow::Pair(input, output) => (input, output),
-            Flow::Input(input) => (input, 1),
-            Flow::Output(output) => (1, output),
-        };
-        for (name, port) in [("input", input), ("output", output)] {
-            if port < 1 || port > ports {
-                let there = format!("the frame has ports 1 to {ports}");
-                return Err(format!("{name} {port}: {there}; {ADVICE}"));
-            }
-        }
-        Ok(())
-    }
-}
 
 /// A flow's way through a frame. Nothing is rounded: heights are cells times slots.
 #[derive(Debug, PartialEq, Eq)]
 pub struct Course {
-    pub flow: Flow,
+    pub flow: Who,
     /// The flow's cells in the whole frame.
-    pub load: i64,
+    pub load: usize,
     pub slots: i64,
-    /// After t slots, slots × cells so far − t × load; from t = 0 to t = slots.
+    /// The lead of the first t slots, slots × cells so far − t × load; from t = 0 to t = slots.
     pub heights: Vec<i64>,
 }
 
 impl Course {
-    pub fn of(frame: &Frame, flow: Flow) -> Result<Course, String> {
-        flow.check(frame.ports())?;
-        let cells: Vec<i64> = frame.rows().map(|row| flow.cells(row)).collect();
-        let load: i64 = cells.iter().sum();
-        let slots = frame.slots() as i64;
-        let rises = cells.iter().map(|cells| slots * cells - load);
-        let later = rises.scan(0, |height, rise| {
-            *height += rise;
-            Some(*height)
-        });
-        let heights = std::iter::once(0).chain(later).collect();
+    pub fn of(frame: &Frame, flow: Who) -> Result<Course, String> {
+        let (ports, slots) = (frame.ports(), frame.slots());
+        check_ports(flow, ports)?;
+        let first = |length| {
+            service_count(ports, slots, frame.bytes(), flow, 1, length)
+                .map_err(|refusal| format!("{flow}: {refusal}; {ADVICE}"))
+        };
+        let heights = (0..=slots).map(|length| first(length).map(|count| count.lead));
         Ok(Course {
             flow,
-            load,
-            slots,
-            heights,
+            load: first(slots)?.cells,
+            slots: slots as i64,
+            heights: heights.collect::<Result<_, String>>()?,
         })
+    }
+
+    /// The flow's name at the beginning of a title.
+    pub fn name(&self) -> String {
+        let name = self.flow.to_string();
+        let (first, rest) = name.split_at(1);
+        first.to_uppercase() + rest
     }
 
     /// The k of 2^k slots.
@@ -129,6 +82,22 @@ impl Course {
     }
 }
 
+/// Refuses a port that the frame does not have, and names it.
+fn check_ports(flow: Who, ports: usize) -> Result<(), String> {
+    let (input, output) = match flow {
+        Who::Pair { input, output } => (input, output),
+        Who::Input(input) => (input, 1),
+        Who::Output(output) => (1, output),
+    };
+    for (name, port) in [("input", input), ("output", output)] {
+        if port < 1 || port > ports {
+            let there = format!("the frame has ports 1 to {ports}");
+            return Err(format!("{name} {port}: {there}; {ADVICE}"));
+        }
+    }
+    Ok(())
+}
+
 /// 2^k times p(k), where p(0) is 0, p(1) is 1/2, and each further p is 1/2 more than the mean of the two before it.
 fn deviation(k: i64) -> i64 {
     match k {
@@ -139,20 +108,24 @@ fn deviation(k: i64) -> i64 {
 }
 
 #[cfg(test)]
-mod tests {
+pub mod tests {
     use super::*;
 
-    fn course(text: &str, flow: Flow) -> Course {
+    pub fn pair(input: usize, output: usize) -> Who {
+        Who::Pair { input, output }
+    }
+
+    pub fn course(text: &str, flow: Who) -> Course {
         Course::of(&Frame::read(text.as_bytes()).unwrap(), flow).unwrap()
     }
 
-    fn table7(flow: Flow) -> Course {
+    pub fn table7(flow: Who) -> Course {
         course(include_str!("../../../examples/table7.answer"), flow)
     }
 
     #[test]
     fn pair_4_4_of_table_7() {
-        let course = table7(Flow::Pair(4, 4));
+        let course = table7(pair(4, 4));
         assert_eq!((course.load, course.slots, course.halvings()), (2, 4, 2));
         // Half a cell ahead after slot 1, half a cell behind after slot 3.
         assert_eq!(course.heights, [0, 2, 0, -2, 0]);
@@ -164,19 +137,19 @@ mod tests {
 
     #[test]
     fn ports_of_table_7() {
-        let full = table7(Flow::Input(4));
+        let full = table7(Who::Input(4));
         assert_eq!((full.load, full.heights.as_slice()), (4, &[0; 5][..]));
-        let idle = table7(Flow::Input(2));
+        let idle = table7(Who::Input(2));
         assert_eq!((idle.load, idle.heights.as_slice()), (0, &[0; 5][..]));
         assert_eq!(idle.jumps().count(), 0);
-        let output = table7(Flow::Output(1));
+        let output = table7(Who::Output(1));
         assert_eq!((output.load, output.heights), (3, vec![0, 1, 2, 3, 0]));
     }
 
     #[test]
     fn an_output_used_twice_counts_twice() {
         let text = "(frame (ports 2) (slots 2))\n(slot 1)\n(slot 2 (1 1) (2 1))\n";
-        let course = course(text, Flow::Output(1));
+        let course = course(text, Who::Output(1));
         assert_eq!((course.load, course.heights), (2, vec![0, -2, 0]));
     }
 
@@ -185,10 +158,10 @@ mod tests {
         let text = include_str!("../../../examples/table7.answer");
         let frame = Frame::read(text.as_bytes()).unwrap();
         for (flow, part) in [
-            (Flow::Pair(5, 1), "input 5"),
-            (Flow::Pair(1, 5), "output 5"),
-            (Flow::Input(0), "input 0"),
-            (Flow::Output(17), "output 17"),
+            (pair(5, 1), "input 5"),
+            (pair(1, 5), "output 5"),
+            (Who::Input(0), "input 0"),
+            (Who::Output(17), "output 17"),
         ] {
             let what = Course::of(&frame, flow).unwrap_err();
             assert_eq!(
@@ -205,15 +178,15 @@ mod tests {
             assert_eq!(deviation(k), by_hand);
             assert!(6 * by_hand <= (2 * k + 1) << k);
         }
-        assert_eq!(table7(Flow::Pair(4, 4)).bound(), 6);
+        assert_eq!(table7(pair(4, 4)).bound(), 6);
     }
 
     #[test]
     fn every_flow_of_a_full_switch_keeps_within_half_the_bound_from_the_beginning() {
         let text = include_str!("../../../examples/full.answer");
         let frame = Frame::read(text.as_bytes()).unwrap();
-        let pairs = (1..=16).flat_map(|i| (1..=16).map(move |o| Flow::Pair(i, o)));
-        let ports = (1..=16).flat_map(|port| [Flow::Input(port), Flow::Output(port)]);
+        let pairs = (1..=16).flat_map(|i| (1..=16).map(move |o| pair(i, o)));
+        let ports = (1..=16).flat_map(|port| [Who::Input(port), Who::Output(port)]);
         for flow in pairs.chain(ports) {
             let course = Course::of(&frame, flow).unwrap();
             let bound = course.bound();

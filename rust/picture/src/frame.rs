@@ -2,10 +2,9 @@
 
 use std::fmt;
 
-use crate::request::ADVICE;
+use frame_builder::{MAX_PORTS, MAX_SLOTS};
 
-const MOST_PORTS: usize = 16;
-const MOST_SLOTS: usize = 1_024;
+use crate::request::ADVICE;
 
 /// More bytes than the longest frame's text has: sixteen cells of at most 8 bytes in each slot's line.
 pub const LONGEST_TEXT: usize = 262_144;
@@ -71,6 +70,10 @@ impl Frame {
         self.bytes.len() / self.ports
     }
 
+    pub fn bytes(&self) -> &[u8] {
+        &self.bytes
+    }
+
     /// The bytes of each slot in turn.
     pub fn rows(&self) -> impl Iterator<Item = &[u8]> {
         self.bytes.chunks(self.ports)
@@ -103,8 +106,8 @@ fn read_head(line: &str) -> Result<(usize, usize), String> {
         let form = "(frame (ports P) (slots N))";
         return Err(format!("{form} expected, but it is {}", shown(line)));
     };
-    let slots = number_to(slots, "slots", MOST_SLOTS).and_then(power_of_two)?;
-    Ok((number_to(ports, "ports", MOST_PORTS)?, slots))
+    let slots = number_to(slots, "slots", MAX_SLOTS).and_then(power_of_two)?;
+    Ok((number_to(ports, "ports", MAX_PORTS)?, slots))
 }
 
 fn power_of_two(slots: usize) -> Result<usize, String> {

@@ -1,5 +1,5 @@
 //! Draws what the sheet program prints, as SVG 1.1: a frame slot by slot, or how far a pair, an
-//! input or an output is ahead of its share along the frame.
+//! input or an output is ahead of its share along the frame, as Service count says.
 //!
 //! The pictures show what the text says; whether the frame is legal and balanced is Inspect's
 //! question. The same text gives the same picture, byte for byte.
@@ -15,7 +15,7 @@ mod request;
 mod svg;
 
 pub use chart::draw_flow;
-pub use flow::{Course, Flow};
+pub use flow::Course;
 pub use frame::{Fault, Frame, LONGEST_TEXT};
 pub use grid::draw_frame;
 pub use request::{Request, ADVICE, HELP};

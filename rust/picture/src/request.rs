@@ -1,6 +1,7 @@
 //! The words of the command line.
 
-use crate::flow::Flow;
+use frame_builder::Who;
+
 use crate::frame::number;
 
 /// What `--help` prints.
@@ -13,8 +14,8 @@ picture: draws what ./frame prints, as an SVG file on standard output
   ./frame < SHEET | ./picture output O       the same of all cells of output O
   ./picture --help                           prints this
 
-Ahead of its share: after t slots, the cells so far less t x m / 2^k, where m is the cells in the whole frame of 2^k slots. The
-line is level from a slot's end to the next one's.
+Ahead of its share: after t slots, the cells so far less t x m / 2^k, where m is the cells in the whole frame of 2^k slots. That
+is the lead that Service count answers for the first t slots, over 2^k. The line is level from a slot's end to the next one's.
 
 On either side of it is a dashed line, the bound of 2p(k) cells: in no run of slots, of whatever frames that ./frame prints, is a
 flow farther ahead of its share, or behind, and in some run one is just as far. p(0) is 0, p(1) is 1/2, and each further p is 1/2
@@ -25,6 +26,9 @@ Examples:
 
   ./frame < examples/table7.sheet | ./picture frame > docs/table7-frame.svg
   ./frame < examples/table7.sheet | ./picture flow 4 4 > docs/table7-flow.svg
+
+It is built by cargo when it is first run, with the library that has Service count: an installed one, which FRAME_BUILDER_PREFIX
+or pkg-config names, or the one that the Rattle kit proves in this checkout.
 
 A refused sheet, a text of another form, a port that the frame does not have, or an unknown word is an error: a line on standard
 error, exit code 2, nothing on standard output.
@@ -37,7 +41,7 @@ pub const ADVICE: &str = "./picture --help says more";
 #[derive(Debug, Clone, Copy, PartialEq, Eq)]
 pub enum Request {
     Frame,
-    Flow(Flow),
+    Flow(Who),
 }
 
 impl Request {
@@ -46,9 +50,12 @@ impl Request {
         let words: Vec<&str> = words.iter().map(String::as_str).collect();
         let flow = match words[..] {
             ["frame"] => return Ok(Request::Frame),
-            ["flow", input, output] => Flow::Pair(port(input)?, port(output)?),
-            ["input", input] => Flow::Input(port(input)?),
-            ["output", output] => Flow::Output(port(output)?),
+            ["flow", input, output] => Who::Pair {
+                input: port(input)?,
+                output: port(output)?,
+            },
+            ["input", input] => Who::Input(port(input)?),
+            ["output", output] => Who::Output(port(output)?),
             _ => return Err(format!("{}; {ADVICE}", what_is_wrong(&words))),
         };
         Ok(Request::Flow(flow))
@@ -80,6 +87,7 @@ fn port(word: &str) -> Result<usize, String> {
 #[cfg(test)]
 mod tests {
     use super::*;
+    use crate::flow::tests::pair;
 
     fn read(line: &str) -> Result<Request, String> {
         let words: Vec<String> = line.split_whitespace().map(String::from).collect();
@@ -89,9 +97,9 @@ mod tests {
     #[test]
     fn the_four_pictures() {
         assert_eq!(read("frame"), Ok(Request::Frame));
-        assert_eq!(read("flow 4 1"), Ok(Request::Flow(Flow::Pair(4, 1))));
-        assert_eq!(read("input 16"), Ok(Request::Flow(Flow::Input(16))));
-        assert_eq!(read("output 2"), Ok(Request::Flow(Flow::Output(2))));
+        assert_eq!(read("flow 4 1"), Ok(Request::Flow(pair(4, 1))));
+        assert_eq!(read("input 16"), Ok(Request::Flow(Who::Input(16))));
+        assert_eq!(read("output 2"), Ok(Request::Flow(Who::Output(2))));
     }
 
     #[test]

@@ -1,12 +1,16 @@
-use Rattle.numbers.proofs.Threes.{two-of}
+use mathlib.Core.Path.{_≡_}
 use borrow.Author.Needs.{needs}
+use mir.Syntax.{w64}
+use mir.Val.{toZ, ofZ}
+use Rattle.numbers.proofs.Threes.{replied-of}
 use Rattle.exports.proofs.count.Statement.{statement}
 use Rattle.exports.proofs.count.Tie as tie
 
+returns : tie.Need-returns
+returns c =
+    let lead = c .before .of-service .result .lead in
+    let kept : toZ w64 (ofZ w64 lead) ≡ lead = search needs in
+    replied-of (c .before .of-service .ensures) (c .before .before .service-count .ensures) kept
+
 pub count-spec : {M : Type 1} → statement M
-count-spec =
-    tie.close
-    (tie.spec
-    (λ c κs. search needs)
-    (λ c κs. search needs)
-    (λ c. two-of (c .of-service .ensures) (c .before .service-count .ensures)))
+count-spec = tie.close (tie.spec (λ c κs. search needs) (λ c κs. search needs) returns)

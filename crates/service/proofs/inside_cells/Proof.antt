@@ -1,16 +1,22 @@
-use Prim.Native.Nat.{_+_, _*_, _≤_}
+use Prim.Native.Nat.{_+_, _-_, _*_, _≤_}
 use mathlib.Core.Path.{ap, _∙_}
 use native.Mathlib.Omega.{arith}
 use lib.ListN.{length}
 use borrow.Author.Needs.{needs}
 use Rattle.model.specs.Frames.{cells}
-use Rattle.service.proofs.Turns.{part-run, run-inside}
+use Rattle.service.proofs.Turns.{part-run, part-short, run-inside}
 use Rattle.service.proofs.inside_cells.Statement.{statement}
 use Rattle.service.proofs.inside_cells.Tie as tie
 
 -- the run's bytes are within the frame
 inside : (c : tie.After-shared-slice-known) → let a = c .before .args in a .start * a .ports + a .len * a .ports ≤ length (a .frame .now)
 inside c = let a = c .before .args in run-inside (c .before .pre .0) (a .start) (a .len) (c .before .pre .2)
+
+slot-cells-requires : tie.Need-slot-cells-requires
+slot-cells-requires c κs =
+    let a = c .before .before .args in
+    let pre = c .before .before .pre in
+    (pre .0 .ports-most, pre .1, part-short (pre .0) (a .start * a .ports + a .len * a .ports - a .start * a .ports) (a .start * a .ports))
 
 returns : tie.Need-returns
 returns c = c .slot-cells .ensures ∙ ap (cells _ _) (part-run _ _ _ _)
@@ -25,5 +31,5 @@ inside-cells-spec =
     (λ c. search needs)
     (λ c. search needs)
     (λ c. inside c)
-    (λ c κs. search needs)
+    slot-cells-requires
     returns)

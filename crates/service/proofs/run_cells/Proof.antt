@@ -1,43 +1,25 @@
+use Prim.Native.Nat.{_+_, _*_, _/_}
+use mathlib.Core.Path.{_≡_}
 use native.Mathlib.Omega.{arith}
-use native.Mathlib.Nat.{le-trans, div-le-self, mod-lt}
+use native.Mathlib.Nat.{mod-lt}
 use borrow.Author.Needs.{needs}
-use Rattle.service.proofs.Turns.{frame-short, parts-fit, parts-run}
+use Rattle.model.specs.Frames.{cells}
+use Rattle.model.specs.Service.{classOf, repeated}
+use Rattle.service.proofs.Turns.{parts-run, run-fits}
 use Rattle.service.proofs.run_cells.Statement.{statement}
 use Rattle.service.proofs.run_cells.Tie as tie
-
-inside-cells-requires : tie.Need-inside-cells-requires
-inside-cells-requires c κs =
-    let pre = c .before .before .pre in
-    (pre .0, pre .1, omega (arith, pre .2, c .lesser .ensures))
 
 inside-cells-requires-2 : tie.Need-inside-cells-requires-2
 inside-cells-requires-2 c κs =
     let start = c .before .before .before in
-    (start .pre .0, start .pre .1, omega (arith, mod-lt (start .args .len) (start .pre .0 .slot), c .before .lesser .ensures))
-
-turn-cells-requires : tie.Need-turn-cells-requires
-turn-cells-requires c κs =
-    let pre = c .before .before .before .before .pre in
-    (pre .0 .port, pre .1, le-trans (div-le-self _ _) (pre .3), frame-short (pre .0))
-
-add-result : tie.Need-add-result
-add-result c =
-    let start = c .before .before .before .before .before in
-    let fit = parts-fit (start .pre .0) _ _ _ _ _ (start .pre .3) (c .turn-cells .ensures) (c .before .before .inside-cells .ensures) (c .before .inside-cells2 .ensures) in
-    omega (arith, fit)
-
-add-result-2 : tie.Need-add-result-2
-add-result-2 c =
-    let start = c .before .before .before .before .before in
-    let fit = parts-fit (start .pre .0) _ _ _ _ _ (start .pre .3) (c .turn-cells .ensures) (c .before .before .inside-cells .ensures) (c .before .inside-cells2 .ensures) in
-    omega (arith, fit)
+    let asked = start .pre .0 in
+    (asked .framed, asked .ports-are, omega (arith, mod-lt (start .args .len) (asked .framed .slot), c .before .lesser .ensures))
 
 returns : tie.Need-returns
 returns c =
-    let start = c .before .before .before .before .before in
-    let lesser = c .before .before .before .lesser in
-    parts-run (start .pre .0) _ _ _ _ _ (start .pre .2) (lesser .ensures) (c .turn-cells .ensures) (c .before .before .inside-cells .ensures) (c .before .inside-cells2 .ensures)
-    (omega (arith, lesser .ensures))
+    let start = c .before .before .before .before in
+    let lesser = c .before .before .lesser in
+    parts-run (start .pre .0) _ _ (lesser .ensures) (omega (arith, lesser .ensures)) (start .pre .1) (c .before .inside-cells .ensures) (c .inside-cells2 .ensures)
 
 pub run-cells-spec : {M : Type 1} → statement M
 run-cells-spec =
@@ -47,10 +29,10 @@ run-cells-spec =
     (λ c. search needs)
     (λ c κs. search needs)
     (λ c. search needs)
-    inside-cells-requires
+    (λ c κs. search needs)
     inside-cells-requires-2
     (λ c. search needs)
-    turn-cells-requires
-    add-result
-    add-result-2
+    (λ c. omega (arith, run-fits (c .before .before .before .before .pre .0) (returns c)))
+    (λ c. omega (arith, run-fits (c .before .before .before .before .pre .0) (returns c)))
+    (λ c. omega (arith, run-fits (c .before .before .before .before .pre .0) (returns c)))
     returns)

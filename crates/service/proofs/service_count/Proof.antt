@@ -1,7 +1,6 @@
 use borrow.Author.Needs.{needs}
 use Rattle.view.proofs.Checks.{Open, accepted-open, refused-shut}
-use Rattle.service.proofs.Checks.{frame-refused, who-refused, length-refused, run-counted, start-known, length-known}
-use Rattle.service.proofs.Whom.{who-numbered}
+use Rattle.service.proofs.Checks.{asked, frame-refused, who-refused, length-refused, run-counted}
 use Rattle.service.proofs.service_count.Statement.{statement}
 use Rattle.service.proofs.service_count.Tie as tie
 
@@ -21,5 +20,5 @@ service-count-spec =
     (λ c κs. search needs)
     (λ c. search (needs, length-refused, accepted-open))
     (λ c. opened c .slot-least)
-    (λ c κs. (opened c .framed, search (needs, who-numbered), start-known (opened c), search (needs, length-known)))
+    (λ c κs. search (needs, asked, accepted-open))
     (λ c. search (needs, run-counted, accepted-open)))

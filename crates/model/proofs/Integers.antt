@@ -1,0 +1,28 @@
+-- Integers: what a difference of two natural numbers is, on either side of zero.
+use Prim.Native.Nat.{ℕ, suc, zero, _+_, _-_, _≤_}
+use mathlib.Core.Path.{_≡_, ap, _∙_}
+use native.Mathlib.Omega.{arith}
+use lib.IntN.{pos, negsuc, _-ℤ_, natAbs}
+use borrow.Author.Tests.{lt-ltb, le-ltb}
+use Rattle.model.specs.Words.{Near}
+use Rattle.model.proofs.Cases.{byLt}
+
+-- n, where the first is n more
+pub minus-ahead : (a b n : ℕ) → a ≡ b + n → pos a -ℤ pos b ≡ pos n
+minus-ahead a zero n e = ap pos (omega arith)
+minus-ahead a (suc b) n e = rw (le-ltb a (suc b) (omega arith)) (ap pos (omega arith))
+
+-- −(n + 1), which is negsuc n, where it is n + 1 less
+pub minus-behind : (a b n : ℕ) → a + suc n ≡ b → pos a -ℤ pos b ≡ negsuc n
+minus-behind a zero n e = absurd (omega arith)
+minus-behind a (suc b) n e = rw (lt-ltb a (suc b) (omega arith)) (ap negsuc (omega arith))
+
+pub minus-same : (a b : ℕ) → a ≡ b → pos a -ℤ pos b ≡ pos 0
+minus-same a b e = minus-ahead a b 0 (omega arith)
+
+-- no farther from zero than the two are apart
+pub minus-near : (gap a b : ℕ) → Near gap a b → natAbs (pos a -ℤ pos b) ≤ gap
+minus-near gap a b n =
+    let x = n .0 in
+    let y = n .1 in
+    byLt a b (λ l. rw (minus-behind a b (b - suc a) (omega arith)) (omega arith)) (λ l. rw (minus-ahead a b (a - b) (omega arith)) (omega arith))

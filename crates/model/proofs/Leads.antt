@@ -1,0 +1,153 @@
+-- Leads: how far from zero that of a legal and balanced frame can be.
+use Prim.Native.Nat.{ℕ, _+_, _-_, _*_, _/_, _%_, _^_, _≤_, _<_, min}
+use mathlib.Core.Path.{_≡_, refl, sym, ap, _∙_}
+use mathlib.Core.Logic.{_≢_}
+use mathlib.Core.List.{List}
+use mathlib.Core.Bool.{true, not}
+use native.Mathlib.Omega.{arith}
+use native.Mathlib.Nat.{mod-lt, div-add-mod', mul-le-mul-right, zero-add}
+use lib.IntN.{pos, _-ℤ_, natAbs}
+use lib.ListN.{length}
+use lib.Pow.{pow-pos}
+use borrow.Author.Tests.{not-true, not-false}
+use Rattle.model.specs.Words.{within, Near}
+use Rattle.model.specs.Loads.{Class, Of, load}
+use Rattle.model.specs.Frames.{cells, runOf, Legal, Balanced}
+use Rattle.model.specs.Refusals.{clear, bad-ports, bad-slots, bad-frame, bad-slot}
+use Rattle.model.specs.Build.{left}
+use Rattle.model.specs.Service.{classOf, portsWithin, bad-who, repeated, lead, countChecks, service}
+use Rattle.model.specs.Wire.{deviation}
+use Rattle.model.specs.Lead.{Led, BuiltLead, AnsweredLead}
+use Rattle.model.specs.declared.Who.{Who}
+use Rattle.model.specs.declared.Who.the-variants.{Pair, Input, Output}
+use Rattle.model.proofs.Cases.{byBool, byEq, both-true, within-true}
+use Rattle.model.proofs.Cells.{cells-none, cells-run, run-none, run-all}
+use Rattle.model.proofs.Runs.{cells-from, cells-rounds, cells-turns}
+use Rattle.model.proofs.Integers.{minus-near, minus-same}
+use Rattle.model.proofs.Legal.{legal-exact}
+use Rattle.model.proofs.Accuracy.{deviation-most, prefix-sharp}
+use Rattle.model.proofs.Demand2.{build-sound}
+
+-- whole turns are neither ahead nor behind
+pub lead-turns : (c : Class) (ports slots : ℕ) (bytes : List ℕ) → length bytes ≡ slots * ports → 1 ≤ slots → (start w : ℕ)
+    → lead c ports slots bytes start (w * slots) ≡ pos 0
+unfolding lead
+lead-turns c ports slots bytes size h start w =
+    let e : slots * cells c ports (repeated ports slots bytes start (w * slots)) ≡ w * slots * cells c ports bytes
+    = omega (arith, ap (λ z. slots * z) (cells-rounds ports slots bytes size c h start w)) in
+    minus-same _ _ e
+
+-- ---- of a legal and balanced frame
+module _ {ports slots : ℕ} {matrix bytes : List ℕ} (legal : Legal ports slots matrix bytes) (balanced : Balanced ports slots bytes) (c : Class)
+    (of : Of ports c) (k : ℕ) (power : slots ≡ 2 ^ k) where
+  abbrev m : ℕ
+  m = load c ports matrix
+
+  -- the cells of the first t slots, and their bound
+  abbrev front : ℕ → ℕ
+  front t = cells c ports (runOf ports 0 t bytes)
+
+  abbrev FrontNear : ℕ → Type 0
+  FrontNear t = Near (deviation k) (slots * front t) (m * t)
+
+  whole : cells c ports bytes ≡ m
+  whole = legal-exact legal c of
+
+  -- a run inside the frame is what is left of one prefix after another
+  front-more : (start len : ℕ) → start + len ≤ slots → front (start + len) ≡ front start + cells c ports (runOf ports start len bytes)
+  front-more start len h =
+      let l = mul-le-mul-right ports h in
+      rw zero-add at (cells-run ports c 0 start len bytes (omega (arith, legal .size)))
+
+  front-none : front 0 ≡ 0
+  front-none = ap (cells c ports) (run-none ports 0 bytes) ∙ cells-none ports c
+
+  front-all : front slots ≡ m
+  front-all = ap (cells c ports) (run-all ports slots bytes (legal .size)) ∙ whole
+
+  -- what is left of a run after its whole turns: two of its ends are off by a deviation at most, and the others not at all
+  rest-near : (start head tail : ℕ) → start + head ≤ slots → tail ≤ slots → (tail ≢ 0 → start + head ≡ slots)
+      → Near (2 * deviation k) (slots * (cells c ports (runOf ports start head bytes) + front tail)) ((head + tail) * m)
+  rest-near start head tail fits low wraps =
+      let sharp = prefix-sharp legal balanced c of k power in
+      let one = sharp start (omega arith) in
+      let more = ap (λ z. slots * z) (front-more start head fits) in
+      byEq tail 0
+      (λ e.
+      let none : front tail ≡ 0 = ap front e ∙ front-none in
+      let two = sharp (start + head) fits in
+      omega (arith, one .0, one .1, two .0, two .1, more, ap (λ z. slots * z) none, ap (λ z. z * m) e))
+      (λ n.
+      let all : front (start + head) ≡ m = ap front (wraps n) ∙ front-all in
+      let two = sharp tail low in
+      omega (arith, one .0, one .1, two .0, two .1, more, ap (λ z. slots * z) all, ap (λ z. z * m) (wraps n)))
+
+  run-near : (start len : ℕ) → Near (2 * deviation k) (slots * cells c ports (repeated ports slots bytes start len)) (len * m)
+  run-near start len =
+      let h : 1 ≤ slots = omega (arith, power, pow-pos k) in
+      let from = start % slots in
+      let turns = len / slots in
+      let head = min (len % slots) (slots - from) in
+      let tail = len % slots - head in
+      let low : from < slots = mod-lt start h in
+      let short : len % slots < slots = mod-lt len h in
+      let near = rest-near from head tail (omega arith) (omega arith) (λ n. omega arith) in
+      let sum : head + tail ≡ len % slots = omega arith in
+      let parts : cells c ports (repeated ports slots bytes start len) ≡ turns * m + (cells c ports (runOf ports from head bytes) + front tail)
+      = cells-from ports slots bytes (legal .size) c h start len
+      ∙ cells-turns ports slots bytes (legal .size) c from len turns head tail low refl refl sum
+      ∙ ap (λ z. turns * z + (cells c ports (runOf ports from head bytes) + front tail)) whole in
+      let length-is : len ≡ turns * slots + (head + tail) = omega (arith, div-add-mod' len slots) in
+      omega (arith, near .0, near .1, ap (λ z. slots * z) parts, ap (λ z. z * m) length-is)
+
+  pub sound-lead : (start len : ℕ) → Led c ports slots k matrix bytes start len
+  unfolding lead
+  sound-lead start len =
+      let share : len * cells c ports bytes ≡ len * m = ap (λ z. len * z) whole in
+      let near : Near (2 * deviation k) (slots * cells c ports (repeated ports slots bytes start len)) (len * cells c ports bytes)
+      = rw share (run-near start len) in
+      let sharp : natAbs (lead c ports slots bytes start len) ≤ 2 * deviation k
+      = minus-near (2 * deviation k) _ _ near in
+      record {
+        near = omega (arith, sharp, deviation-most k, ap (λ z. (2 * k + 1) * z) power);
+        sharp = sharp;
+        from-share = ap (λ z. pos (slots * cells c ports (repeated ports slots bytes start len)) -ℤ pos z) share;
+        turns = λ w e. rw e (lead-turns c ports slots bytes (legal .size) (omega (arith, power, pow-pos k)) start w);
+      }
+
+-- ---- of what Build leaves
+pub built-lead : BuiltLead
+built-lead ports slots matrix buffer e k power c of =
+    let s = build-sound ports slots matrix buffer e in
+    sound-lead (s .0) (s .1) c of k power
+
+-- ---- of what Service count answers
+-- whom a count that is not refused is for is of the switch
+who-of : (ports : ℕ) (who : Who) → portsWithin ports who ≡ true → Of ports (classOf who)
+who-of ports (Pair i o) e =
+    let b = both-true (within 1 ports i) (within 1 ports o) e in
+    let x = within-true 1 ports i (b .0) in
+    let y = within-true 1 ports o (b .1) in
+    (omega (arith, x .0, x .1), omega (arith, y .0, y .1))
+who-of ports (Input i) e = let x = within-true 1 ports i e in omega (arith, x .0, x .1)
+who-of ports (Output o) e = let x = within-true 1 ports o e in omega (arith, x .0, x .1)
+
+clear-who : (ports slots : ℕ) (bytes : List ℕ) (who : Who) (start len : ℕ) → clear (countChecks ports slots bytes who start len) ≡ true
+    → portsWithin ports who ≡ true
+unfolding countChecks
+clear-who ports slots bytes who start len e =
+    let a = both-true (not (bad-ports ports .0)) _ e in
+    let b = both-true (not (bad-slots slots .0)) _ (a .1) in
+    let c = both-true (not (bad-frame ports slots bytes .0)) _ (b .1) in
+    let d = both-true (not (bad-slot slots start .0)) _ (c .1) in
+    let w = both-true (not (bad-who ports who .0)) _ (d .1) in
+    not-false (portsWithin ports who) (not-true _ (w .0))
+
+pub answered-lead : AnsweredLead
+unfolding service
+answered-lead ports slots matrix buffer e k power who start len =
+    let bytes = left ports slots matrix buffer in
+    byBool (clear (countChecks ports slots bytes who start len))
+    (λ c. let of = who-of ports who (clear-who ports slots bytes who start len c) in
+    rw c (built-lead ports slots matrix buffer e k power (classOf who) of (start - 1) len .near))
+    (λ c. rw c (omega arith))

@@ -1,0 +1,76 @@
+//! How far a lead can be from 0, and what the header says of it.
+
+use reference::wire::deviation;
+use reference::{service_count, Class};
+
+const HEADER: &str = include_str!("../../../include/frame_builder.h");
+
+const PAIR: Class = Class::Pair {
+    input: 1,
+    output: 1,
+};
+const INPUT: Class = Class::Input { port: 1 };
+const OUTPUT: Class = Class::Output { port: 1 };
+
+fn lead(ports: u64, slots: u64, frame: &[u8], class: Class, start: u64, length: u64) -> i64 {
+    let count = service_count(ports, slots, frame, class, start, length);
+    count.expect("the arguments are good").lead
+}
+
+/// The least and the greatest lead of all runs of up to two turns, in all frames whose bytes are 0 and 1.
+fn range(ports: u64, slots: u64, class: Class) -> (i64, i64) {
+    let bytes = 0..ports * slots;
+    let frames = (0_u64..1 << bytes.end).map(|bits| -> Vec<u8> {
+        let bytes = bytes.clone();
+        bytes.map(|place| (bits >> place & 1) as u8).collect()
+    });
+    let runs = || (1..=slots).flat_map(|start| (0..=2 * slots).map(move |length| (start, length)));
+    let leads = frames.flat_map(|frame| {
+        runs().map(move |(start, length)| lead(ports, slots, &frame, class, start, length))
+    });
+    leads.fold((0, 0), |(least, most), lead| {
+        (least.min(lead), most.max(lead))
+    })
+}
+
+/// A run of half the slots that has all of the cells, or none of them, is as far from its share as any.
+#[test]
+fn the_furthest_of_all_frames() {
+    for (ports, slots) in [(1, 1), (1, 2), (1, 4), (1, 8), (2, 2), (2, 4), (4, 2)] {
+        let most = (slots * slots / 4) as i64;
+        let of_output = if slots > 1 { most * ports as i64 } else { 0 };
+        assert_eq!(range(ports, slots, PAIR), (-most, most));
+        assert_eq!(range(ports, slots, INPUT), (-most, most));
+        assert_eq!(range(ports, slots, OUTPUT), (-of_output, of_output));
+    }
+}
+
+#[test]
+fn the_furthest_of_the_largest_frame() {
+    let frame = [[1; 8_192], [0; 8_192]].concat();
+    let lead = |class, start, length| lead(16, 1_024, &frame, class, start, length);
+    assert_eq!(lead(OUTPUT, 1, 512), 4_194_304);
+    assert_eq!(lead(OUTPUT, 513, 512), -4_194_304);
+    assert_eq!(lead(OUTPUT, 513, 999_936), -4_194_304);
+    assert_eq!(lead(INPUT, 1, 512), 262_144);
+    assert_eq!(lead(PAIR, 513, 512), -262_144);
+    assert!(HEADER.contains("the lead, -4,194,304 to 4,194,304\n"));
+}
+
+/// The header's two rows, for a frame that Build made.
+#[test]
+fn the_sharp_bound_in_the_header() {
+    let row = |name: &str| -> Vec<i128> {
+        let words = HEADER.lines().map(|line| line.split_whitespace());
+        let mut rows = words.filter_map(|mut words| {
+            let named = words.next() == Some("*") && words.next() == Some(name);
+            let numbers = words.map(|word| word.replace(',', "").parse().ok());
+            numbers.collect::<Option<_>>().filter(|_| named)
+        });
+        rows.next().expect("the header has the row")
+    };
+    let slots: Vec<i128> = (0..=10).map(|k| 1 << k).collect();
+    let bounds: Vec<i128> = (0..=10).map(|k| 2 * deviation(k)).collect();
+    assert_eq!(row("slots"), slots);
+    assert_eq!(row("|lead|"), bounds);
+}

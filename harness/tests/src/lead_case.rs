@@ -1,0 +1,124 @@
+//! Cases of the lead: in a frame that the candidate built, the runs that stray furthest from their share.
+
+use calls::{Calls, Class, Count, Service};
+use loads::{load_of_shape, random_shape, Call, Flow, LoadKind, Random, Shape};
+use reference::wire::{deviation, Course, Run};
+use reference::LONGEST_RUN;
+
+use crate::build_case::{lend_bytes, wire_frame};
+use crate::chain_case::{straying_flow, straying_load};
+use crate::hits::{Hits, LEAD_REACHED};
+use crate::lent::Lent;
+use crate::share_case::class_of;
+use crate::verdict::{expect, expect_equal, Verdict};
+
+/// The slots that a case looks at, all its classes together.
+const SLOTS: usize = 8_192;
+
+/// A frame that the candidate built, to be counted by it.
+struct Built<'b> {
+    candidate: &'b dyn Calls,
+    call: &'b Call,
+    frame: &'b Lent<u8>,
+}
+
+/// Builds a load that fits, and counts the pairs, inputs and outputs of its frame.
+pub fn check_leads(candidate: &dyn Calls, random: &mut Random, hits: &mut Hits) -> Verdict {
+    let shape = random_shape(random);
+    let flow = straying_flow(shape, random);
+    let call = match flow {
+        Some(flow) => straying_load(flow, shape, random),
+        None => load_of_shape(random.pick(&LoadKind::FITTING), shape, random),
+    };
+    let mut frame = lend_bytes(&random.bytes(call.frame_length), random);
+    let answer = candidate.build(call.ports, call.slots, &call.matrix, frame.part_mut());
+    expect_equal("build", &answer, &Ok(()))?;
+    hits.add(format!("leads of a frame of {} slots", call.slots));
+    let before = frame.clone();
+    let built = Built {
+        candidate,
+        call: &call,
+        frame: &frame,
+    };
+    let turns = vec![wire_frame(&call, frame.part()); 2];
+    for class in classes_of(shape, flow, random) {
+        built.check(class, &Course::of(&turns, class), random, hits)?;
+    }
+    frame.expect_same("frame after counts", &before)
+}
+
+/// Every pair, input and output in random order, the flow of the seam first; fewer where the frame is long.
+fn classes_of(shape: Shape, flow: Option<Flow>, random: &mut Random) -> Vec<Class> {
+    let ports = 1..=shape.ports as u64;
+    let pairs = ports.clone().flat_map(|input| {
+        let outputs = ports.clone();
+        outputs.map(move |output| Class::Pair { input, output })
+    });
+    let of_ports = ports
+        .clone()
+        .flat_map(|port| [Class::Input { port }, Class::Output { port }]);
+    let mut classes: Vec<Class> = pairs.chain(of_ports).collect();
+    random.shuffle(&mut classes);
+    let straying = flow.map(class_of).into_iter();
+    straying.chain(classes).take(SLOTS / shape.slots).collect()
+}
+
+impl Built<'_> {
+    fn count(&self, class: Class, start: u64, length: u64) -> Service {
+        let Call { ports, slots, .. } = *self.call;
+        let bytes = self.frame.part();
+        self.candidate
+            .service_count(ports, slots, bytes, class, start, length)
+    }
+
+    /// Holds a whole turn to the load, and the runs that get furthest ahead and fall furthest behind to the bounds; the
+    /// course is that of two turns, so that runs across the end of the frame are in it.
+    fn check(
+        &self,
+        class: Class,
+        course: &Course,
+        random: &mut Random,
+        hits: &mut Hits,
+    ) -> Verdict {
+        let reserved = Count {
+            cells: course.given[0].load,
+            lead: 0,
+        };
+        let start = random.between(1, course.slots);
+        let turn = self.count(class, start, course.slots);
+        expect_equal("count of a whole turn", &turn, &Ok(reserved))?;
+        for run in [course.furthest_ahead(), course.furthest_behind()] {
+            self.check_run(class, course, run, random)?;
+            let lead = course.lead(run).abs();
+            hits.stray(course.k(), lead);
+            if lead >= deviation(course.k()) {
+                hits.add_at(LEAD_REACHED, course.k());
+            }
+        }
+        Ok(())
+    }
+
+    /// Holds the lead of a run to the reference and to the bounds, then the same run after whole turns.
+    fn check_run(&self, class: Class, course: &Course, run: Run, random: &mut Random) -> Verdict {
+        let Call { ports, slots, .. } = *self.call;
+        let start = run.start as u64 % slots + 1;
+        let length = run.length as u64;
+        let given = self.count(class, start, length);
+        let bytes = self.frame.part();
+        let right = reference::service_count(ports, slots, bytes, class, start, length);
+        let what = format!("count of {class:?}, {length} slots from {start}");
+        expect_equal(&what, &given, &right)?;
+        let Count { cells, lead } = given.map_err(|refusal| format!("{what}: {refusal:?}"))?;
+        expect_equal(&what, &i128::from(lead), &course.lead(run))?;
+        expect(course.has_its_share(run), || {
+            format!("{what}: a lead of {lead} is too far from 0")
+        })?;
+        let turns = random.between(0, (LONGEST_RUN - length) / slots);
+        let later = Count {
+            cells: cells + turns * course.given[0].load,
+            lead,
+        };
+        let given = self.count(class, start, length + turns * slots);
+        expect_equal(&format!("{what} and {turns} turns"), &given, &Ok(later))
+    }
+}
