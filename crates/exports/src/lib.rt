@@ -116,16 +116,8 @@ pub extern "C" fn frame_builder_count_input(
 ) -> usize
     ensures { λ r. ⌜ Replied (service ports slots (now (frame .entry)) (Who.Input input) start len) r (now (cells .exit)) (now (lead .exit)) ⌝ }
 {
-    count(
-        ports,
-        slots,
-        frame,
-        Who::Input(input),
-        start,
-        len,
-        cells,
-        lead,
-    )
+    let from = Who::Input(input);
+    count(ports, slots, frame, from, start, len, cells, lead)
 }
 
 // Service count for an output.
@@ -142,16 +134,8 @@ pub extern "C" fn frame_builder_count_output(
 ) -> usize
     ensures { λ r. ⌜ Replied (service ports slots (now (frame .entry)) (Who.Output output) start len) r (now (cells .exit)) (now (lead .exit)) ⌝ }
 {
-    count(
-        ports,
-        slots,
-        frame,
-        Who::Output(output),
-        start,
-        len,
-        cells,
-        lead,
-    )
+    let to = Who::Output(output);
+    count(ports, slots, frame, to, start, len, cells, lead)
 }
 
 // Slot view: where in the frame the part begins, and how many bytes it has, stand in for the part itself.
