@@ -194,7 +194,7 @@ size_t frame_builder_slot_view(size_t ports, size_t slots, const uint8_t *frame,
  * Its unit is 1/slots of a cell: divided by slots, it is how many cells the run has had above its share, and it is negative where the run
  * is behind. Length 0 and whole turns of the frame have lead 0, so that a whole turn more or less leaves the lead as it is. Whatever the
  * bytes, |lead| is at most slots x slots / 4 for a pair or an input, and ports times as much for an output, to which every input may send
- * in the same slot.
+ * in the same slot; this follows from what the lead is, and is no theorem of its own.
  *
  * For a frame that Build made, counted with the ports and slots that Build was given, 3 x |lead| <= (2k + 1) x slots, where slots are 2^k,
  * and |lead| is at most what stands here. Both are proved, for every pair, input and output and every run.

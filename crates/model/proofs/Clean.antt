@@ -14,11 +14,13 @@ use Rattle.model.specs.Refusals.{Check, report}
 use Rattle.model.specs.Build.{buildAccepts, left}
 use Rattle.model.specs.Inspect.{byteTooLarge, outputTwice, pairCount, unbalancedBlock, inspected}
 use Rattle.model.specs.Wire.{Carried, share, Shape, Accurate, SharpOn}
+use Rattle.model.specs.Lead.{Led}
 use Rattle.model.specs.Queue.{HeldOn}
 use Rattle.model.proofs.Cases.{byBool}
 use Rattle.model.proofs.Reports.{report-found, report-on}
 use Rattle.model.proofs.Demand2.{WellFormed, past-frame, accepts-is, build-sound}
 use Rattle.model.proofs.Demand3.{Sound, sound-sharp, sound-accurate}
+use Rattle.model.proofs.Leads.{sound-lead}
 use Rattle.model.proofs.Queues.{sound-held}
 use Rattle.model.proofs.Answers.{Throughout, ByteLow, OutputOnce, CountRight, Finds, byte-101, output-102, pair-103, block-104, clean-0}
 use Rattle.model.proofs.Faults.{bytes-search, outputs-search, counts-search, block-tells, block-reported, byBlock, place-of}
@@ -135,7 +137,14 @@ clean-sharp ports k frames clean shape = sound-sharp ports k frames (all-sound f
 pub clean-accurate : (ports k : ℕ) (frames : List Carried) → Every Inspected frames → Every (Shape ports (2 ^ k)) frames → Accurate ports k frames
 clean-accurate ports k frames clean shape = sound-accurate ports k frames (all-sound frames clean) shape
 
--- and hold a flow that keeps to its share.
+-- and hold a flow that keeps to its share;
 pub clean-held : (ports k : ℕ) (frames : List Carried) → Every Inspected frames → Every (Shape ports (2 ^ k)) frames → (c : Class) → Of ports c
     → HeldOn c ports k frames (share c 0 frames)
 clean-held ports k frames clean shape c of = sound-held ports k frames (all-sound frames clean) shape c of
+
+-- one of them that repeats for ever has the leads of a built frame.
+pub clean-lead : (f : Carried) → Inspected f → (k : ℕ) → f .call .slots ≡ 2 ^ k → (c : Class) → Of (f .call .ports) c → (start len : ℕ)
+    → Led c (f .call .ports) (f .call .slots) k (f .call .matrix) (f .bytes) start len
+clean-lead f h k power c of =
+    let s = clean-sound (f .call .ports) (f .call .slots) (f .call .matrix) (f .bytes) (h .well) (h .size) (h .clean) in
+    sound-lead (s .0) (s .1) c of k power
