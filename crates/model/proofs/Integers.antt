@@ -2,7 +2,9 @@
 use Prim.Native.Nat.{ℕ, suc, zero, _+_, _-_, _≤_}
 use mathlib.Core.Path.{_≡_, ap, _∙_}
 use native.Mathlib.Omega.{arith}
-use lib.IntN.{pos, negsuc, _-ℤ_, natAbs}
+use lib.Dec.{leb→le}
+use lib.IntN.{pos, negsuc, negℤ, _-ℤ_, natAbs}
+use lib.Signed.{_≤ℤ_}
 use borrow.Author.Tests.{lt-ltb, le-ltb}
 use Rattle.model.specs.Words.{Near}
 use Rattle.model.proofs.Cases.{byLt}
@@ -26,3 +28,14 @@ minus-near gap a b n =
     let x = n .0 in
     let y = n .1 in
     byLt a b (λ l. rw (minus-behind a b (b - suc a) (omega arith)) (omega arith)) (λ l. rw (minus-ahead a b (a - b) (omega arith)) (omega arith))
+
+-- not below −gap: the first is at most gap less
+below : (gap n : ℕ) → negℤ (pos gap) ≤ℤ negsuc n → suc n ≤ gap
+below zero n h = absurd (h .le)
+below (suc gap) n h = let l = leb→le n gap (h .le) in omega arith
+
+pub minus-least : (gap a b : ℕ) → negℤ (pos gap) ≤ℤ (pos a -ℤ pos b) → b ≤ a + gap
+minus-least gap a b h =
+    byLt a b
+    (λ l. let far = below gap (b - suc a) (rw (minus-behind a b (b - suc a) (omega arith)) at h) in omega arith)
+    (λ l. omega arith)

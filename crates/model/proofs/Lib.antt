@@ -23,10 +23,10 @@ pub mod Demand3
 pub mod Tight
 pub mod OneInput
 pub mod Reached
-pub mod Queues
-pub mod Rows
 pub mod Runs
 pub mod Integers
+pub mod Queues
+pub mod Rows
 pub mod Leads
 pub mod Inspected
 pub mod Answers

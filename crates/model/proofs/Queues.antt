@@ -5,14 +5,19 @@ use mathlib.Core.List.{List, [], _∷_}
 use native.Mathlib.Nat.{mul-le-mul-right, mul-le-mul-left}
 use native.Mathlib.Omega.{arith}
 use native.Mathlib.Decide.{decLe}
+use lib.IntN.{pos, negℤ}
 use lib.ListN.{length}
+use lib.Signed.{_≤ℤ_}
 use Rattle.model.specs.Words.{sumTo, Every}
 use Rattle.model.specs.Loads.{Class, Of, load}
 use Rattle.model.specs.Frames.{cells, runOf}
+use Rattle.model.specs.Service.{repeated, lead}
 use Rattle.model.specs.Wire.{Carried, none, chain, wire, inside, share, Shape, deviation}
-use Rattle.model.specs.Queue.{waiting, scheduledOn, arrived, Paced, HeldOn, Buffers, BuffersAtSeams}
-use Rattle.model.proofs.Sums.{sum-more}
+use Rattle.model.specs.Queue.{waiting, scheduledOn, arrived, Paced, HeldOn, Buffers, BuffersAtSeams, BuffersByLead}
+use Rattle.model.proofs.Sums.{sum-more, sum-ext}
 use Rattle.model.proofs.Cells.{cells-none, cells-run, run-none}
+use Rattle.model.proofs.Runs.{cells-repeated, cells-once}
+use Rattle.model.proofs.Integers.{minus-least}
 use Rattle.model.proofs.Demand3.{Sound, Good, good-of, wire-length, share-split, run-sharp, chain-sound}
 
 -- ---- the run since the queue was last empty: what waits now arrived in it and has not left
@@ -160,3 +165,52 @@ buffers buffer calls ports k = sound-steady ports k (chain none buffer calls) (c
 
 pub buffers-at-seams : BuffersAtSeams
 buffers-at-seams buffer calls ports k = sound-held ports k (chain none buffer calls) (chain-sound none buffer calls tt)
+
+-- ---- one frame that repeats for ever
+module _ (c : Class) (ports slots : ℕ) (bytes : List ℕ) (size : length bytes ≡ slots * ports) (least : 1 ≤ slots) where
+  -- the cells that it schedules in slot t
+  abbrev inTurn : ℕ → ℕ
+  inTurn t = cells c ports (repeated ports slots bytes t 1)
+
+  turns-served : (start len : ℕ) → arrived inTurn start len ≡ cells c ports (repeated ports slots bytes start len)
+  unfolding arrived
+  turns-served start len =
+      sum-ext len _ _ (λ t l. cells-once ports slots bytes size c least (start + t)) ∙ sym (cells-repeated ports slots bytes size c least start len)
+
+  module _ (b : ℕ) (leads : (start len : ℕ) → negℤ (pos b) ≤ℤ lead c ports slots bytes start len) (a : ℕ) (arrive : ℕ → ℕ)
+      (paced : (start len : ℕ) → slots * arrived arrive start len ≤ len * cells c ports bytes + a) (t : ℕ) (s : Since arrive inTurn t) where
+    not-behind : (start len : ℕ) → len * cells c ports bytes ≤ slots * cells c ports (repeated ports slots bytes start len) + b
+    unfolding lead
+    not-behind start len = minus-least b _ _ (leads start len)
+
+    left-waiting : slots * waiting arrive inTurn t ≤ a + b
+    left-waiting =
+        omega (
+          arith,
+          paced (s .start) (s .len),
+          not-behind (s .start) (s .len),
+          mul-le-mul-left slots (s .waits),
+          ap (λ x. slots * x) (turns-served (s .start) (s .len)),
+        )
+
+    joined-waiting : slots * (waiting arrive inTurn t + arrive t) ≤ a + b + cells c ports bytes
+    joined-waiting =
+        let last : arrived arrive (s .start) (s .len + 1) ≡ arrived arrive (s .start) (s .len) + arrive t
+        = arrived-more arrive (s .start) (s .len) ∙ ap (λ z. arrived arrive (s .start) (s .len) + arrive z) (s .ends) in
+        omega (
+          arith,
+          paced (s .start) (s .len + 1),
+          not-behind (s .start) (s .len),
+          mul-le-mul-left slots (s .waits),
+          ap (λ x. slots * x) (turns-served (s .start) (s .len)),
+          ap (λ x. slots * x) last,
+        )
+
+-- How deep a buffer to order while one frame repeats.
+pub buffers-by-lead : BuffersByLead
+buffers-by-lead c ports slots bytes size least b leads a arrive paced t =
+    let s = since arrive (inTurn c ports slots bytes size least) in
+    record {
+      after = left-waiting c ports slots bytes size least b leads a arrive paced (suc t) (s (suc t));
+      before = joined-waiting c ports slots bytes size least b leads a arrive paced t (s t);
+    }

@@ -113,6 +113,10 @@ module _ (ports slots : ℕ) (bytes : List ℕ) (size : length bytes ≡ slots *
       cells-append ports c 1 (runOf ports (start % slots) 1 bytes) (repeated ports slots bytes (suc start) len) (run-length ports (start % slots) 1 bytes (run-ends (start % slots) 1 (omega arith)))
       ∙ omega (arith, cells-repeated c h (suc start) len, one, rest, sum-append 1 len f, ap (λ z. sumTo z f) e)
 
+  pub cells-once : (c : Class) → 1 ≤ slots → (t : ℕ) → cells c ports (repeated ports slots bytes t 1) ≡ inSlot c (t % slots)
+  cells-once c h t =
+      cells-repeated c h t 1 ∙ sum-single (λ x. inSlot c ((t + x) % slots)) ∙ ap (λ z. inSlot c (z % slots)) (omega arith)
+
   -- where in the frame a run starts is all that its start says
   pub cells-from : (c : Class) → 1 ≤ slots → (start len : ℕ)
       → cells c ports (repeated ports slots bytes start len) ≡ cells c ports (repeated ports slots bytes (start % slots) len)

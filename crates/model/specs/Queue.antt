@@ -2,10 +2,13 @@
 use Prim.Native.Nat.{ℕ, suc, zero, _+_, _*_, _-_, _^_, _≤_, _<_}
 use mathlib.Core.Path.{_≡_}
 use mathlib.Core.List.{List}
+use lib.IntN.{pos, negℤ}
 use lib.ListN.{length}
+use lib.Signed.{_≤ℤ_}
 use Rattle.model.specs.Words.{sumTo, Every}
 use Rattle.model.specs.Loads.{Class, Of, load}
 use Rattle.model.specs.Frames.{cells, runOf}
+use Rattle.model.specs.Service.{repeated, lead}
 use Rattle.model.specs.Wire.{Call, Carried, none, chain, wire, share, Shape, deviation}
 
 -- How many cells wait after the first t slots. The cells that arrive in a slot join before that slot's cell leaves, and a
@@ -52,3 +55,18 @@ abbrev pub BuffersAtSeams : Type 0
 BuffersAtSeams =
     (buffer : List ℕ) (calls : List Call) (ports k : ℕ) → Every (Shape ports (2 ^ k)) (chain none buffer calls)
     → (c : Class) → Of ports c → HeldOn c ports k (chain none buffer calls) (share c 0 (chain none buffer calls))
+
+-- What waits on one frame that repeats for ever, of any bytes, by the frame's own leads: after a slot at most a + b parts of
+-- 1 / slots of a cell, and just before its cell leaves at most the cells of a frame more.
+pub record HeldBy (c : Class) (ports slots : ℕ) (bytes : List ℕ) (a b : ℕ) (arrive : ℕ → ℕ) (t : ℕ) : Type 0 where
+  pub after : slots * waiting arrive (λ s. cells c ports (repeated ports slots bytes s 1)) (suc t) ≤ a + b
+  pub before : slots * (waiting arrive (λ s. cells c ports (repeated ports slots bytes s 1)) t + arrive t) ≤ a + b + cells c ports bytes
+
+-- How deep a buffer to order while one frame repeats: no run's lead is below −b, and in no run do more cells arrive than its
+-- share of what the frame holds and an allowance a.
+abbrev pub BuffersByLead : Type 0
+BuffersByLead =
+    (c : Class) (ports slots : ℕ) (bytes : List ℕ) → length bytes ≡ slots * ports → 1 ≤ slots
+    → (b : ℕ) → ((start len : ℕ) → negℤ (pos b) ≤ℤ lead c ports slots bytes start len)
+    → (a : ℕ) (arrive : ℕ → ℕ) → ((start len : ℕ) → slots * arrived arrive start len ≤ len * cells c ports bytes + a)
+    → (t : ℕ) → HeldBy c ports slots bytes a b arrive t
