@@ -2,6 +2,7 @@
 
 use calls::{Calls, Class, Count, Service};
 use loads::{load_of_shape, random_shape, Call, Flow, LoadKind, Random, Shape};
+use reference::queue::{pass, Source};
 use reference::wire::{deviation, Course, Run};
 use reference::LONGEST_RUN;
 
@@ -95,7 +96,7 @@ impl Built<'_> {
                 hits.add_at(LEAD_REACHED, course.k());
             }
         }
-        Ok(())
+        check_queue(course, class, random)
     }
 
     /// Holds the lead of a run to the reference and to the bounds, then the same run after whole turns.
@@ -121,4 +122,20 @@ impl Built<'_> {
         let given = self.count(class, start, length + turns * slots);
         expect_equal(&format!("{what} and {turns} turns"), &given, &Ok(later))
     }
+}
+
+/// Runs the queue of a class that is fed as fast as it may be while the frame repeats: no more waits than the source's
+/// allowance and the lead that is furthest behind.
+fn check_queue(course: &Course, class: Class, random: &mut Random) -> Verdict {
+    let behind = course.furthest_behind();
+    let source = Source {
+        from: behind.start,
+        ahead: random.between(0, 2 * course.slots),
+    };
+    let passed = pass(course, &source.arrivals(course));
+    let waiting = i128::from(course.slots * passed.waiting);
+    let allowed = i128::from(source.ahead) - course.lead(behind);
+    expect(waiting <= allowed, || {
+        format!("the queue of {class:?}, fed by {source:?}, has {waiting} parts, and {allowed} are allowed")
+    })
 }
