@@ -6,6 +6,7 @@ use reference::wire::{demanded, deviation, Course, Frame};
 use reference::{build, Class};
 
 const TEXT: &str = include_str!("../../../docs/BUFFERS.md");
+const LEAD_OUTPUT: &str = include_str!("../../../examples/lead.output");
 
 /// a + 2p(k) + m/2^k in whole cells, where `ahead` is a in parts of 1/2^k.
 fn sharp_cells(k: u32, ahead: u64, m: u64) -> u64 {
@@ -187,4 +188,14 @@ fn a_bunched_frame_stands_too_deep() {
     let class = Class::Input { port: 1 };
     let depth = depth_on(&[frame], class, Source { from: 8, ahead: 16 });
     assert!(depth.after > 0 && depth.before > 0, "{depth:?}");
+}
+
+/// What the example of the lead prints, which the tests of the C interface compare with what it does print.
+#[test]
+fn the_lead_of_the_studio_sheet() {
+    let printed: String = LEAD_OUTPUT
+        .lines()
+        .map(|line| format!("    {line}\n"))
+        .collect();
+    assert!(TEXT.contains(&format!("\n\n{printed}\n")));
 }

@@ -74,3 +74,54 @@ fn the_sharp_bound_in_the_header() {
     assert_eq!(row("slots"), slots);
     assert_eq!(row("|lead|"), bounds);
 }
+
+/// How far the leads of the runs of one flow can go, the flow's cells halved evenly in whatever way.
+#[derive(Clone, Copy)]
+struct Reach {
+    /// The greatest lead of the first slots of a block, none too.
+    above: i128,
+    /// The least.
+    below: i128,
+    /// The greatest distance from 0 of any run of the block.
+    widest: i128,
+}
+
+/// The reach of a block of 2^j slots with so many cells, in a frame of 2^k slots with m.
+fn reach(k: u32, m: i128, j: u32, cells: i128) -> Reach {
+    if j == 0 {
+        let lead = (cells << k) - m;
+        return Reach {
+            above: lead.max(0),
+            below: lead.min(0),
+            widest: lead.abs(),
+        };
+    }
+    let less = cells / 2;
+    let halved = |first: i128| {
+        let one = reach(k, m, j - 1, first);
+        let two = reach(k, m, j - 1, cells - first);
+        let middle = (first << k) - (m << (j - 1));
+        let across = (one.above - middle - two.below).max(middle + two.above - one.below);
+        Reach {
+            above: one.above.max(middle + two.above),
+            below: one.below.min(middle + two.below),
+            widest: one.widest.max(two.widest).max(across),
+        }
+    };
+    let (one, two) = (halved(less), halved(cells - less));
+    Reach {
+        above: one.above.max(two.above),
+        below: one.below.min(two.below),
+        widest: one.widest.max(two.widest),
+    }
+}
+
+/// In one frame that repeats, a flow's lead does not come to the sharp bound, which is reached at the seam of two frames: it comes
+/// to twice that of a frame with half the slots, and no further.
+#[test]
+fn the_furthest_of_one_flow_halved_evenly() {
+    for k in 2..=7 {
+        let widest = (0..=1 << k).map(|m| reach(k, m, k, m).widest);
+        assert_eq!(widest.max(), Some(4 * deviation(k - 1)));
+    }
+}
