@@ -55,7 +55,7 @@ static void make_call(void)
 {
     size_t ports = asked.ports, slots = asked.slots, matrix_length = asked.matrix_length, frame_length = asked.frame_length;
     size_t slot = asked.slot, length = asked.length, port = asked.port, first, second;
-    int64_t lead;
+    static int64_t lead; /* so that what is measured of the other calls does not grow with it */
     const uint16_t *matrix = asked.matrix;
     uint8_t *frame = asked.frame;
     top = __builtin_frame_address(0);
