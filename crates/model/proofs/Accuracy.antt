@@ -77,7 +77,7 @@ module _ {ports slots : ℕ} {matrix bytes : List ℕ} (legal : Legal ports slot
   abbrev pub before : ℕ → ℕ
   before t = cells c ports (runOf ports 0 t bytes)
 
-  before-more : (t n : ℕ) → t ≤ slots → before (t + n) ≡ before t + cells c ports (runOf ports t n bytes)
+  pub before-more : (t n : ℕ) → t ≤ slots → before (t + n) ≡ before t + cells c ports (runOf ports t n bytes)
   before-more t n h =
       let k = mul-le-mul-right ports h in
       rw zero-add at (cells-run ports c 0 t n bytes (omega (arith, legal .size)))
@@ -88,10 +88,10 @@ module _ {ports slots : ℕ} {matrix bytes : List ℕ} (legal : Legal ports slot
       let n = balanced c of start half b in
       omega (arith, before-more start half (omega arith), before-more (start + half) half (omega arith))
 
-  before-all : before slots ≡ load c ports matrix
+  pub before-all : before slots ≡ load c ports matrix
   before-all = ap (cells c ports) (run-all ports slots bytes (legal .size)) ∙ legal-exact legal c of
 
-  before-none : before 0 ≡ 0
+  pub before-none : before 0 ≡ 0
   before-none = ap (cells c ports) (run-none ports 0 bytes) ∙ cells-none ports c
 
   -- the first t slots of a frame of 2 ^ k are off by at most the deviation

@@ -1,6 +1,6 @@
 -- Integers: what a difference of two natural numbers is, on either side of zero.
 use Prim.Native.Nat.{ℕ, suc, zero, _+_, _-_, _≤_}
-use mathlib.Core.Path.{_≡_, ap, _∙_}
+use mathlib.Core.Path.{_≡_, ap}
 use native.Mathlib.Omega.{arith}
 use lib.Dec.{leb→le}
 use lib.IntN.{pos, negsuc, negℤ, _-ℤ_, natAbs}

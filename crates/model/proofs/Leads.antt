@@ -1,11 +1,11 @@
 -- Leads: how far from zero that of a legal and balanced frame can be.
 use Prim.Native.Nat.{ℕ, _+_, _-_, _*_, _/_, _%_, _^_, _≤_, _<_, min}
-use mathlib.Core.Path.{_≡_, refl, sym, ap, _∙_}
+use mathlib.Core.Path.{_≡_, refl, ap, _∙_}
 use mathlib.Core.Logic.{_≢_}
 use mathlib.Core.List.{List}
 use mathlib.Core.Bool.{true, not}
 use native.Mathlib.Omega.{arith}
-use native.Mathlib.Nat.{mod-lt, div-add-mod', mul-le-mul-right, zero-add}
+use native.Mathlib.Nat.{mod-lt, div-add-mod'}
 use lib.IntN.{pos, _-ℤ_, natAbs}
 use lib.ListN.{length}
 use lib.Pow.{pow-pos}
@@ -21,11 +21,10 @@ use Rattle.model.specs.Lead.{Led, BuiltLead, AnsweredLead}
 use Rattle.model.specs.declared.Who.{Who}
 use Rattle.model.specs.declared.Who.the-variants.{Pair, Input, Output}
 use Rattle.model.proofs.Cases.{byBool, byEq, both-true, within-true}
-use Rattle.model.proofs.Cells.{cells-none, cells-run, run-none, run-all}
 use Rattle.model.proofs.Runs.{cells-from, cells-rounds, cells-turns}
 use Rattle.model.proofs.Integers.{minus-near, minus-same}
 use Rattle.model.proofs.Legal.{legal-exact}
-use Rattle.model.proofs.Accuracy.{deviation-most, prefix-sharp}
+use Rattle.model.proofs.Accuracy.{deviation-most, before, before-more, before-all, before-none, prefix-sharp}
 use Rattle.model.proofs.Demand2.{build-sound}
 
 -- whole turns are neither ahead nor behind
@@ -43,27 +42,12 @@ module _ {ports slots : ℕ} {matrix bytes : List ℕ} (legal : Legal ports slot
   abbrev m : ℕ
   m = load c ports matrix
 
-  -- the cells of the first t slots, and their bound
-  abbrev front : ℕ → ℕ
-  front t = cells c ports (runOf ports 0 t bytes)
-
-  abbrev FrontNear : ℕ → Type 0
-  FrontNear t = Near (deviation k) (slots * front t) (m * t)
-
   whole : cells c ports bytes ≡ m
   whole = legal-exact legal c of
 
-  -- a run inside the frame is what is left of one prefix after another
-  front-more : (start len : ℕ) → start + len ≤ slots → front (start + len) ≡ front start + cells c ports (runOf ports start len bytes)
-  front-more start len h =
-      let l = mul-le-mul-right ports h in
-      rw zero-add at (cells-run ports c 0 start len bytes (omega (arith, legal .size)))
-
-  front-none : front 0 ≡ 0
-  front-none = ap (cells c ports) (run-none ports 0 bytes) ∙ cells-none ports c
-
-  front-all : front slots ≡ m
-  front-all = ap (cells c ports) (run-all ports slots bytes (legal .size)) ∙ whole
+  -- the cells of the first t slots
+  abbrev front : ℕ → ℕ
+  front = before legal balanced c of
 
   -- what is left of a run after its whole turns: two of its ends are off by a deviation at most, and the others not at all
   rest-near : (start head tail : ℕ) → start + head ≤ slots → tail ≤ slots → (tail ≢ 0 → start + head ≡ slots)
@@ -71,14 +55,14 @@ module _ {ports slots : ℕ} {matrix bytes : List ℕ} (legal : Legal ports slot
   rest-near start head tail fits low wraps =
       let sharp = prefix-sharp legal balanced c of k power in
       let one = sharp start (omega arith) in
-      let more = ap (λ z. slots * z) (front-more start head fits) in
+      let more = ap (λ z. slots * z) (before-more legal balanced c of start head (omega arith)) in
       byEq tail 0
       (λ e.
-      let none : front tail ≡ 0 = ap front e ∙ front-none in
+      let none : front tail ≡ 0 = ap front e ∙ before-none legal balanced c of in
       let two = sharp (start + head) fits in
       omega (arith, one .0, one .1, two .0, two .1, more, ap (λ z. slots * z) none, ap (λ z. z * m) e))
       (λ n.
-      let all : front (start + head) ≡ m = ap front (wraps n) ∙ front-all in
+      let all : front (start + head) ≡ m = ap front (wraps n) ∙ before-all legal balanced c of in
       let two = sharp tail low in
       omega (arith, one .0, one .1, two .0, two .1, more, ap (λ z. slots * z) all, ap (λ z. z * m) (wraps n)))
 

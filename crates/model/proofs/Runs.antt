@@ -5,7 +5,7 @@ use mathlib.Core.List.{List}
 use mathlib.Core.Bool.{Bool}
 use native.Mathlib.Omega.{arith}
 use native.Mathlib.Nat.{mod-eq-of-lt, add-mul-mod-self-right, mul-le-mul-right, div-add-mod', add-mod-left, mod-add-mod, mod-lt}
-use lib.ListN.{length, length-append, getD, take, drop, length-take, length-drop}
+use lib.ListN.{length, length-append, getD, drop, length-take}
 use Rattle.model.specs.Words.{bit, sumTo}
 use Rattle.model.specs.Loads.{Class}
 use Rattle.model.specs.Frames.{counts, cells, runOf}
@@ -51,12 +51,6 @@ sum-bits (suc n) t =
 pub cells-most : (c : Class) (ports : ℕ) (bytes : List ℕ) → cells c ports bytes ≤ length bytes
 unfolding cells
 cells-most c ports bytes = sum-bits (length bytes) (λ q. counts c (q % ports) (getD bytes q 0))
-
-pub run-most : (c : Class) (ports start len : ℕ) (bytes : List ℕ) → cells c ports (runOf ports start len bytes) ≤ length bytes
-unfolding runOf
-run-most c ports start len bytes =
-    let part = drop (start * ports) bytes in
-    omega (arith, cells-most c ports (take (len * ports) part), length-take (len * ports) part, length-drop (start * ports) bytes)
 
 -- a run of a frame that repeats has at most ports cells for each slot
 repeated-length : (ports slots : ℕ) (bytes : List ℕ) (start len : ℕ) → length (repeated ports slots bytes start len) ≤ len * ports

@@ -1,9 +1,9 @@
 -- The cells of whole slots, from each byte that can count to the next.
-use Prim.Native.Nat.{ℕ, suc, _+_, _*_, _-_, _/_, _%_, _≤_, _<_}
+use Prim.Native.Nat.{ℕ, suc, _+_, _-_, _/_, _%_, _≤_, _<_}
 use mathlib.Core.Path.{_≡_, refl, sym, ap, _∙_}
 use mathlib.Core.Logic.{_≢_}
 use mathlib.Core.List.{List}
-use mathlib.Core.Bool.{Bool, true, false}
+use mathlib.Core.Bool.{Bool, false}
 use native.Mathlib.Omega.{arith}
 use native.Mathlib.Nat.{mod-eq-of-lt, add-mod-right, div-add-mod', mul-le-mul-right}
 use lib.Dec.{eqb}
@@ -13,7 +13,7 @@ use Rattle.model.specs.Words.{both, bit, sumTo}
 use Rattle.model.specs.Loads.{Class, pair, input, output}
 use Rattle.model.specs.Frames.{counts, cells}
 use Rattle.model.proofs.Cases.{byBool, byLt}
-use Rattle.model.proofs.Sums.{sum-none, sum-zero, sum-one, sum-append}
+use Rattle.model.proofs.Sums.{sum-zero, sum-one, sum-append}
 use Rattle.model.proofs.Runs.{sum-bits}
 use Rattle.service.specs.Whom.{firstByte, nextByte}
 

@@ -1,10 +1,6 @@
-use Prim.Native.Nat.{_+_, _*_, _/_}
-use mathlib.Core.Path.{_≡_}
 use native.Mathlib.Omega.{arith}
 use native.Mathlib.Nat.{mod-lt}
 use borrow.Author.Needs.{needs}
-use Rattle.model.specs.Frames.{cells}
-use Rattle.model.specs.Service.{classOf, repeated}
 use Rattle.service.proofs.Turns.{parts-run, run-fits}
 use Rattle.service.proofs.run_cells.Statement.{statement}
 use Rattle.service.proofs.run_cells.Tie as tie
