@@ -3,25 +3,22 @@ use Prim.Native.Nat.{ℕ, _+_, _-_, _*_, _/_, _%_, _^_, _≤_, _<_, min}
 use mathlib.Core.Path.{_≡_, refl, ap, _∙_}
 use mathlib.Core.Logic.{_≢_}
 use mathlib.Core.List.{List}
-use mathlib.Core.Bool.{true, not}
 use native.Mathlib.Omega.{arith}
 use native.Mathlib.Nat.{mod-lt, div-add-mod'}
 use lib.IntN.{pos, _-ℤ_, natAbs}
 use lib.ListN.{length}
 use lib.Pow.{pow-pos}
-use borrow.Author.Tests.{not-true, not-false}
-use Rattle.model.specs.Words.{within, Near}
+use Rattle.model.specs.Words.{Near}
 use Rattle.model.specs.Loads.{Class, Of, load}
 use Rattle.model.specs.Frames.{cells, runOf, Legal, Balanced}
-use Rattle.model.specs.Refusals.{clear, bad-ports, bad-slots, bad-frame, bad-slot}
+use Rattle.model.specs.Refusals.{clear}
 use Rattle.model.specs.Build.{left}
-use Rattle.model.specs.Service.{classOf, portsWithin, bad-who, repeated, lead, countChecks, service}
+use Rattle.model.specs.Service.{classOf, repeated, lead, countChecks, service}
 use Rattle.model.specs.Wire.{deviation}
 use Rattle.model.specs.Lead.{Led, BuiltLead, AnsweredLead}
-use Rattle.model.specs.declared.Who.{Who}
-use Rattle.model.specs.declared.Who.the-variants.{Pair, Input, Output}
-use Rattle.model.proofs.Cases.{byBool, byEq, both-true, within-true}
+use Rattle.model.proofs.Cases.{byBool, byEq}
 use Rattle.model.proofs.Runs.{cells-from, cells-rounds, cells-turns}
+use Rattle.model.proofs.Replies.{who-of, clear-who}
 use Rattle.model.proofs.Integers.{minus-near, minus-same}
 use Rattle.model.proofs.Legal.{legal-exact}
 use Rattle.model.proofs.Accuracy.{deviation-most, before, before-more, before-all, before-none, prefix-sharp}
@@ -106,27 +103,6 @@ built-lead ports slots matrix buffer e k power c of =
     sound-lead (s .0) (s .1) c of k power
 
 -- ---- of what Service count answers
--- whom a count that is not refused is for is of the switch
-who-of : (ports : ℕ) (who : Who) → portsWithin ports who ≡ true → Of ports (classOf who)
-who-of ports (Pair i o) e =
-    let b = both-true (within 1 ports i) (within 1 ports o) e in
-    let x = within-true 1 ports i (b .0) in
-    let y = within-true 1 ports o (b .1) in
-    (omega (arith, x .0, x .1), omega (arith, y .0, y .1))
-who-of ports (Input i) e = let x = within-true 1 ports i e in omega (arith, x .0, x .1)
-who-of ports (Output o) e = let x = within-true 1 ports o e in omega (arith, x .0, x .1)
-
-clear-who : (ports slots : ℕ) (bytes : List ℕ) (who : Who) (start len : ℕ) → clear (countChecks ports slots bytes who start len) ≡ true
-    → portsWithin ports who ≡ true
-unfolding countChecks
-clear-who ports slots bytes who start len e =
-    let a = both-true (not (bad-ports ports .0)) _ e in
-    let b = both-true (not (bad-slots slots .0)) _ (a .1) in
-    let c = both-true (not (bad-frame ports slots bytes .0)) _ (b .1) in
-    let d = both-true (not (bad-slot slots start .0)) _ (c .1) in
-    let w = both-true (not (bad-who ports who .0)) _ (d .1) in
-    not-false (portsWithin ports who) (not-true _ (w .0))
-
 pub answered-lead : AnsweredLead
 unfolding service
 answered-lead ports slots matrix buffer e k power who start len =

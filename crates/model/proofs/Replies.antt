@@ -3,15 +3,19 @@ use Prim.Native.Nat.{ℕ, _-_}
 use mathlib.Core.Path.{_≡_, sym, ap, _∙_}
 use mathlib.Core.Logic.{_≢_}
 use mathlib.Core.List.{List, [], _∷_}
-use mathlib.Core.Bool.{Bool, true}
+use mathlib.Core.Bool.{Bool, true, not}
+use native.Mathlib.Omega.{arith}
 use lib.IntN.{ℤ, pos}
 use lib.ListN.{getD}
-use Rattle.model.specs.Words.{if}
+use borrow.Author.Tests.{not-true, not-false}
+use Rattle.model.specs.Words.{if, within}
+use Rattle.model.specs.Loads.{Of}
 use Rattle.model.specs.Frames.{cells}
-use Rattle.model.specs.Refusals.{Check, report, clear}
-use Rattle.model.specs.Service.{classOf, repeated, lead, Reply, countChecks, service}
+use Rattle.model.specs.Refusals.{Check, report, clear, bad-ports, bad-slots, bad-frame, bad-slot}
+use Rattle.model.specs.Service.{classOf, portsWithin, bad-who, repeated, lead, Reply, countChecks, service}
 use Rattle.model.specs.declared.Who.{Who}
-use Rattle.model.proofs.Cases.{byBool}
+use Rattle.model.specs.declared.Who.the-variants.{Pair, Input, Output}
+use Rattle.model.proofs.Cases.{byBool, both-true, within-true}
 use Rattle.model.proofs.Reports.{report-clear}
 
 module _ (ports slots : ℕ) (bytes : List ℕ) (who : Who) (start len : ℕ) where
@@ -40,3 +44,25 @@ module _ (ports slots : ℕ) (bytes : List ℕ) (who : Who) (start len : ℕ) wh
 
   pub reply-counted : clear checks ≡ true → _≡_ {A = Reply} (record { numbers = count; ahead = countLead }) (service ports slots bytes who start len)
   reply-counted c = reply-is c (report-clear checks count c)
+
+-- ---- whom a count is for
+-- whom a count that is not refused is for is of the switch
+pub who-of : (ports : ℕ) (who : Who) → portsWithin ports who ≡ true → Of ports (classOf who)
+who-of ports (Pair i o) e =
+    let b = both-true (within 1 ports i) (within 1 ports o) e in
+    let x = within-true 1 ports i (b .0) in
+    let y = within-true 1 ports o (b .1) in
+    (omega (arith, x .0, x .1), omega (arith, y .0, y .1))
+who-of ports (Input i) e = let x = within-true 1 ports i e in omega (arith, x .0, x .1)
+who-of ports (Output o) e = let x = within-true 1 ports o e in omega (arith, x .0, x .1)
+
+pub clear-who : (ports slots : ℕ) (bytes : List ℕ) (who : Who) (start len : ℕ) → clear (countChecks ports slots bytes who start len) ≡ true
+    → portsWithin ports who ≡ true
+unfolding countChecks
+clear-who ports slots bytes who start len e =
+    let a = both-true (not (bad-ports ports .0)) _ e in
+    let b = both-true (not (bad-slots slots .0)) _ (a .1) in
+    let c = both-true (not (bad-frame ports slots bytes .0)) _ (b .1) in
+    let d = both-true (not (bad-slot slots start .0)) _ (c .1) in
+    let w = both-true (not (bad-who ports who .0)) _ (d .1) in
+    not-false (portsWithin ports who) (not-true _ (w .0))

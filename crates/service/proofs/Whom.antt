@@ -6,11 +6,13 @@ use native.Mathlib.Omega.{arith}
 use lib.Dec.{eqb}
 use borrow.Author.Tests.{eq-eqb, not-true, not-false}
 use Rattle.model.specs.Words.{bit, within}
+use Rattle.model.specs.Loads.{Class, pair, input, output, Of}
 use Rattle.model.specs.Frames.{counts}
 use Rattle.model.specs.Service.{classOf, portsWithin}
 use Rattle.model.specs.declared.Who.{Who}
 use Rattle.model.specs.declared.Who.the-variants.{Pair, Input, Output}
 use Rattle.model.proofs.Cases.{both-true, within-true}
+use Rattle.model.proofs.Replies.{who-of}
 use Rattle.service.specs.Whom.{Numbered, firstByte, nextByte}
 
 -- ---- refusal 12
@@ -35,22 +37,22 @@ who-numbered ports (Pair i o) e =
 who-numbered ports (Input i) e = within-true 1 ports i e .0
 who-numbered ports (Output o) e = within-true 1 ports o e .0
 
--- the first byte that can count is one of the first slot
-pub who-placed : (ports : ℕ) (who : Who) → portsWithin ports who ≡ true → firstByte (classOf who) < nextByte ports (classOf who)
-who-placed ports (Pair i o) e =
-    let b = both-true (within 1 ports i) (within 1 ports o) e in
-    let w = within-true 1 ports i (b .0) in
-    omega (arith, w .0, w .1)
-who-placed ports (Input i) e = let w = within-true 1 ports i e in omega (arith, w .0, w .1)
-who-placed ports (Output o) e = omega arith
-
--- and the next at most a slot later
-pub next-most : (ports : ℕ) (who : Who) → portsWithin ports who ≡ true → nextByte ports (classOf who) ≤ ports
-next-most ports (Pair i o) e = omega arith
-next-most ports (Input i) e = omega arith
-next-most ports (Output o) e = let w = within-true 1 ports o e in omega (arith, w .0, w .1)
-
 -- ---- the bytes that can count
+-- the first is one of the first slot, and the next at most a slot later
+first-low : (ports : ℕ) (c : Class) → Of ports c → firstByte c < nextByte ports c
+first-low ports (pair i o) of = of .0
+first-low ports (input i) of = of
+first-low ports (output o) of = omega arith
+
+next-low : (ports : ℕ) (c : Class) → Of ports c → nextByte ports c ≤ ports
+next-low ports (pair i o) of = omega arith
+next-low ports (input i) of = omega arith
+next-low ports (output o) of = omega arith
+
+pub who-placed : (ports : ℕ) (who : Who) → portsWithin ports who ≡ true
+    → (firstByte (classOf who) < nextByte ports (classOf who)) × (nextByte ports (classOf who) ≤ ports)
+who-placed ports who e = let of = who-of ports who e in (first-low ports (classOf who) of, next-low ports (classOf who) of)
+
 pub pair-input : (who : Who) {i o : ℕ} → Numbered who → who ≡ Pair i o → 1 ≤ i
 pair-input who n is = (rw is at n) .0
 
