@@ -91,7 +91,7 @@ module _ {ports slots : ℕ} {matrix bytes : List ℕ} (legal : Legal ports slot
       = minus-near (2 * deviation k) _ _ near in
       record {
         near = omega (arith, sharp, deviation-most k, ap (λ z. (2 * k + 1) * z) power);
-        sharp = sharp;
+        sharp = omega (arith, sharp);
         from-share = ap (λ z. pos (slots * cells c ports (repeated ports slots bytes start len)) -ℤ pos z) share;
         turns = λ w e. rw e (lead-turns c ports slots bytes (legal .size) (omega (arith, power, pow-pos k)) start w);
       }

@@ -211,6 +211,6 @@ pub buffers-by-lead : BuffersByLead
 buffers-by-lead c ports slots bytes size least b leads a arrive paced t =
     let s = since arrive (inTurn c ports slots bytes size least) in
     record {
-      after = left-waiting c ports slots bytes size least b leads a arrive paced (suc t) (s (suc t));
-      before = joined-waiting c ports slots bytes size least b leads a arrive paced t (s t);
+      after = omega (arith, left-waiting c ports slots bytes size least b leads a arrive paced (suc t) (s (suc t)));
+      before = omega (arith, joined-waiting c ports slots bytes size least b leads a arrive paced t (s t));
     }
