@@ -56,6 +56,10 @@ counting reply numbers ahead behind =
 abbrev own : List ℕ
 own = 1 ∷ 0 ∷ 0 ∷ 0 ∷ 0 ∷ 1 ∷ 0 ∷ 0 ∷ 0 ∷ 0 ∷ 1 ∷ 0 ∷ 0 ∷ 0 ∷ 0 ∷ 1 ∷ []
 
+-- one of them in each slot: (1 1), (3 3), (2 2), (4 4)
+abbrev ownFrame : List ℕ
+ownFrame = 1 ∷ 0 ∷ 0 ∷ 0 ∷ 0 ∷ 0 ∷ 3 ∷ 0 ∷ 0 ∷ 2 ∷ 0 ∷ 0 ∷ 0 ∷ 0 ∷ 0 ∷ 4 ∷ []
+
 abbrev table7 : List ℕ
 table7 = 2 ∷ 2 ∷ 0 ∷ 0 ∷ 0 ∷ 0 ∷ 0 ∷ 0 ∷ 0 ∷ 0 ∷ 0 ∷ 0 ∷ 1 ∷ 1 ∷ 0 ∷ 2 ∷ []
 
@@ -83,7 +87,7 @@ cases =
     frame 1 1 (1 ∷ []) (1 ∷ [])
     ∷ frame 1 4 (3 ∷ []) (1 ∷ 1 ∷ 1 ∷ 0 ∷ [])
     ∷ frame 2 2 (1 ∷ 1 ∷ 1 ∷ 1 ∷ []) crossed
-    ∷ frame 4 4 own (1 ∷ 2 ∷ 3 ∷ 4 ∷ replicate 12 0)
+    ∷ frame 4 4 own ownFrame
     ∷ frame 4 4 table7 table7Frame
     ∷ record { gives = response sheet; says = printed }
     ∷ turnedAway 2 4 (3 ∷ 2 ∷ 0 ∷ 0 ∷ []) (5 ∷ 1 ∷ 5 ∷ [])
@@ -101,7 +105,7 @@ table7-framed : frameOf 4 2 table7 ≡ table7Frame
 unfolding walk settleAt favours slotOf frameOf
 table7-framed = refl
 
-own-framed : frameOf 4 2 own ≡ 1 ∷ 2 ∷ 3 ∷ 4 ∷ replicate 12 0
+own-framed : frameOf 4 2 own ≡ ownFrame
 unfolding walk settleAt favours slotOf frameOf
 own-framed = refl
 

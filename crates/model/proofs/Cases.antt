@@ -5,8 +5,8 @@ use mathlib.Core.Logic.{_≢_}
 use mathlib.Core.Bool.{Bool, true, false, true≢false}
 use native.Mathlib.Omega.{arith}
 use lib.Dec.{eqb, ltb, leb}
-use borrow.Author.Tests.{eqb-true, eqb-false, ltb-true, ltb-false, leb-true, le-leb, lt-leb}
-use Rattle.model.specs.Words.{both, within}
+use borrow.Author.Tests.{eqb-true, eqb-false, eq-eqb, ne-eqb, ltb-true, ltb-false, leb-true, le-leb, lt-leb}
+use Rattle.model.specs.Words.{both, bit, within}
 
 pub byBool : {P : Type 0} (b : Bool) → (b ≡ true → P) → (b ≡ false → P) → P
 byBool true f g = f refl
@@ -29,6 +29,13 @@ both-false false b e f g = true≢false (sym f)
 
 pub both-yes : (a b : Bool) → a ≡ true → b ≡ true → both a b ≡ true
 both-yes a b e f = rw (e, f)
+
+-- ---- a test as a number
+pub is-yes : (x h : ℕ) → x ≡ h → bit (eqb x h) ≡ 1
+is-yes x h e = rw (eq-eqb x h e)
+
+pub is-no : (x h : ℕ) → x ≢ h → bit (eqb x h) ≡ 0
+is-no x h n = rw (ne-eqb x h n)
 
 -- ---- a range
 -- n is one of low, low + 1, .., high

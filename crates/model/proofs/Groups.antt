@@ -1,19 +1,24 @@
--- Groups: what partners reach from a count, the first count of each group, and the half that it favours.
-use Prim.Native.Nat.{ℕ, suc, zero, _-_, _≤_, _<_}
-use mathlib.Core.Path.{_≡_, ap, _∙_, subst}
+-- Groups: what partners reach from a count, the groups that the scan takes by their first counts, and how many counts they have.
+use Prim.Native.Nat.{ℕ, suc, zero, _+_, _-_, _≤_, _<_}
+use mathlib.Core.Path.{_≡_, sym, ap, _∙_, subst}
 use mathlib.Core.Logic.{_≢_, _⊎_, inl, inr, ⊎-elim}
 use mathlib.Core.List.{List}
-use mathlib.Core.Bool.{Bool, true}
+use mathlib.Core.Bool.{Bool, true, false, not}
 use native.Mathlib.Omega.{arith}
-use lib.ListN.{length, getD, set, replicate}
+use lib.Dec.{eqb}
+use lib.ListN.{length, getD, set}
 use lib.Seq.{getD-set-other}
-use Rattle.model.specs.Words.{upFrom}
+use borrow.Author.Tests.{eqb-true, eqb-false, eq-eqb, ne-eqb, not-true}
+use Rattle.model.specs.Words.{both, bit, upFrom, keep, sumTo}
 use Rattle.model.specs.Rules.{Side, inputs, outputs, odd, Joined, itself, onward, backward}
-use Rattle.model.specs.Schedule.{walk, tieHalf, settleAt, settle, favours}
-use Rattle.model.proofs.Cases.{byEq, byLt}
+use Rattle.model.specs.Schedule.{walk, favouring}
+use Rattle.model.proofs.Cases.{byBool, byEq, byLt, both-true, both-false, is-yes, is-no}
+use Rattle.model.proofs.Sums.{sum-ext, sum-add}
+use Rattle.model.proofs.Kept.{keep-keep, kept-length}
 use Rattle.model.proofs.Partners.{rule-partner, partner-rule}
 use Rattle.model.proofs.Walks.{Good, Pairing, walk-on, walk-off}
-use Rattle.model.proofs.Settled.{Settled, groupOf, group-first, group-keeps, settle-cases, settle-one, partner-pairing, mate, favours-law, zero-at, start-settled}
+use Rattle.model.proofs.Shares.{favouring-sum, Level}
+use Rattle.model.proofs.Settled.{Settled, Keeps, Taken, settle-cases, scan, scan-settled, scan-keeps, scan-done, scan-level, partner-pairing, mate, zero-at}
 
 -- what is reached from p by partners
 pub data Reached (f : Side → ℕ → ℕ) (p : ℕ) : ℕ → Type 0 where
@@ -53,67 +58,185 @@ unsettled od f c pf two g t z =
     (λ e. let b = ap (λ (x : ℕ). getD c x 0) e in omega arith)
     (λ e. let b = g (f t) n e in omega (arith, two (f t))))
 
--- q's group has a first count, which favours the tie rule's half
-abbrev pub Led : (Side → ℕ → ℕ) → List ℕ → ℕ → Type 0
-Led f c q = (r : ℕ) × Reached f r q × (getD c r 0 ≡ tieHalf) × ((s : ℕ) → Reached f r s → r ≤ s)
+-- ---- counts that are settled in d and not in c, of which d keeps the rest
+abbrev pub new : List ℕ → List ℕ → ℕ → Bool
+new c d q = both (eqb (getD c q 0) 0) (not (eqb (getD d q 0) 0))
 
+module _ (n : ℕ) (c d : List ℕ) (lc : length c ≡ n) (ld : length d ≡ n) (keeps : Keeps c d) (two : (q : ℕ) → getD d q 0 ≤ 2) where
+  -- those among them that favour h
+  new-one : (h q : ℕ) → h ≢ 0 → bit (both (new c d q) (eqb (getD d q 0) h)) + bit (eqb (getD c q 0) h) ≡ bit (eqb (getD d q 0) h)
+  new-one h q n =
+      byEq (getD c q 0) 0
+      (λ e. byEq (getD d q 0) h
+      (λ k. rw (eq-eqb (getD c q 0) 0 e, ne-eqb (getD d q 0) 0 (λ z. n (sym k ∙ z)), eq-eqb (getD d q 0) h k) (omega (arith, is-no (getD c q 0) h (λ z. n (sym z ∙ e)))))
+      (λ k. omega (arith, other e k, is-no (getD c q 0) h (λ z. n (sym z ∙ e)))))
+      (λ e. rw (ne-eqb (getD c q 0) 0 e, keeps q e) (omega arith))
+    where
+      other : getD c q 0 ≡ 0 → getD d q 0 ≢ h → bit (both (new c d q) (eqb (getD d q 0) h)) ≡ bit (eqb (getD d q 0) h)
+      other e k = rw (eq-eqb (getD c q 0) 0 e, ne-eqb (getD d q 0) h k) (byBool (eqb (getD d q 0) 0) (λ z. rw z) (λ z. rw z))
+
+  pub new-share : (h : ℕ) → h ≢ 0 → sumTo n (λ q. bit (both (new c d q) (eqb (getD d q 0) h))) + favouring h c ≡ favouring h d
+  new-share h k =
+      let x = favouring-sum h c ∙ ap (λ (z : ℕ). sumTo z (λ q. bit (eqb (getD c q 0) h))) lc in
+      let y = favouring-sum h d ∙ ap (λ (z : ℕ). sumTo z (λ q. bit (eqb (getD d q 0) h))) ld in
+      ap (λ z. sumTo n (λ q. bit (both (new c d q) (eqb (getD d q 0) h))) + z) x
+      ∙ sym (sum-add n (λ q. bit (both (new c d q) (eqb (getD d q 0) h))) (λ q. bit (eqb (getD c q 0) h)))
+      ∙ sum-ext n _ _ (λ q _. new-one h q k)
+      ∙ sym y
+
+  new-two : (q : ℕ) → bit (new c d q) ≡ bit (both (new c d q) (eqb (getD d q 0) 1)) + bit (both (new c d q) (eqb (getD d q 0) 2))
+  new-two q =
+      byBool (new c d q)
+      (λ e.
+      let z : getD d q 0 ≢ 0 = eqb-false (getD d q 0) 0 (not-true _ (both-true (eqb (getD c q 0) 0) (not (eqb (getD d q 0) 0)) e .1)) in
+      rw e (byEq (getD d q 0) 1
+      (λ k. omega (arith, is-yes (getD d q 0) 1 k, is-no (getD d q 0) 2 (omega arith)))
+      (λ k. omega (arith, is-no (getD d q 0) 1 k, is-yes (getD d q 0) 2 (omega (arith, two q))))))
+      (λ e. rw e (omega arith))
+
+  pub new-size : sumTo n (λ q. bit (new c d q)) + (favouring 1 c + favouring 2 c) ≡ favouring 1 d + favouring 2 d
+  new-size =
+      omega (arith,
+        sum-ext n _ _ (λ q _. new-two q),
+        sum-add n (λ q. bit (both (new c d q) (eqb (getD d q 0) 1))) (λ q. bit (both (new c d q) (eqb (getD d q 0) 2))),
+        new-share 1 (omega arith),
+        new-share 2 (omega arith))
+
+-- ---- the groups that the scan takes
 module _ (m : List ℕ) (f : Side → ℕ → ℕ) (pf : (s : Side) → Pairing (odd m) (f s)) where
   -- by either side, from what holds by each
   both-sides : (P : ℕ → Type 0) → ((q : ℕ) → P q → P (f inputs q)) → ((q : ℕ) → P q → P (f outputs q)) → (s : Side) (q : ℕ) → P q → P (f s q)
   both-sides P g h inputs = g
   both-sides P g h outputs = h
 
-  module _ (p : ℕ) (c : List ℕ) (st : Settled m (f inputs) (f outputs) c) (below : (s : ℕ) → s < p → odd m s ≡ true → getD c s 0 ≢ 0) (led : (q : ℕ) → getD c q 0 ≢ 0 → Led f c q) where
-    least : odd m p ≡ true → getD c p 0 ≡ 0 → (s : ℕ) → Reached f p s → p ≤ s
-    least od z s j =
-        byLt s p
-        (λ l. absurd (below s l (reached-closed f p (λ t. odd m t ≡ true) od (λ s. pf s .odds) s j)
-        (reached-closed f p (λ t. getD c t 0 ≡ 0) z
-        (both-sides (λ t. getD c t 0 ≡ 0) (unsettled (odd m) (f inputs) c (pf inputs) (st .fine .two) (st .ins)) (unsettled (odd m) (f outputs) c (pf outputs) (st .fine .two) (st .outs))) s j)))
+  -- what is settled before position a comes
+  abbrev pub state : ℕ → List ℕ
+  state a = scan m (f inputs) (f outputs) (pf inputs) (pf outputs) a
+
+  pub state-settled : (a : ℕ) → Settled m (f inputs) (f outputs) (state a)
+  state-settled a = scan-settled m (f inputs) (f outputs) (pf inputs) (pf outputs) a
+
+  pub state-keeps : (a b : ℕ) → a ≤ b → Keeps (state a) (state b)
+  state-keeps a b h = scan-keeps m (f inputs) (f outputs) (pf inputs) (pf outputs) a b h
+
+  pub state-level : (a : ℕ) → Level (state a)
+  state-level a = scan-level m (f inputs) (f outputs) (pf inputs) (pf outputs) a
+
+  -- a group is taken at p
+  abbrev pub Takes : ℕ → Type 0
+  Takes p = Taken m (f inputs) (f outputs) (pf inputs) (pf outputs) p (state p) (state (suc p))
+
+  pub takes-cases : {P : Type 0} (p : ℕ) → (Takes p → P) → (both (odd m p) (eqb (getD (state p) p 0) 0) ≡ false → state (suc p) ≡ state p → P) → P
+  takes-cases p g h = settle-cases m (f inputs) (f outputs) (pf inputs) (pf outputs) p (state p) (state-settled p .fine .len) g h
+
+  module _ (p : ℕ) (t : Takes p) where
+    -- what p reaches is odd, was not settled before, and is settled after
+    reached-odd : (q : ℕ) → Reached f p q → odd m q ≡ true
+    reached-odd q j = reached-closed f p (λ r. odd m r ≡ true) (t .odd-count) (λ s. pf s .odds) q j
+
+    reached-before : (q : ℕ) → Reached f p q → getD (state p) q 0 ≡ 0
+    reached-before q j =
+        let st = state-settled p in
+        reached-closed f p (λ r. getD (state p) r 0 ≡ 0) (t .unsettled)
+        (both-sides (λ r. getD (state p) r 0 ≡ 0) (unsettled (odd m) (f inputs) (state p) (pf inputs) (st .fine .two) (st .ins)) (unsettled (odd m) (f outputs) (state p) (pf outputs) (st .fine .two) (st .outs)))
+        q j
+
+    reached-after : (q : ℕ) → Reached f p q → getD (state (suc p)) q 0 ≢ 0
+    reached-after q j =
+        let st = state-settled (suc p) in
+        reached-closed f p (λ r. getD (state (suc p)) r 0 ≢ 0)
+        (scan-done m (f inputs) (f outputs) (pf inputs) (pf outputs) (suc p) p (omega arith) (t .odd-count))
+        (both-sides (λ r. getD (state (suc p)) r 0 ≢ 0) (on (f inputs) (st .ins)) (on (f outputs) (st .outs))) q j
+      where
+        on : (g : ℕ → ℕ) → ((r : ℕ) → Good g (state (suc p)) r) → (r : ℕ) → getD (state (suc p)) r 0 ≢ 0 → getD (state (suc p)) (g r) 0 ≢ 0
+        on g good r s =
+            byEq (g r) r (λ e. rw e s)
+            (λ n. let e = good r s n in let h = state-settled (suc p) .fine .two r in omega arith)
+
+    -- p is the first of its group
+    pub takes-first : (q : ℕ) → Reached f p q → p ≤ q
+    takes-first q j =
+        byLt q p
+        (λ l. absurd (scan-done m (f inputs) (f outputs) (pf inputs) (pf outputs) p q l (reached-odd q j) (reached-before q j)))
         (λ l. l)
 
-    added : (q : ℕ) → getD (groupOf m (f inputs) (f outputs) tieHalf p c) q 0 ≢ 0 → Reached f p q ⊎ (getD c q 0 ≢ 0)
+    -- what is newly settled is what p reaches
+    added : (q : ℕ) → getD (state (suc p)) q 0 ≢ 0 → Reached f p q ⊎ (getD (state p) q 0 ≢ 0)
     added =
-        walk-adds (λ t. Reached f p t) (λ t. getD c t 0 ≢ 0) (length m) (f outputs) (f inputs) p tieHalf (walk (length m) (f inputs) (f outputs) p tieHalf (set c p tieHalf)) (step outputs) (step inputs) here
-        (walk-adds (λ t. Reached f p t) (λ t. getD c t 0 ≢ 0) (length m) (f inputs) (f outputs) p tieHalf (set c p tieHalf) (step inputs) (step outputs) here
-        (λ r s. byEq r p (λ k. inl (rw k here)) (λ k. inr (rw (getD-set-other c p r tieHalf 0 k) at s))))
+        let h = t .half in
+        rw (t .is)
+        (walk-adds (λ r. Reached f p r) (λ r. getD (state p) r 0 ≢ 0) (length m) (f outputs) (f inputs) p h (walk (length m) (f inputs) (f outputs) p h (set (state p) p h)) (step outputs) (step inputs) here
+        (walk-adds (λ r. Reached f p r) (λ r. getD (state p) r 0 ≢ 0) (length m) (f inputs) (f outputs) p h (set (state p) p h) (step inputs) (step outputs) here
+        (λ r s. byEq r p (λ k. inl (rw k here)) (λ k. inr (rw (getD-set-other (state p) p r h 0 k) at s)))))
 
-    one-led : (q : ℕ) → getD (settleAt (f inputs) (f outputs) m p c) q 0 ≢ 0 → Led f (settleAt (f inputs) (f outputs) m p c) q
-    one-led q =
-        settle-cases m (f inputs) (f outputs) (pf inputs) (pf outputs) (λ d. getD d q 0 ≢ 0 → Led f d q) p c
-        (λ od z s. ⊎-elim
-        (λ j. (p, j, group-first m (f inputs) (f outputs) (pf inputs) (pf outputs) tieHalf (omega arith) (omega arith) p c od z st, least od z))
-        (λ n.
-        let l = led q n in
-        let e = l .2 in
-        (l .0, l .1, group-keeps m (f inputs) (f outputs) (pf inputs) (pf outputs) tieHalf (omega arith) (omega arith) p c od z st (l .0) (omega arith) ∙ e, l .3))
-        (added q s))
-        (λ e. led q)
+    abbrev pub member : ℕ → Bool
+    member = new (state p) (state (suc p))
 
-  settle-led : (k a : ℕ) (c : List ℕ) → Settled m (f inputs) (f outputs) c → ((s : ℕ) → s < a → odd m s ≡ true → getD c s 0 ≢ 0) → ((q : ℕ) → getD c q 0 ≢ 0 → Led f c q)
-      → (q : ℕ) → getD (settle (f inputs) (f outputs) m (upFrom a k) c) q 0 ≢ 0 → Led f (settle (f inputs) (f outputs) m (upFrom a k) c) q
-  settle-led zero a c st below led = led
-  settle-led (suc k) a c st below led =
-      let s = settle-one m (f inputs) (f outputs) (pf inputs) (pf outputs) a c st in
-      settle-led k (suc a) (settleAt (f inputs) (f outputs) m a c) (s .0)
-      (λ q h t. byEq q a (λ e. rw e (s .2 (rw e at t))) (λ e. let b = below q (omega arith) t in let d = s .1 q b in omega arith))
-      (one-led a c st below led)
+    pub member-yes : (q : ℕ) → member q ≡ true → Reached f p q
+    member-yes q e =
+        let b = both-true (eqb (getD (state p) q 0) 0) (not (eqb (getD (state (suc p)) q 0) 0)) e in
+        ⊎-elim (λ j. j) (λ n. absurd (n (eqb-true (getD (state p) q 0) 0 (b .0))))
+        (added q (eqb-false (getD (state (suc p)) q 0) 0 (not-true _ (b .1))))
 
-  pub scan-led : (q : ℕ) → getD (settle (f inputs) (f outputs) m (upFrom 0 (length m)) (replicate (length m) 0)) q 0 ≢ 0
-      → Led f (settle (f inputs) (f outputs) m (upFrom 0 (length m)) (replicate (length m) 0)) q
-  scan-led =
-      settle-led (length m) 0 (replicate (length m) 0) (start-settled m (f inputs) (f outputs)) (λ s h. absurd (omega arith)) (λ q s. absurd (s (zero-at (length m) q)))
+    pub member-no : (q : ℕ) → member q ≡ false → Reached f p q → ⊥
+    member-no q e j =
+        both-false (eqb (getD (state p) q 0) 0) (not (eqb (getD (state (suc p)) q 0) 0)) e
+        (eq-eqb (getD (state p) q 0) 0 (reached-before q j))
+        (ap not (ne-eqb (getD (state (suc p)) q 0) 0 (reached-after q j)))
 
-pub pairings : (port : Side → ℕ → ℕ) (m : List ℕ) (s : Side) → Pairing (odd m) (mate port m s)
+    -- its counts, rising, and their number
+    abbrev pub members : List ℕ
+    members = keep member (upFrom 0 (length m))
+
+    pub members-size : length members + (favouring 1 (state p) + favouring 2 (state p)) ≡ favouring 1 (state (suc p)) + favouring 2 (state (suc p))
+    members-size =
+        ap (λ z. z + (favouring 1 (state p) + favouring 2 (state p))) (kept-length member (length m))
+        ∙ new-size (length m) (state p) (state (suc p)) (state-settled p .fine .len) (state-settled (suc p) .fine .len) (state-keeps p (suc p) (omega arith)) (state-settled (suc p) .fine .two)
+
+    -- and how many of them favour the first half, in c, which keeps what is settled
+    pub members-share : (c : List ℕ) → Keeps (state (suc p)) c → length (keep (λ q. eqb (getD c q 0) 1) members) + favouring 1 (state p) ≡ favouring 1 (state (suc p))
+    members-share c keeps =
+        ap (λ z. z + favouring 1 (state p))
+        (ap length (keep-keep member (λ q. eqb (getD c q 0) 1) (upFrom 0 (length m)))
+        ∙ kept-length (λ q. both (member q) (eqb (getD c q 0) 1)) (length m)
+        ∙ sum-ext (length m) _ _ (λ q _. ap bit (alike q)))
+        ∙ new-share (length m) (state p) (state (suc p)) (state-settled p .fine .len) (state-settled (suc p) .fine .len) (state-keeps p (suc p) (omega arith)) (state-settled (suc p) .fine .two) 1 (omega arith)
+      where
+        alike : (q : ℕ) → both (member q) (eqb (getD c q 0) 1) ≡ both (member q) (eqb (getD (state (suc p)) q 0) 1)
+        alike q =
+            byBool (member q)
+            (λ e. rw (e, keeps q (reached-after q (member-yes q e))))
+            (λ e. rw e)
+
+  -- q is of a group that was taken before a
+  abbrev pub TakenBefore : ℕ → ℕ → Type 0
+  TakenBefore a q = (r : ℕ) × (r < a) × Reached f r q × Takes r
+
+  taken-later : (a q : ℕ) → TakenBefore a q → TakenBefore (suc a) q
+  taken-later a q l = (l .0, (let h = l .1 in omega arith), l .2, l .3)
+
+  -- what is settled before a is
+  pub taken-before : (a q : ℕ) → getD (state a) q 0 ≢ 0 → TakenBefore a q
+  taken-before zero q s = absurd (s (zero-at (length m) q))
+  taken-before (suc a) q s =
+      takes-cases a
+      (λ t. ⊎-elim (λ j. (a, omega arith, j, t)) (λ n. taken-later a q (taken-before a q n)) (added a t q s))
+      (λ e k. taken-later a q (taken-before a q (λ z. s (ap (λ c. getD c q 0) k ∙ z))))
+
+  -- an odd count that is first of what it reaches is taken
+  pub first-takes : (p : ℕ) → odd m p ≡ true → ((q : ℕ) → Reached f p q → p ≤ q) → Takes p
+  first-takes p od least =
+      takes-cases p (λ t. t)
+      (λ e k. byEq (getD (state p) p 0) 0
+      (λ z. absurd (both-false (odd m p) (eqb (getD (state p) p 0) 0) e od (eq-eqb (getD (state p) p 0) 0 z)))
+      (λ n.
+      let l = taken-before p p n in
+      let h = l .1 in
+      let g = least (l .0) (reached-sym f (λ s. pf s .twice) (l .0) p (l .2)) in
+      absurd (omega arith)))
+
+abbrev pub pairings : (port : Side → ℕ → ℕ) (m : List ℕ) (s : Side) → Pairing (odd m) (mate port m s)
 pairings port m s = partner-pairing (port s) m
-
--- every odd count's group is led
-pub favours-led : (port : Side → ℕ → ℕ) (m : List ℕ) (q : ℕ) → odd m q ≡ true → Led (mate port m) (favours port m) q
-unfolding favours
-favours-led port m q e = let n = favours-law port m .low q e in scan-led m (mate port m) (pairings port m) q (λ z. none n z)
-  where
-    none : {x : ℕ} → 1 ≤ x → x ≡ 0 → ⊥
-    none a b = omega arith
 
 -- ---- the rule's groups are what partners reach
 module _ (port : Side → ℕ → ℕ) (m : List ℕ) (p : ℕ) where

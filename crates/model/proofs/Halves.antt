@@ -1,7 +1,8 @@
--- Loads of halves: for each pair, input and output they sum to the whole and differ by at most 1, and what fits twice the
--- slots splits into what fits them.
+-- Loads of halves: for each pair, input and output and in total they sum to the whole and differ by at most 1, and what
+-- fits twice the slots splits into what fits them.
 use Prim.Native.Nat.{ℕ, suc, zero, _+_, _*_, _/_, _%_, _≤_, _<_}
 use mathlib.Core.Path.{_≡_, sym, ap, _∙_}
+use mathlib.Core.Logic.{_≢_}
 use mathlib.Core.List.{List, [], _∷_}
 use mathlib.Core.Bool.{Bool, true, false, not}
 use native.Mathlib.Omega.{arith}
@@ -10,13 +11,17 @@ use lib.Arith.{digits-div, digits-mod}
 use lib.Dec.{eqb}
 use lib.ListN.{length, getD}
 use borrow.Author.Tests.{eq-eqb, ne-eqb}
-use Rattle.model.specs.Words.{if, both, Near, upFrom, keep, sumTo, Every}
-use Rattle.model.specs.Loads.{Class, pair, input, output, Of, countOf, load, Fits}
+use Rattle.model.specs.Words.{if, both, bit, Near, sumTo, Every}
+use Rattle.model.specs.Loads.{Class, pair, input, output, total, Of, countOf, load, Fits}
 use Rattle.model.specs.Rules.{Side, inputs, outputs, portOf, odd, oddsAt, Partners, these, later, favoursFirst, Split}
+use Rattle.model.specs.Schedule.{favouring, favours, halfOf}
 use Rattle.model.proofs.Cases.{byBool}
-use Rattle.model.proofs.Sums.{sum-ext, sum-shift, sum-add, sum-zero, sum-one, sum-rows}
+use Rattle.model.proofs.Sums.{sum-ext, sum-add, sum-zero, sum-one, sum-rows}
+use Rattle.model.proofs.Kept.{sumIf, sumOver, kept-sum}
 use Rattle.model.proofs.Partners.{every-map, AtPort, odds-every}
-use Rattle.model.proofs.Splits.{more, less, alike}
+use Rattle.model.proofs.Shares.{favouring-sum}
+use Rattle.model.proofs.Settled.{favours-law, favours-level}
+use Rattle.model.proofs.Splits.{half-at, more, less, alike, only-split}
 
 -- ---- the load of a port as a sum over the positions of a side
 -- a position's ports are ports of the switch
@@ -27,10 +32,6 @@ port-low outputs {ports} {p} l h = mod-lt p l
 abbrev pub kind : Side → ℕ → Class
 kind inputs x = input x
 kind outputs x = output x
-
--- the sum over the positions below n that pass a test
-abbrev pub sumIf : ℕ → (ℕ → Bool) → (ℕ → ℕ) → ℕ
-sumIf n t f = sumTo n (λ p. if (t p) (f p) 0)
 
 pub load-side : (s : Side) (ports x : ℕ) (m : List ℕ) → x < ports → load (kind s x) ports m ≡ sumIf (ports * ports) (λ p. eqb (portOf ports s p) x) (λ p. getD m p 0)
 unfolding load
@@ -43,31 +44,6 @@ load-side outputs ports x m h =
     ∙ sum-ext ports _ _ (λ i hi.
     sum-one ports x _ h (λ o ho n. rw (ne-eqb ((i * ports + o) % ports) x (λ e. n (sym (digits-mod i ho) ∙ e))))
     ∙ rw (eq-eqb ((i * ports + x) % ports) x (digits-mod i h))))
-
--- ---- a sum over what is kept
-abbrev pub sumOver : (ℕ → ℕ) → List ℕ → ℕ
-sumOver f [] = 0
-sumOver f (p ∷ l) = f p + sumOver f l
-
-keep-sum : (t : ℕ → Bool) (f : ℕ → ℕ) (a n : ℕ) → sumOver f (keep t (upFrom a n)) ≡ sumTo n (λ p. if (t (a + p)) (f (a + p)) 0)
-keep-sum t f a zero = sym (sum-zero 0 (λ p. if (t (a + p)) (f (a + p)) 0) (λ p h. absurd (omega arith)))
-keep-sum t f a (suc n) =
-    let r = keep-sum t f (suc a) n in
-    let z : a + 0 ≡ a = omega arith in
-    let rest : sumTo n (λ p. if (t (suc a + p)) (f (suc a + p)) 0) ≡ sumTo n (λ p. if (t (a + suc p)) (f (a + suc p)) 0) =
-    sum-ext n _ _ (λ p h. let e : suc a + p ≡ a + suc p = omega arith in ap (λ (q : ℕ). if (t q) (f q) 0) e) in
-    byBool (t a)
-    (λ e. rw e (omega (arith, sum-shift n (λ p. if (t (a + p)) (f (a + p)) 0), first e)))
-    (λ e. rw e (omega (arith, sum-shift n (λ p. if (t (a + p)) (f (a + p)) 0), first′ e)))
-  where
-    first : t a ≡ true → if (t (a + 0)) (f (a + 0)) 0 ≡ f a
-    first e = let z : a + 0 ≡ a = omega arith in rw (z, e)
-
-    first′ : t a ≡ false → if (t (a + 0)) (f (a + 0)) 0 ≡ 0
-    first′ e = let z : a + 0 ≡ a = omega arith in rw (z, e)
-
-pub kept-sum : (t : ℕ → Bool) (f : ℕ → ℕ) (n : ℕ) → sumOver f (keep t (upFrom 0 n)) ≡ sumIf n t f
-kept-sum t f n = keep-sum t f 0 n ∙ sum-ext n _ _ (λ p h. let e : 0 + p ≡ p = omega arith in rw e)
 
 -- ---- over the odd counts of a port, partner by partner
 module _ (port : Side → ℕ → ℕ) (m a b : List ℕ) (sp : Split port m a b) where
@@ -111,6 +87,22 @@ module _ (port : Side → ℕ → ℕ) (m a b : List ℕ) (sp : Split port m a b
           pairwise (oddsAt (port s) m x)
           (every-map (AtPort (port s) m x) (λ p. odd m p ≡ true) (λ p h. h .0) (oddsAt (port s) m x) (odds-every (port s) m x)) (sp .opposite s x)
 
+-- ---- over all counts: half h gets half of each, and a cell more of those that favour it
+module _ (port : Side → ℕ → ℕ) (m : List ℕ) where
+  half-total : (h : ℕ) → h ≢ 0 → sumTo (length m) (λ p. getD (halfOf port h m) p 0) ≡ sumTo (length m) (λ p. getD m p 0 / 2) + favouring h (favours port m)
+  half-total h n =
+      let len = favours-law port m .len in
+      sum-ext (length m) _ _ (λ p _. half-at h m (favours port m) p n len)
+      ∙ sum-add (length m) (λ p. getD m p 0 / 2) (λ p. bit (eqb (getD (favours port m) p 0) h))
+      ∙ ap (λ z. sumTo (length m) (λ p. getD m p 0 / 2) + z) (ap (λ (k : ℕ). sumTo k (λ p. bit (eqb (getD (favours port m) p 0) h))) (sym len) ∙ sym (favouring-sum h (favours port m)))
+
+  -- the halves that meet the rules are the function's, in which those that favour either half are level
+  pub total-near : (a b : List ℕ) → Split port m a b → Near 1 (sumTo (length m) (λ p. getD a p 0)) (sumTo (length m) (λ p. getD b p 0))
+  total-near a b sp =
+      let only = only-split port m a b sp in
+      let level = favours-level port m in
+      rw (only .0, only .1, half-total 1 (omega arith), half-total 2 (omega arith)) (omega arith)
+
 -- ---- over the class
 pub load-add : (c : Class) (ports : ℕ) (m a b : List ℕ) → ((p : ℕ) → getD a p 0 + getD b p 0 ≡ getD m p 0) → load c ports a + load c ports b ≡ load c ports m
 unfolding load
@@ -119,6 +111,7 @@ load-add (input i) ports m a b h =
     sym (sum-add ports (λ o. countOf ports a i o) (λ o. countOf ports b i o)) ∙ sum-ext ports _ _ (λ o k. h (i * ports + o))
 load-add (output o) ports m a b h =
     sym (sum-add ports (λ i. countOf ports a i o) (λ i. countOf ports b i o)) ∙ sum-ext ports _ _ (λ i k. h (i * ports + o))
+load-add total ports m a b h = sym (sum-add (ports * ports) (λ p. getD a p 0) (λ p. getD b p 0)) ∙ sum-ext (ports * ports) _ _ (λ p k. h p)
 
 module _ (ports : ℕ) (m a b : List ℕ) (size : length m ≡ ports * ports) (sp : Split (portOf ports) m a b) where
   pub halves-sum : (c : Class) → load c ports a + load c ports b ≡ load c ports m
@@ -133,6 +126,7 @@ module _ (ports : ℕ) (m a b : List ℕ) (size : length m ≡ ports * ports) (s
   halves-near (pair i o) of = sp .evenly (i * ports + o)
   halves-near (input i) of = side-near inputs i of
   halves-near (output o) of = side-near outputs o of
+  halves-near total of = rw (sym size) (total-near (portOf ports) m a b sp)
 
   pub halves-fit : (n : ℕ) → Fits ports (2 * n) m → (Fits ports n a) × (Fits ports n b)
   halves-fit n fits = ((λ x h. (fit (input x) h (fits x h .0) .0, fit (output x) h (fits x h .1) .0)), λ x h. (fit (input x) h (fits x h .0) .1, fit (output x) h (fits x h .1) .1))

@@ -15,12 +15,11 @@ use Rattle.model.specs.Frames.{cells, runOf, Legal}
 use Rattle.model.specs.Refusals.{Check, report, clear, bad-ports, bad-slots, levels, lowestAbove, overload}
 use Rattle.model.specs.Schedule.{frameOf}
 use Rattle.model.specs.Sheet.{text, decimal, portsLine, slotsLine, pairLine, lines, numberIn, same, bad-line, bad-port, bad-pair, Asked, loads, refused, unless, most, readPairs, readSlots, readPorts, bad-sheet, overloads, readSheet, printCells, printSlots, printFrame, printRefusal, printed, response}
-use Rattle.model.proofs.Cases.{byBool, byEq, byLt, both-true, within-true}
+use Rattle.model.proofs.Cases.{byBool, byEq, byLt, both-true, within-true, is-yes, is-no}
 use Rattle.model.proofs.Sums.{sum-shift, sum-le, sum-most, sum-zero, sum-has, sum-swap}
 use Rattle.model.proofs.Searches.{first-high}
 use Rattle.model.proofs.Levels.{levels-power, known-power, power-known, power-most}
 use Rattle.model.proofs.Settled.{zero-at}
-use Rattle.model.proofs.Splits.{is-yes, is-no}
 use Rattle.model.proofs.Cells.{cells-slot, run-length}
 use Rattle.model.proofs.OneFrame.{one-frame}
 use Rattle.model.proofs.Demand2.{WellFormed, clear-fits}

@@ -1,12 +1,15 @@
 -- Laws of the definitions, one file for each that they are about.
 pub mod Cases
 pub mod Sums
+pub mod Kept
 pub mod Searches
 pub mod Levels
 pub mod Partners
 pub mod Walks
+pub mod Shares
 pub mod Settled
 pub mod Groups
+pub mod Ties
 pub mod Splits
 pub mod Halves
 pub mod Cells

@@ -12,12 +12,11 @@ use Rattle.model.specs.Words.{both, sumTo, upFrom}
 use Rattle.model.specs.Loads.{Class, pair, load, Fits}
 use Rattle.model.specs.Frames.{cells, runOf}
 use Rattle.model.specs.Rules.{inputs, outputs, portOf, odd}
-use Rattle.model.specs.Schedule.{partner, walk, tieHalf, settleAt, settle, favours, frameOf}
+use Rattle.model.specs.Schedule.{partner, walk, groupOf, level, settleAt, settle, favours, frameOf}
 use Rattle.model.specs.Build.{buildAccepts}
 use Rattle.model.specs.Wire.{Call, Carried, none, chain}
 use Rattle.model.proofs.Levels.{levels-of}
 use Rattle.model.proofs.Walks.{walk-on, walk-off}
-use Rattle.model.proofs.Settled.{groupOf}
 use Rattle.model.proofs.Cells.{cells-run, run-first, run-second, run-all}
 use Rattle.model.proofs.OneFrame.{frame-length, one-frame}
 use Rattle.model.proofs.Demand2.{accepts-yes}
@@ -35,19 +34,19 @@ flow = pair 0 1
 still : (n : ℕ) (go back : ℕ → ℕ) (p q h : ℕ) (c : List ℕ) → go p ≡ q → getD c q 0 ≢ 0 → walk (suc n) go back p h c ≡ c
 still n go back p q h c e s = walk-off n go back p h c (rw e s)
 
--- an odd count that is not settled has its group settled
-settle-on : (i o : ℕ → ℕ) (m : List ℕ) (p : ℕ) (c : List ℕ) → both (odd m p) (eqb (getD c p 0) 0) ≡ true
-    → settleAt i o m p c ≡ groupOf m i o tieHalf p c
+-- an odd count that is not settled favours the first half where the halves are then level
+settle-on : (i o : ℕ → ℕ) (m : List ℕ) (p : ℕ) (c d : List ℕ) → both (odd m p) (eqb (getD c p 0) 0) ≡ true
+    → groupOf i o m 1 p c ≡ d → level d ≡ true → settleAt i o m p c ≡ d
 unfolding settleAt
-settle-on i o m p c e = rw (e, settleAt)
+settle-on i o m p c d e g l = rw (e, settleAt, g, l)
 
 -- a lone odd count is the first of its group, and the whole of it
 alone-settled : (i o : ℕ → ℕ) (c : ℕ) → c % 2 ≡ 1 → i 1 ≡ 1 → o 1 ≡ 1 → settle i o (row 0 c) (upFrom 0 4) (replicate 4 0) ≡ row 0 1
 unfolding settleAt
 alone-settled i o c e f g =
-    settle-on i o (row 0 c) 1 (replicate 4 0) (rw e)
-    ∙ ap (walk 4 o i 1 1) (still 3 i o 1 1 1 (row 0 1) f (omega arith))
-    ∙ still 3 o i 1 1 1 (row 0 1) g (omega arith)
+    settle-on i o (row 0 c) 1 (replicate 4 0) (row 0 1) (rw e)
+    (ap (walk 4 o i 1 1) (still 3 i o 1 1 1 (row 0 1) f (omega arith)) ∙ still 3 o i 1 1 1 (row 0 1) g (omega arith))
+    refl
 
 -- two odd counts of a row are a group, and the first of them is first in it
 full-settled : (i o : ℕ → ℕ) (d c : ℕ) → d % 2 ≡ 1 → c % 2 ≡ 1 → i 0 ≡ 1 → o 0 ≡ 0 → o 1 ≡ 1
@@ -55,9 +54,10 @@ full-settled : (i o : ℕ → ℕ) (d c : ℕ) → d % 2 ≡ 1 → c % 2 ≡ 1 �
 unfolding settleAt
 full-settled i o d c e f g h k =
     ap (settleAt i o (row d c) 1)
-    (settle-on i o (row d c) 0 (replicate 4 0) (rw e)
-    ∙ ap (walk 4 o i 0 1) (walk-on 3 i o 0 1 (row 1 0) (rw g) ∙ rw g (still 2 o i 1 1 2 (row 1 2) k (omega arith)))
+    (settle-on i o (row d c) 0 (replicate 4 0) (row 1 2) (rw e)
+    (ap (walk 4 o i 0 1) (walk-on 3 i o 0 1 (row 1 0) (rw g) ∙ rw g (still 2 o i 1 1 2 (row 1 2) k (omega arith)))
     ∙ still 3 o i 0 0 1 (row 1 2) h (omega arith))
+    refl)
     ∙ rw (f, settleAt)
 
 -- an odd count alone in its row favours the first half

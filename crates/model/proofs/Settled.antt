@@ -9,12 +9,13 @@ use lib.Dec.{eqb}
 use lib.ListN.{length, getD, set, replicate, length-set, length-replicate}
 use lib.Seq.{getD-set-same, getD-set-other}
 use borrow.Author.Tests.{eqb-true, eq-eqb}
-use Rattle.model.specs.Words.{both, upFrom}
+use Rattle.model.specs.Words.{if, both, upFrom}
 use Rattle.model.specs.Rules.{Side, inputs, outputs, odd}
-use Rattle.model.specs.Schedule.{partner, walk, tieHalf, settleAt, settle, favours}
-use Rattle.model.proofs.Cases.{byBool, byEq, both-true, both-false}
+use Rattle.model.specs.Schedule.{partner, walk, groupOf, favouring, level, settleAt, settle, favours}
+use Rattle.model.proofs.Cases.{byBool, byEq, both-true, both-false, is-no, within-yes, within-true}
 use Rattle.model.proofs.Partners.{odd-lt, partner-at, partner-twice}
 use Rattle.model.proofs.Walks.{Good, Pairing, Fine, Walked, zeros-lt, grow, grow-fine, walk-keeps, walk-law}
+use Rattle.model.proofs.Shares.{Shared, group-shares, Level, EvenMore, level-two, odd-two}
 
 -- what is settled is odd, and each settled count's partner is settled with the other half
 pub record Settled (m : List ℕ) (i o : ℕ → ℕ) (c : List ℕ) : Type 0 where
@@ -26,9 +27,27 @@ pub record Settled (m : List ℕ) (i o : ℕ → ℕ) (c : List ℕ) : Type 0 wh
 abbrev pub Keeps : List ℕ → List ℕ → Type 0
 Keeps c c′ = (r : ℕ) → getD c r 0 ≢ 0 → getD c′ r 0 ≡ getD c r 0
 
--- c with the group of p settled, p favouring h
-abbrev pub groupOf : List ℕ → (ℕ → ℕ) → (ℕ → ℕ) → ℕ → ℕ → List ℕ → List ℕ
-groupOf m i o h p c = walk (length m) o i p h (walk (length m) i o p h (set c p h))
+-- ---- before the scan nothing is settled
+pub zero-at : (n q : ℕ) → _≡_ {A = ℕ} (getD (replicate n 0) q 0) 0
+zero-at zero q = refl
+zero-at (suc n) zero = refl
+zero-at (suc n) (suc q) = zero-at n q
+
+pub start-settled : (m : List ℕ) (i o : ℕ → ℕ) → Settled m i o (replicate (length m) 0)
+start-settled m i o =
+    record {
+      fine = record {
+        len = length-replicate (length m) 0;
+        two = λ q. let a = zero-at (length m) q in omega arith;
+        odds = λ q s. absurd (s (zero-at (length m) q));
+      };
+      ins = λ q s. absurd (s (zero-at (length m) q));
+      outs = λ q s. absurd (s (zero-at (length m) q));
+    }
+
+pub none-favour : (h n : ℕ) → h ≢ 0 → favouring h (replicate n 0) ≡ 0
+none-favour h zero n = refl
+none-favour h (suc k) n = omega (arith, none-favour h k n, is-no 0 h (λ e. n (sym e)))
 
 module _ (m : List ℕ) (i o : ℕ → ℕ) (pi : Pairing (odd m) i) (po : Pairing (odd m) o) where
   -- from an odd count p, not settled
@@ -55,7 +74,7 @@ module _ (m : List ℕ) (i o : ℕ → ℕ) (pi : Pairing (odd m) i) (po : Pairi
     start-in : getD (walk (length m) i o p h (set c p h)) p 0 ≡ h
     start-in = let e = start in walk-keeps (length m) i o p h (set c p h) p (omega arith) ∙ e
 
-    walked-out : Walked (length m) (odd m) o i (length m) (length m) (groupOf m i o h p c)
+    walked-out : Walked (length m) (odd m) o i (length m) (length m) (groupOf i o m h p c)
     walked-out =
         let w = walked-in in
         let e = start-in in
@@ -73,13 +92,13 @@ module _ (m : List ℕ) (i o : ℕ → ℕ) (pi : Pairing (odd m) i) (po : Pairi
         })
         (omega (arith, zeros-lt c2 p (omega arith), w .fine .len))
 
-    pub group-settled : Settled m i o (groupOf m i o h p c)
+    pub group-settled : Settled m i o (groupOf i o m h p c)
     group-settled =
         let w = walked-out in
-        let off : (q : ℕ) → getD (groupOf m i o h p c) q 0 ≢ 0 → q ≢ length m = λ q s. let l = odd-lt m q (w .fine .odds q s) in omega arith in
+        let off : (q : ℕ) → getD (groupOf i o m h p c) q 0 ≢ 0 → q ≢ length m = λ q s. let l = odd-lt m q (w .fine .odds q s) in omega arith in
         record { fine = w .fine; ins = λ q s. w .backs q (off q s) s; outs = λ q s. w .goes q (off q s) s }
 
-    pub group-keeps : Keeps c (groupOf m i o h p c)
+    pub group-keeps : Keeps c (groupOf i o m h p c)
     group-keeps r s =
         let ne : r ≢ p = λ k. s (ap (λ (t : ℕ). getD c t 0) k ∙ z) in
         let a = getD-set-other c p r h 0 ne in
@@ -87,67 +106,116 @@ module _ (m : List ℕ) (i o : ℕ → ℕ) (pi : Pairing (odd m) i) (po : Pairi
         let d = walk-keeps (length m) o i p h (walk (length m) i o p h (set c p h)) r (omega arith) in
         omega arith
 
-    pub group-first : getD (groupOf m i o h p c) p 0 ≡ h
+    pub group-first : getD (groupOf i o m h p c) p 0 ≡ h
     group-first = let e = start-in in walk-keeps (length m) o i p h (walk (length m) i o p h (set c p h)) p (omega arith) ∙ e
 
-  -- one position of the scan: either it is odd and not settled, and its group is settled, or nothing changes
-  pub settle-cases : (P : List ℕ → Type 0) (p : ℕ) (c : List ℕ) → (odd m p ≡ true → getD c p 0 ≡ 0 → P (groupOf m i o tieHalf p c))
-      → (both (odd m p) (eqb (getD c p 0) 0) ≡ false → P c) → P (settleAt i o m p c)
+  -- the group of p is taken, and c becomes d
+  pub record Taken (p : ℕ) (c d : List ℕ) : Type 0 where
+    pub odd-count : odd m p ≡ true
+    pub unsettled : getD c p 0 ≡ 0
+    pub half : ℕ
+    pub low : 1 ≤ half
+    pub high : half ≤ 2
+    pub is : d ≡ groupOf i o m half p c
+    pub level : Level c → Level d
+    pub even-first : Level c → EvenMore c d → half ≡ 1
+
+  take-group : (p : ℕ) (c : List ℕ) → length c ≡ length m → odd m p ≡ true → getD c p 0 ≡ 0
+      → Taken p c (if (level (groupOf i o m 1 p c)) (groupOf i o m 1 p c) (groupOf i o m 2 p c))
+  take-group p c len od z =
+      byBool (level one)
+      (λ e. rw e (record {
+        odd-count = od;
+        unsettled = z;
+        half = 1;
+        low = omega arith;
+        high = omega arith;
+        is = refl;
+        level = λ l. within-true (favouring 2 one) (favouring 2 one + 1) (favouring 1 one) e;
+        even-first = λ l k. refl;
+      }))
+      (λ e. rw e (record {
+        odd-count = od;
+        unsettled = z;
+        half = 2;
+        low = omega arith;
+        high = omega arith;
+        is = refl;
+        level = λ l. level-two shares l (no e);
+        even-first = λ l k. absurd (odd-two shares l (no e) k);
+      }))
+    where
+      one : List ℕ
+      one = groupOf i o m 1 p c
+
+      shares : Shared (length m) (odd m) (odd-lt m) c one (groupOf i o m 2 p c)
+      shares = group-shares (length m) (odd m) (odd-lt m) i o m p c pi po refl len od z
+
+      no : level one ≡ false → Level one → ⊥
+      no e l = true≢false (sym (within-yes (favouring 2 one) (favouring 2 one + 1) (favouring 1 one) (l .0) (l .1)) ∙ e)
+
+  -- one position of the scan: either it is odd and not settled, and its group is taken, or nothing changes
+  pub settle-cases : {P : Type 0} (p : ℕ) (c : List ℕ) → length c ≡ length m → (Taken p c (settleAt i o m p c) → P)
+      → (both (odd m p) (eqb (getD c p 0) 0) ≡ false → settleAt i o m p c ≡ c → P) → P
   unfolding settleAt
-  settle-cases P p c f g =
+  settle-cases p c len f g =
       byBool (both (odd m p) (eqb (getD c p 0) 0))
-      (λ e. let t = both-true (odd m p) (eqb (getD c p 0) 0) e in rw (e, settleAt) (f (t .0) (eqb-true (getD c p 0) 0 (t .1))))
-      (λ e. rw (e, settleAt) (g e))
+      (λ e. let t = both-true (odd m p) (eqb (getD c p 0) 0) e in f (rw (e, settleAt) (take-group p c len (t .0) (eqb-true (getD c p 0) 0 (t .1)))))
+      (λ e. g e (rw (e, settleAt)))
 
   pub settle-one : (p : ℕ) (c : List ℕ) → Settled m i o c
       → (Settled m i o (settleAt i o m p c)) × (Keeps c (settleAt i o m p c)) × (odd m p ≡ true → getD (settleAt i o m p c) p 0 ≢ 0)
   settle-one p c st =
-      settle-cases (λ d. Settled m i o d × Keeps c d × (odd m p ≡ true → getD d p 0 ≢ 0)) p c
-      (λ od z. (
-        group-settled tieHalf (omega arith) (omega arith) p c od z st,
-        group-keeps tieHalf (omega arith) (omega arith) p c od z st,
-        λ _. let f = group-first tieHalf (omega arith) (omega arith) p c od z st in omega arith,
+      settle-cases p c (st .fine .len)
+      (λ t.
+      let first = group-first (t .half) (t .low) (t .high) p c (t .odd-count) (t .unsettled) st in
+      let low = t .low in
+      rw (t .is) (
+        group-settled (t .half) (t .low) (t .high) p c (t .odd-count) (t .unsettled) st,
+        group-keeps (t .half) (t .low) (t .high) p c (t .odd-count) (t .unsettled) st,
+        λ _ z. absurd (omega arith),
       ))
-      (λ e. (st, (λ r s. refl), λ t z. both-false (odd m p) (eqb (getD c p 0) 0) e t (eq-eqb (getD c p 0) 0 z)))
+      (λ e k. rw k (st, (λ r s. refl), λ t z. both-false (odd m p) (eqb (getD c p 0) 0) e t (eq-eqb (getD c p 0) 0 z)))
 
-  pub settle-law : (k a : ℕ) (c : List ℕ) → Settled m i o c
-      → (Settled m i o (settle i o m (upFrom a k) c)) × (Keeps c (settle i o m (upFrom a k) c))
-      × ((q : ℕ) → a ≤ q → q < a + k → odd m q ≡ true → getD (settle i o m (upFrom a k) c) q 0 ≢ 0)
-  settle-law zero a c st = (st, (λ r s. refl), λ q l h. absurd (omega arith))
-  settle-law (suc k) a c st =
-      let s = settle-one a c st in
-      let r = settle-law k (suc a) (settleAt i o m a c) (s .0) in (
-        r .0,
-        (λ q n. let e = s .1 q n in r .1 q (omega arith) ∙ e),
-        λ q l h t. byEq q a
-            (λ e. subst (λ (x : ℕ). getD (settle i o m (upFrom (suc a) k) (settleAt i o m a c)) x 0 ≢ 0) (sym e)
-            (still (settle i o m (upFrom (suc a) k) (settleAt i o m a c)) (s .2 (rw e at t)) (r .1)))
-            (λ e. r .2 q (omega arith) (omega arith) t),
-      )
-    where
-      still : (c′ : List ℕ) → getD (settleAt i o m a c) a 0 ≢ 0 → Keeps (settleAt i o m a c) c′ → getD c′ a 0 ≢ 0
-      still c′ n k = let e = k a n in omega arith
+  -- ---- the scan: after the first a positions
+  abbrev pub scan : ℕ → List ℕ
+  scan zero = replicate (length m) 0
+  scan (suc a) = settleAt i o m a (scan a)
+
+  scan-from : (k a b : ℕ) → b ≡ k + a → settle i o m (upFrom a k) (scan a) ≡ scan b
+  scan-from zero a b e = let f : a ≡ b = omega arith in ap scan f
+  scan-from (suc k) a b e = scan-from k (suc a) b (omega arith)
+
+  pub scan-settled : (a : ℕ) → Settled m i o (scan a)
+  scan-settled zero = start-settled m i o
+  scan-settled (suc a) = settle-one a (scan a) (scan-settled a) .0
+
+  pub scan-keeps : (a b : ℕ) → a ≤ b → Keeps (scan a) (scan b)
+  scan-keeps zero zero h r s = refl
+  scan-keeps (suc a) zero h r s = absurd (omega arith)
+  scan-keeps a (suc b) h r s =
+      byEq a (suc b) (λ e. rw e)
+      (λ n.
+      let e = scan-keeps a b (omega arith) r s in
+      settle-one b (scan b) (scan-settled b) .1 r (λ z. s (sym e ∙ z)) ∙ e)
+
+  pub scan-done : (a q : ℕ) → q < a → odd m q ≡ true → getD (scan a) q 0 ≢ 0
+  scan-done zero q h e = absurd (omega arith)
+  scan-done (suc a) q h e =
+      let s = settle-one a (scan a) (scan-settled a) in
+      byEq q a (λ k. rw k (s .2 (rw k at e)))
+      (λ k. let n = scan-done a q (omega arith) e in λ z. n (sym (s .1 q n) ∙ z))
+
+  pub scan-level : (a : ℕ) → Level (scan a)
+  scan-level zero =
+      let x = none-favour 1 (length m) (omega arith) in
+      let y = none-favour 2 (length m) (omega arith) in
+      omega arith
+  scan-level (suc a) = let l = scan-level a in settle-cases a (scan a) (scan-settled a .fine .len) (λ t. t .level l) (λ e k. rw k l)
 
 -- ---- the whole
 pub partner-pairing : (port : ℕ → ℕ) (m : List ℕ) → Pairing (odd m) (partner port m)
 partner-pairing port m = record { twice = partner-twice port m; odds = λ p o. partner-at port m p o .0 }
-
-pub zero-at : (n q : ℕ) → _≡_ {A = ℕ} (getD (replicate n 0) q 0) 0
-zero-at zero q = refl
-zero-at (suc n) zero = refl
-zero-at (suc n) (suc q) = zero-at n q
-
-pub start-settled : (m : List ℕ) (i o : ℕ → ℕ) → Settled m i o (replicate (length m) 0)
-start-settled m i o =
-    record {
-      fine = record {
-        len = length-replicate (length m) 0;
-        two = λ q. let a = zero-at (length m) q in omega arith;
-        odds = λ q s. absurd (s (zero-at (length m) q));
-      };
-      ins = λ q s. absurd (s (zero-at (length m) q));
-      outs = λ q s. absurd (s (zero-at (length m) q));
-    }
 
 -- each count has the half that it favours, an even one 0, and partners on a side favour opposite halves
 pub record Favoured (m : List ℕ) (mate : Side → ℕ → ℕ) (c : List ℕ) : Type 0 where
@@ -161,14 +229,20 @@ pub record Favoured (m : List ℕ) (mate : Side → ℕ → ℕ) (c : List ℕ) 
 abbrev pub mate : (Side → ℕ → ℕ) → List ℕ → Side → ℕ → ℕ
 mate port m s = partner (port s) m
 
-pub favours-law : (port : Side → ℕ → ℕ) (m : List ℕ) → Favoured m (mate port m) (favours port m)
+-- what the counts favour is what the scan leaves
+pub favours-scan : (port : Side → ℕ → ℕ) (m : List ℕ)
+    → favours port m ≡ scan m (partner (port inputs) m) (partner (port outputs) m) (partner-pairing (port inputs) m) (partner-pairing (port outputs) m) (length m)
 unfolding favours
+favours-scan port m =
+    scan-from m (partner (port inputs) m) (partner (port outputs) m) (partner-pairing (port inputs) m) (partner-pairing (port outputs) m) (length m) 0 (length m) (omega arith)
+
+pub favours-law : (port : Side → ℕ → ℕ) (m : List ℕ) → Favoured m (mate port m) (favours port m)
 favours-law port m =
     record {
-      len = r .0 .fine .len;
-      evens = λ q e. byEq (getD c q 0) 0 (λ h. h) (λ h. absurd (true≢false (sym (r .0 .fine .odds q h) ∙ e)));
+      len = st .fine .len;
+      evens = λ q e. byEq (getD (favours port m) q 0) 0 (λ h. h) (λ h. absurd (true≢false (sym (st .fine .odds q h) ∙ e)));
       low = λ q e. let a = done q e in omega arith;
-      high = r .0 .fine .two;
+      high = st .fine .two;
       mates = sides;
     }
   where
@@ -178,15 +252,23 @@ favours-law port m =
     o : ℕ → ℕ
     o = partner (port outputs) m
 
-    c : List ℕ
-    c = settle i o m (upFrom 0 (length m)) (replicate (length m) 0)
+    pi : Pairing (odd m) i
+    pi = partner-pairing (port inputs) m
 
-    r : (Settled m i o c) × (Keeps (replicate (length m) 0) c) × ((q : ℕ) → 0 ≤ q → q < 0 + length m → odd m q ≡ true → getD c q 0 ≢ 0)
-    r = settle-law m i o (partner-pairing (port inputs) m) (partner-pairing (port outputs) m) (length m) 0 (replicate (length m) 0) (start-settled m i o)
+    po : Pairing (odd m) o
+    po = partner-pairing (port outputs) m
 
-    done : (q : ℕ) → odd m q ≡ true → getD c q 0 ≢ 0
-    done q e = r .2 q (omega arith) (let l = odd-lt m q e in omega arith) e
+    st : Settled m i o (favours port m)
+    st = rw (favours-scan port m) (scan-settled m i o pi po (length m))
 
-    sides : (s : Side) (q : ℕ) → odd m q ≡ true → mate port m s q ≢ q → getD c (mate port m s q) 0 + getD c q 0 ≡ 3
-    sides inputs q e = r .0 .ins q (done q e)
-    sides outputs q e = r .0 .outs q (done q e)
+    done : (q : ℕ) → odd m q ≡ true → getD (favours port m) q 0 ≢ 0
+    done q e = rw (favours-scan port m) (scan-done m i o pi po (length m) q (odd-lt m q e) e)
+
+    sides : (s : Side) (q : ℕ) → odd m q ≡ true → mate port m s q ≢ q → getD (favours port m) (mate port m s q) 0 + getD (favours port m) q 0 ≡ 3
+    sides inputs q e = st .ins q (done q e)
+    sides outputs q e = st .outs q (done q e)
+
+-- as many favour the first half as the second, or one more
+pub favours-level : (port : Side → ℕ → ℕ) (m : List ℕ) → Level (favours port m)
+favours-level port m =
+    rw (favours-scan port m) (scan-level m (partner (port inputs) m) (partner (port outputs) m) (partner-pairing (port inputs) m) (partner-pairing (port outputs) m) (length m))

@@ -16,12 +16,11 @@ use Rattle.model.specs.Loads.{Class, pair, input, output, Of, countOf, l
 use Rattle.model.specs.Frames.{counts, cells}
 use Rattle.model.specs.Rules.{odd, Slot}
 use Rattle.model.specs.Schedule.{put, slotOf}
-use Rattle.model.proofs.Cases.{byBool, byEq}
+use Rattle.model.proofs.Cases.{byBool, byEq, is-yes, is-no}
 use Rattle.model.proofs.Sums.{sum-ext, sum-zero, sum-one, sum-has, sum-has-two}
 use Rattle.model.proofs.Cells.{cells-slot}
 use Rattle.model.proofs.Partners.{odd-lt}
 use Rattle.model.proofs.Settled.{zero-at}
-use Rattle.model.proofs.Splits.{is-yes, is-no}
 
 -- ---- what is written into a slot
 put-length : (ports : ℕ) (l s : List ℕ) → length (put ports l s) ≡ length s

@@ -1,29 +1,25 @@
 -- One split: the function's halves meet rules 2 to 5, and whatever meets them is the function's halves.
-use Prim.Native.Nat.{ℕ, suc, zero, _+_, _/_, _%_, _≤_}
+use Prim.Native.Nat.{ℕ, suc, zero, _+_, _*_, _/_, _%_, _≤_}
 use mathlib.Core.Path.{_≡_, refl, sym, ap, _∙_, subst}
 use mathlib.Core.Logic.{_≢_, ⊎-elim}
 use mathlib.Core.List.{List, [], _∷_}
 use mathlib.Core.Bool.{Bool, true, false, not}
 use native.Mathlib.Omega.{arith}
-use lib.Dec.{eqb}
+use lib.Dec.{eqb, ltb}
 use lib.ListN.{length, getD}
 use lib.Seq.{ext-getD}
 use borrow.Author.Tests.{eqb-true, eqb-false, eq-eqb, ne-eqb, lt-ltb, le-ltb, ltb-true, ltb-false}
-use Rattle.model.specs.Words.{bit, Near}
-use Rattle.model.specs.Rules.{Side, odd, oddsAt, Partners, Joined, favoursFirst, Split}
+use Rattle.model.specs.Words.{bit, upFrom, keep, Near, Every}
+use Rattle.model.specs.Rules.{Side, odd, oddsAt, Partners, Joined, Lists, Group, OddGroup, favoursFirst, largerFirst, Split}
 use Rattle.model.specs.Schedule.{favours, halfBy, halfOf}
-use Rattle.model.proofs.Cases.{byBool, byEq}
-use Rattle.model.proofs.Partners.{rule-partner, partner-rule}
+use Rattle.model.proofs.Cases.{byBool, byEq, is-yes, is-no}
+use Rattle.model.proofs.Partners.{every-map, rule-partner, partner-rule}
 use Rattle.model.proofs.Settled.{mate, favours-law}
-use Rattle.model.proofs.Groups.{reached-closed, reached-sym, pairings, favours-led, reached-joined, joined-reached}
+use Rattle.model.proofs.Kept.{keep-alike, keep-parts}
+use Rattle.model.proofs.Groups.{Reached, reached-closed, pairings, joined-reached}
+use Rattle.model.proofs.Ties.{lists-every, has-group, even-favours, odd-test, odd-lists, odd-favours}
 
 -- ---- halves by what each count favours
-pub is-yes : (x h : ℕ) → x ≡ h → bit (eqb x h) ≡ 1
-is-yes x h e = rw (eq-eqb x h e)
-
-pub is-no : (x h : ℕ) → x ≢ h → bit (eqb x h) ≡ 0
-is-no x h n = rw (ne-eqb x h n)
-
 pub half-at : (h : ℕ) (m c : List ℕ) (p : ℕ) → h ≢ 0 → length c ≡ length m → getD (halfBy h m c) p 0 ≡ getD m p 0 / 2 + bit (eqb (getD c p 0) h)
 half-at h [] [] p n e = omega (arith, is-no 0 h (λ k. n (sym k)))
 half-at h [] (y ∷ c) p n e = absurd (omega arith)
@@ -88,6 +84,21 @@ module _ (port : Side → ℕ → ℕ) (m : List ℕ) where
   opposite-is : (a b : ℕ) → 1 ≤ a → 1 ≤ b → a + b ≡ 3 → eqb a 1 ≡ not (eqb b 1)
   opposite-is a b x y e = byEq b 1 (λ k. rw (eq-eqb b 1 k) (ne-eqb a 1 (omega arith))) (λ k. rw (ne-eqb b 1 k) (eq-eqb a 1 (omega arith)))
 
+  -- what holds of each that the first count of a group reaches holds of each of the group
+  group-every : (P : ℕ → Type 0) (p : ℕ) (group : List ℕ) → Group port m p group → ((q : ℕ) → Reached (mate port m) p q → P q) → Every P group
+  group-every P p group x h =
+      every-map (Joined port m p) P (λ q j. h q (joined-reached port m p q j)) group (lists-every (length m) (Joined port m p) group (x .counts))
+
+  group-odd : (p : ℕ) (group : List ℕ) → Group port m p group → (q : ℕ) → Reached (mate port m) p q → odd m q ≡ true
+  group-odd p group x q j = reached-closed (mate port m) p (λ r. odd m r ≡ true) (x .odd-count) (λ s. pairings port m s .odds) q j
+
+  -- those of a group that favour the first half
+  firsts-are : (p : ℕ) (group : List ℕ) → Group port m p group
+      → keep (favoursFirst (halfOf port 1 m) (halfOf port 2 m)) group ≡ keep (λ q. eqb (colour q) 1) group
+  firsts-are p group x =
+      keep-alike (favoursFirst (halfOf port 1 m) (halfOf port 2 m)) (λ q. eqb (colour q) 1) group
+      (group-every (λ q. favoursFirst (halfOf port 1 m) (halfOf port 2 m) q ≡ eqb (colour q) 1) p group x (λ q j. first-is q (group-odd p group x q j)))
+
   pub split-is : Split port m (halfOf port 1 m) (halfOf port 2 m)
   split-is =
       record {
@@ -96,7 +107,8 @@ module _ (port : Side → ℕ → ℕ) (m : List ℕ) where
         shared = λ p. shares p .0;
         evenly = λ p. shares p .1;
         opposite = opposite;
-        tie = tie;
+        even-group = λ p group x e. first-is p (x .odd-count) ∙ eq-eqb (colour p) 1 (even-favours port m p group x e);
+        odd-group = λ p group before x e b. ap (λ (l : List ℕ). ltb (length group) (2 * length l)) (firsts-are p group x) ∙ odd-favours port m p group before x e b;
       }
     where
       opposite : (s : Side) (x p q : ℕ) → Partners (oddsAt (port s) m x) p q → favoursFirst (halfOf port 1 m) (halfOf port 2 m) p ≡ not (favoursFirst (halfOf port 1 m) (halfOf port 2 m) q)
@@ -110,14 +122,6 @@ module _ (port : Side → ℕ → ℕ) (m : List ℕ) where
           ∙ opposite-is (colour p) (colour q) (f .low p (r .0 .0)) (f .low q (r .1 .0)) (omega arith)
           ∙ ap not (sym (first-is q (r .1 .0)))
 
-      tie : (p : ℕ) → odd m p ≡ true → ((q : ℕ) → Joined port m p q → p ≤ q) → favoursFirst (halfOf port 1 m) (halfOf port 2 m) p ≡ true
-      tie p e least =
-          let l = favours-led port m p e in
-          let a = l .3 p (l .1) in
-          let b = least (l .0) (reached-joined port m p (l .0) (reached-sym (mate port m) (λ s. pairings port m s .twice) (l .0) p (l .1))) in
-          let k : p ≡ l .0 = omega arith in
-          first-is p e ∙ eq-eqb (colour p) 1 (ap colour k ∙ l .2)
-
   -- ---- whatever meets the rules
   module _ (a b : List ℕ) (sp : Split port m a b) where
     -- of one count, by whether it favours the first half
@@ -130,16 +134,16 @@ module _ (port : Side → ℕ → ℕ) (m : List ℕ) where
     pub alike : (p : ℕ) → odd m p ≡ false → (getD a p 0 ≡ getD m p 0 / 2 + 0) × (getD b p 0 ≡ getD m p 0 / 2 + 0)
     alike p e = let o : getD m p 0 % 2 ≢ 1 = eqb-false (getD m p 0 % 2) 1 e in let s = sp .shared p in let n = sp .evenly p in omega arith
 
-    -- it agrees with the function's along partners
-    abbrev Agrees : ℕ → Type 0
-    Agrees p = (odd m p ≡ true) × (favoursFirst a b p ≡ eqb (colour p) 1)
+    -- along partners it goes with the function's, the same way round or the other
+    abbrev Agrees : (Bool → Bool) → ℕ → Type 0
+    Agrees way p = (odd m p ≡ true) × (favoursFirst a b p ≡ way (eqb (colour p) 1))
 
     flip : (x y : Bool) → x ≡ not y → not x ≡ y
     flip x true e = rw e
     flip x false e = rw e
 
-    agree-on : (s : Side) (p : ℕ) → Agrees p → Agrees (mate port m s p)
-    agree-on s p g =
+    agree-on : (way : Bool → Bool) → ((x : Bool) → way (not x) ≡ not (way x)) → (s : Side) (p : ℕ) → Agrees way p → Agrees way (mate port m s p)
+    agree-on way turns s p g =
         byEq (mate port m s p) p (λ e. rw e g)
         (λ n.
         let f = favours-law port m in
@@ -151,15 +155,42 @@ module _ (port : Side → ℕ → ℕ) (m : List ℕ) where
         (λ w. sym (flip (favoursFirst a b p) (favoursFirst a b q) (sp .opposite s (port s p) p q w)))
         (λ w. sp .opposite s (port s p) q p w)
         (partner-rule (port s) m p n) in
-        (oq, there ∙ ap not (g .1) ∙ sym here))
+        (oq, there ∙ ap not (g .1) ∙ sym (turns (eqb (colour p) 1)) ∙ ap way (sym here)))
 
-    agrees : (p : ℕ) → odd m p ≡ true → Agrees p
+    -- the other way round in a group with an odd number of counts, the other half would have more of it
+    other-way : (p : ℕ) (group : List ℕ) → Group port m p group → length group % 2 ≡ 1 → favoursFirst a b p ≡ not (eqb (colour p) 1) → ⊥
+    other-way p group x o e =
+        let before = keep (odd-test port m) (upFrom 0 p) in
+        let f : ℕ → Bool = λ q. eqb (colour q) 1 in
+        let lists = odd-lists port m p in
+        let same : largerFirst a b group ≡ ltb (length group) (2 * length (keep f group)) =
+        sp .odd-group p group before x o lists ∙ sym (odd-favours port m p group before x o lists) in
+        let turned : keep (favoursFirst a b) group ≡ keep (λ q. not (f q)) group = keep-alike (favoursFirst a b) (λ q. not (f q)) group
+        (group-every (λ q. favoursFirst a b q ≡ not (f q)) p group x
+        (λ q j. reached-closed (mate port m) p (Agrees not) (x .odd-count, e) (agree-on not (λ y. refl)) q j .1)) in
+        let parts = keep-parts f group in
+        one-larger (length group) (length (keep f group)) (length (keep (λ q. not (f q)) group)) parts o
+        (sym (ap (λ (l : List ℕ). ltb (length group) (2 * length l)) turned) ∙ same)
+      where
+        one-larger : (n x y : ℕ) → x + y ≡ n → n % 2 ≡ 1 → ltb n (2 * y) ≡ ltb n (2 * x) → ⊥
+        one-larger n x y e o d =
+            byBool (ltb n (2 * x))
+            (λ k. let g = ltb-true n (2 * x) k in let h = ltb-true n (2 * y) (d ∙ k) in omega arith)
+            (λ k. let g = ltb-false n (2 * x) k in let h = ltb-false n (2 * y) (d ∙ k) in omega arith)
+
+    -- so the first count of a group favours what the function says
+    first-agrees : (p : ℕ) (group : List ℕ) → Group port m p group → favoursFirst a b p ≡ eqb (colour p) 1
+    first-agrees p group x =
+        byEq (length group % 2) 1
+        (λ o. byBool (favoursFirst a b p)
+        (λ e. byBool (eqb (colour p) 1) (λ k. e ∙ sym k) (λ k. absurd (other-way p group x o (e ∙ ap not (sym k)))))
+        (λ e. byBool (eqb (colour p) 1) (λ k. absurd (other-way p group x o (e ∙ ap not (sym k)))) (λ k. e ∙ sym k)))
+        (λ o. let z : length group % 2 ≡ 0 = omega arith in sp .even-group p group x z ∙ sym (eq-eqb (colour p) 1 (even-favours port m p group x z)))
+
+    agrees : (p : ℕ) → odd m p ≡ true → favoursFirst a b p ≡ eqb (colour p) 1
     agrees p e =
-        let l = favours-led port m p e in
-        let f = mate port m in
-        let od = reached-closed f p (λ t. odd m t ≡ true) e (λ s. pairings port m s .odds) (l .0) (reached-sym f (λ s. pairings port m s .twice) (l .0) p (l .1)) in
-        let top = sp .tie (l .0) od (λ q j. l .3 q (joined-reached port m (l .0) q j)) in
-        reached-closed f (l .0) Agrees (od, top ∙ sym (eq-eqb (colour (l .0)) 1 (l .2))) agree-on p (l .1)
+        let g = has-group port m p e in
+        reached-closed (mate port m) (g .0) (Agrees (λ x. x)) (g .2 .odd-count, first-agrees (g .0) (g .1) (g .2)) (agree-on (λ x. x) (λ x. refl)) p (g .3) .1
 
     only-at : (p : ℕ) → (getD a p 0 ≡ getD (halfOf port 1 m) p 0) × (getD b p 0 ≡ getD (halfOf port 2 m) p 0)
     only-at p =
@@ -167,8 +198,8 @@ module _ (port : Side → ℕ → ℕ) (m : List ℕ) where
         (λ e.
         let g = agrees p e in
         byEq (colour p) 1
-        (λ k. let h = more p e (g .1 ∙ eq-eqb (colour p) 1 k) in let v = given-one p k in (h .0 ∙ sym (v .first), h .1 ∙ sym (v .second)))
-        (λ k. let h = less p e (g .1 ∙ ne-eqb (colour p) 1 k) in let v = given-two p k e in (h .0 ∙ sym (v .first), h .1 ∙ sym (v .second))))
+        (λ k. let h = more p e (g ∙ eq-eqb (colour p) 1 k) in let v = given-one p k in (h .0 ∙ sym (v .first), h .1 ∙ sym (v .second)))
+        (λ k. let h = less p e (g ∙ ne-eqb (colour p) 1 k) in let v = given-two p k e in (h .0 ∙ sym (v .first), h .1 ∙ sym (v .second))))
         (λ e. let h = alike p e in let v = given-even p e in (h .0 ∙ sym (v .first), h .1 ∙ sym (v .second)))
 
     pub only-split : (a ≡ halfOf port 1 m) × (b ≡ halfOf port 2 m)

@@ -90,6 +90,14 @@ pub walk-off : (n : ℕ) (go back : ℕ → ℕ) (p h : ℕ) (c : List ℕ) → 
 unfolding walk
 walk-off n go back p h c e = rw (ne-eqb (getD c (go p) 0) 0 e, walk)
 
+pub walk-length : (k : ℕ) (go back : ℕ → ℕ) (p h : ℕ) (c : List ℕ) → length (walk k go back p h c) ≡ length c
+unfolding walk
+walk-length zero go back p h c = refl
+walk-length (suc k) go back p h c =
+    byEq (getD c (go p) 0) 0
+    (λ e. rw (walk-on k go back p h c e) (walk-length k back go (go p) (3 - h) (set c (go p) (3 - h)) ∙ length-set c (go p) (3 - h)))
+    (λ e. rw (walk-off k go back p h c e))
+
 -- what is settled stays
 pub walk-keeps : (n : ℕ) (go back : ℕ → ℕ) (p h : ℕ) (c : List ℕ) (r : ℕ) → getD c r 0 ≢ 0 → getD (walk n go back p h c) r 0 ≡ getD c r 0
 unfolding walk

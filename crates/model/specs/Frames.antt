@@ -6,17 +6,18 @@ use mathlib.Core.Bool.{Bool, not}
 use lib.Dec.{eqb}
 use lib.ListN.{length, getD, take, drop}
 use Rattle.model.specs.Words.{both, bit, sumTo, Near}
-use Rattle.model.specs.Loads.{Class, pair, input, output, Of, load}
+use Rattle.model.specs.Loads.{Class, pair, input, output, total, Of, load}
 
 -- A frame is its slots, first slot first; a slot is one byte per input: the output that it sends to, numbered from 1,
 -- or 0 for idle. So byte q of any whole slots, end to end, is that of input q % ports.
 
 -- A byte counts for a pair if it is its input's and equals its output, for an input if it is its own and not 0,
--- for an output if it equals it.
+-- for an output if it equals it, and for the total if it is not 0.
 abbrev pub counts : Class → ℕ → ℕ → Bool
 counts (pair i o) at byte = both (eqb at i) (eqb byte (suc o))
 counts (input i) at byte = both (eqb at i) (not (eqb byte 0))
 counts (output o) at byte = eqb byte (suc o)
+counts total at byte = not (eqb byte 0)
 
 -- The cells of a class in the bytes of whole slots: those that count for it.
 unfoldable pub cells : Class → ℕ → List ℕ → ℕ
@@ -40,7 +41,8 @@ pub data Block (slots : ℕ) : ℕ → ℕ → Type 0 where
   front : (start half : ℕ) → Block slots start (2 * half) → Block slots start half
   back : (start half : ℕ) → Block slots start (2 * half) → Block slots (start + half) half
 
--- A frame is balanced if in every block that has halves they differ by at most 1 for each pair, input and output.
+-- A frame is balanced if in every block that has halves they differ by at most 1 for each pair, input and output and for
+-- the total.
 abbrev pub Balanced : ℕ → ℕ → List ℕ → Type 0
 Balanced ports slots bytes =
     (c : Class) → Of ports c → (start half : ℕ) → Block slots start (2 * half)

@@ -5,7 +5,7 @@ use mathlib.Core.Bool.{Bool, true, not}
 use lib.Dec.{eqb, ltb}
 use lib.ListN.{getD}
 use Rattle.model.specs.Words.{both, near, upFrom, first}
-use Rattle.model.specs.Loads.{Class, pair, input, output, load}
+use Rattle.model.specs.Loads.{Class, pair, input, output, total, load}
 use Rattle.model.specs.Frames.{cells, runOf}
 use Rattle.model.specs.Refusals.{Check, report, refusal, bad-ports, bad-slots, bad-matrix, bad-frame, levels}
 use Rattle.model.specs.declared.Inspection.{Inspection}
@@ -53,17 +53,17 @@ wrongCount ports matrix bytes p =
 abbrev pub pairCount : ℕ → List ℕ → List ℕ → Check
 pairCount ports matrix bytes = firstPlace 103 (wrongCount ports matrix bytes) ports (ports * ports)
 
--- All that is counted: each pair, each input, each output.
+-- All that is counted: each pair, each input, each output, and the total.
 abbrev pub classes : ℕ → List Class
 classes ports =
     map (λ p. pair (p / ports) (p % ports)) (upFrom 0 (ports * ports))
-    ++ (map input (upFrom 0 ports) ++ map output (upFrom 0 ports))
+    ++ (map input (upFrom 0 ports) ++ (map output (upFrom 0 ports) ++ (total ∷ [])))
 
 abbrev pub all : (Class → Bool) → List Class → Bool
 all t [] = true
 all t (c ∷ l) = both (t c) (all t l)
 
--- The two halves, half slots each from slot start on, differ by more than 1 for some pair, input or output.
+-- The two halves, half slots each from slot start on, differ by more than 1 for some pair, input or output, or in total.
 unfoldable pub unbalanced : ℕ → List ℕ → ℕ → ℕ → Bool
 unbalanced ports bytes start half =
     not (all (λ c. near 1 (cells c ports (runOf ports start half bytes)) (cells c ports (runOf ports (start + half) half bytes))) (classes ports))

@@ -1,8 +1,8 @@
 -- Rules 2 to 6 of the splitting, as stated; rule 1 is `Block` of Frames.
-use Prim.Native.Nat.{ℕ, suc, zero, _+_, _/_, _%_, _≤_, _<_}
+use Prim.Native.Nat.{ℕ, suc, zero, _+_, _*_, _/_, _%_, _≤_, _<_}
 use mathlib.Core.Path.{_≡_}
 use mathlib.Core.List.{List, _∷_, _++_}
-use mathlib.Core.Bool.{Bool, true, not}
+use mathlib.Core.Bool.{Bool, true, false, not}
 use lib.Dec.{eqb, ltb}
 use lib.ListN.{length, getD}
 use Rattle.model.specs.Words.{both, bit, upFrom, keep, Near}
@@ -35,9 +35,32 @@ pub data Joined (port : Side → ℕ → ℕ) (m : List ℕ) (p : ℕ) : ℕ →
   onward : (s : Side) (x : ℕ) {q r : ℕ} → Joined port m p q → Partners (oddsAt (port s) m x) q r → Joined port m p r
   backward : (s : Side) (x : ℕ) {q r : ℕ} → Joined port m p q → Partners (oddsAt (port s) m x) r q → Joined port m p r
 
+-- The list has the numbers below n of which P holds, rising, and no others.
+pub record Lists (n : ℕ) (P : ℕ → Type 0) (l : List ℕ) : Type 0 where
+  pub test : ℕ → Bool
+  pub yes : (q : ℕ) → test q ≡ true → P q
+  pub no : (q : ℕ) → test q ≡ false → P q → ⊥
+  pub listed : l ≡ keep test (upFrom 0 n)
+
+-- A group is taken by its first count in matrix order, p; these are its counts, rising.
+pub record Group (port : Side → ℕ → ℕ) (m : List ℕ) (p : ℕ) (group : List ℕ) : Type 0 where
+  pub odd-count : odd m p ≡ true
+  pub first : (q : ℕ) → Joined port m p q → p ≤ q
+  pub counts : Lists (length m) (Joined port m p) group
+
+-- A group with an odd number of counts is taken by p.
+pub record OddGroup (port : Side → ℕ → ℕ) (m : List ℕ) (p : ℕ) : Type 0 where
+  pub group : List ℕ
+  pub taken : Group port m p group
+  pub odd-number : length group % 2 ≡ 1
+
 -- A count favours the first half if that gets more of it.
 abbrev pub favoursFirst : List ℕ → List ℕ → ℕ → Bool
 favoursFirst a b p = ltb (getD b p 0) (getD a p 0)
+
+-- The first half has the larger share of a group if more than half of its counts favour it.
+abbrev pub largerFirst : List ℕ → List ℕ → List ℕ → Bool
+largerFirst a b group = ltb (length group) (2 * length (keep (favoursFirst a b) group))
 
 -- The counts m of a block, shared between its halves, a and b, over the port of each position on each side.
 pub record Split (port : Side → ℕ → ℕ) (m a b : List ℕ) : Type 0 where
@@ -48,8 +71,12 @@ pub record Split (port : Side → ℕ → ℕ) (m a b : List ℕ) : Type 0 where
   pub evenly : (p : ℕ) → Near 1 (getD a p 0) (getD b p 0)
   -- Rule 4: partners favour opposite halves.
   pub opposite : (s : Side) (x p q : ℕ) → Partners (oddsAt (port s) m x) p q → favoursFirst a b p ≡ not (favoursFirst a b q)
-  -- Rule 5: in each group the count that comes first in matrix order gives its extra cell to the first half.
-  pub tie : (p : ℕ) → odd m p ≡ true → ((q : ℕ) → Joined port m p q → p ≤ q) → favoursFirst a b p ≡ true
+  -- Rule 5, the tie rule: in a group with an even number of counts the first one gives its extra cell to the first half.
+  pub even-group : (p : ℕ) (group : List ℕ) → Group port m p group → length group % 2 ≡ 0 → favoursFirst a b p ≡ true
+  -- Of a group with an odd number one half has one count more: the first half if the group is the first, third, fifth, .. of
+  -- such groups in the block, else the second. Its number among them is one more than of those taken before it.
+  pub odd-group : (p : ℕ) (group before : List ℕ) → Group port m p group → length group % 2 ≡ 1 → Lists p (OddGroup port m) before
+      → largerFirst a b group ≡ eqb (suc (length before) % 2) 1
 
 -- Rule 6: the counts of a block of one slot are the slot's cells.
 pub record Slot (ports : ℕ) (m bytes : List ℕ) : Type 0 where

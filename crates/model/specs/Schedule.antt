@@ -1,10 +1,10 @@
 -- The frame as a function. The laws of proofs/ show that this is the only thing that meets the rules.
 use Prim.Native.Nat.{ℕ, suc, zero, _+_, _-_, _/_, _%_}
 use mathlib.Core.List.{List, [], _∷_, _++_}
-use mathlib.Core.Bool.{true, false}
+use mathlib.Core.Bool.{Bool, true, false}
 use lib.Dec.{eqb}
 use lib.ListN.{length, getD, set, replicate}
-use Rattle.model.specs.Words.{if, both, bit, upFrom, keep}
+use Rattle.model.specs.Words.{if, both, bit, within, upFrom, keep}
 use Rattle.model.specs.Rules.{Side, inputs, outputs, portOf, odd, oddsAt}
 
 -- The partner of p in a list, first with second, third with fourth, ..; a single one is its own.
@@ -24,15 +24,25 @@ walk (suc n) go back p h c =
     let q = go p in
     elim (eqb (getD c q 0) 0) [ true ↦ walk n back go q (3 - h) (set c q (3 - h)) | false ↦ c ]
 
--- The half that the first count of a group favours.
-abbrev pub tieHalf : ℕ
-tieHalf = 1
+-- The group of p settled, p favouring half h: walks both ways.
+abbrev pub groupOf : (ℕ → ℕ) → (ℕ → ℕ) → List ℕ → ℕ → ℕ → List ℕ → List ℕ
+groupOf i o m h p c = walk (length m) o i p h (walk (length m) i o p h (set c p h))
 
--- The group of p is settled if p is odd and not settled yet: p is its first.
+-- How many counts favour half h.
+abbrev pub favouring : ℕ → List ℕ → ℕ
+favouring h [] = 0
+favouring h (x ∷ c) = bit (eqb x h) + favouring h c
+
+-- As many counts favour the first half as the second, or one more.
+abbrev pub level : List ℕ → Bool
+level c = within (favouring 2 c) (favouring 2 c + 1) (favouring 1 c)
+
+-- The group of p is settled if p is odd and not settled yet: p is its first. It favours the first half where the two halves
+-- are then level, else the second; so the larger shares of groups with an odd number of counts go to the halves in turn.
 unfoldable pub settleAt : (ℕ → ℕ) → (ℕ → ℕ) → List ℕ → ℕ → List ℕ → List ℕ
 settleAt i o m p c =
     elim (both (odd m p) (eqb (getD c p 0) 0)) [
-      | true ↦ walk (length m) o i p tieHalf (walk (length m) i o p tieHalf (set c p tieHalf))
+      | true ↦ if (level (groupOf i o m 1 p c)) (groupOf i o m 1 p c) (groupOf i o m 2 p c)
       | false ↦ c
     ]
 
