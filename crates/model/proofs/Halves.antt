@@ -1,4 +1,4 @@
--- Loads of halves: for each pair, input and output and in total they sum to the whole and differ by at most 1, and what
+-- Loads of halves: for each pair, input and output and for the total they sum to the whole and differ by at most 1, and what
 -- fits twice the slots splits into what fits them.
 use Prim.Native.Nat.{ℕ, suc, zero, _+_, _*_, _/_, _%_, _≤_, _<_}
 use mathlib.Core.Path.{_≡_, sym, ap, _∙_}

@@ -9,7 +9,7 @@ use lib.Arith.{digits-div, digits-mod, digits-lt}
 use lib.Dec.{leb}
 use borrow.Author.Tests.{leb-true, le-leb}
 use Rattle.model.specs.Words.{both, near, Near, upFrom}
-use Rattle.model.specs.Loads.{Class, pair, input, output, Of}
+use Rattle.model.specs.Loads.{Class, pair, input, output, total, Of}
 use Rattle.model.specs.Frames.{cells, runOf}
 use Rattle.model.specs.Inspect.{classes, all, unbalanced}
 use Rattle.model.proofs.Cases.{byBool, byEq, both-true}
@@ -49,25 +49,32 @@ module _ (ports : ℕ) (t : Class → Bool) where
       none : ports ≡ 0 → p < ports * ports → ⊥
       none e k = let z : ports * ports ≡ 0 = rw e in omega arith
 
+  -- kind by kind
+  all-kinds : all t (classes ports)
+      ≡ both (all t (map (λ p. pair (p / ports) (p % ports)) (upFrom 0 (ports * ports)))) (both (all t (map input (upFrom 0 ports))) (both (all t (map output (upFrom 0 ports))) (both (t total) true)))
+  all-kinds =
+      rw (
+        all-append t (map (λ p. pair (p / ports) (p % ports)) (upFrom 0 (ports * ports))) (map input (upFrom 0 ports) ++ (map output (upFrom 0 ports) ++ (total ∷ []))),
+        all-append t (map input (upFrom 0 ports)) (map output (upFrom 0 ports) ++ (total ∷ [])),
+        all-append t (map output (upFrom 0 ports)) (total ∷ []),
+      )
+
   pub all-classes : ((c : Class) → Of ports c → t c ≡ true) → all t (classes ports) ≡ true
   all-classes h =
       rw (
-        all-append t (map (λ p. pair (p / ports) (p % ports)) (upFrom 0 (ports * ports))) (map input (upFrom 0 ports) ++ map output (upFrom 0 ports)),
-        all-append t (map input (upFrom 0 ports)) (map output (upFrom 0 ports)),
+        all-kinds,
         all-yes t (λ p. pair (p / ports) (p % ports)) 0 (ports * ports) (λ p _ k. h (pair (p / ports) (p % ports)) (position-of p (omega arith))),
         all-yes t input 0 ports (λ i _ k. h (input i) (omega arith)),
-      ) (all-yes t output 0 ports (λ o _ k. h (output o) (omega arith)))
+        all-yes t output 0 ports (λ o _ k. h (output o) (omega arith)),
+        h total tt,
+      )
 
   both-no : (a b : Bool) → b ≡ false → both a b ≡ false
   both-no true b e = e
   both-no false b e = refl
 
   pub some-class : (c : Class) → Of ports c → t c ≡ false → all t (classes ports) ≡ false
-  some-class c of e =
-      rw (
-        all-append t (map (λ p. pair (p / ports) (p % ports)) (upFrom 0 (ports * ports))) (map input (upFrom 0 ports) ++ map output (upFrom 0 ports)),
-        all-append t (map input (upFrom 0 ports)) (map output (upFrom 0 ports)),
-      ) (by c of e)
+  some-class c of e = all-kinds ∙ by c of e
     where
       ps : Bool
       ps = all t (map (λ p. pair (p / ports) (p % ports)) (upFrom 0 (ports * ports)))
@@ -78,12 +85,13 @@ module _ (ports : ℕ) (t : Class → Bool) where
       os : Bool
       os = all t (map output (upFrom 0 ports))
 
-      by : (c : Class) → Of ports c → t c ≡ false → both ps (both is os) ≡ false
+      by : (c : Class) → Of ports c → t c ≡ false → both ps (both is (both os (both (t total) true))) ≡ false
       by (pair i o) of e =
           let d : t (pair ((i * ports + o) / ports) ((i * ports + o) % ports)) ≡ false = rw (digits-div i (of .1), digits-mod i (of .1)) e in
           rw (all-no t (λ p. pair (p / ports) (p % ports)) 0 (ports * ports) (i * ports + o) (omega arith) (omega (arith, digits-lt {q = i} {m = ports} {r = o} {c = ports} (of .0) (of .1))) d)
-      by (input i) of e = both-no ps (both is os) (rw (all-no t input 0 ports i (omega arith) (omega arith) e))
-      by (output o) of e = both-no ps (both is os) (both-no is os (all-no t output 0 ports o (omega arith) (omega arith) e))
+      by (input i) of e = both-no ps _ (rw (all-no t input 0 ports i (omega arith) (omega arith) e))
+      by (output o) of e = both-no ps _ (both-no is _ (rw (all-no t output 0 ports o (omega arith) (omega arith) e)))
+      by total of e = both-no ps _ (both-no is _ (both-no os _ (rw e)))
 
 -- ---- one block
 module _ (ports : ℕ) (bytes : List ℕ) (start half : ℕ) where

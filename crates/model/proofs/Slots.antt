@@ -12,12 +12,12 @@ use lib.ListN.{length, getD, set, replicate, length-set, length-replicate}
 use lib.Seq.{getD-set-same, getD-set-other, ext-getD}
 use borrow.Author.Tests.{eqb-true, eq-eqb, ne-eqb}
 use Rattle.model.specs.Words.{both, bit, upFrom, keep, sumTo}
-use Rattle.model.specs.Loads.{Class, pair, input, output, Of, countOf, load, Fits}
+use Rattle.model.specs.Loads.{Class, pair, input, output, total, Of, countOf, load, Fits}
 use Rattle.model.specs.Frames.{counts, cells}
 use Rattle.model.specs.Rules.{odd, Slot}
 use Rattle.model.specs.Schedule.{put, slotOf}
 use Rattle.model.proofs.Cases.{byBool, byEq, is-yes, is-no}
-use Rattle.model.proofs.Sums.{sum-ext, sum-zero, sum-one, sum-has, sum-has-two}
+use Rattle.model.proofs.Sums.{sum-ext, sum-zero, sum-one, sum-has, sum-has-two, sum-rows}
 use Rattle.model.proofs.Cells.{cells-slot}
 use Rattle.model.proofs.Partners.{odd-lt}
 use Rattle.model.proofs.Settled.{zero-at}
@@ -157,6 +157,10 @@ module _ (ports : ℕ) (m bytes : List ℕ) (sl : Slot ports m bytes) where
   at-own : (i : ℕ) (t : Bool) → bit (both (eqb i i) t) ≡ bit t
   at-own i t = rw (eq-eqb i i refl)
 
+  -- an input's byte is not 0 exactly where its row has a cell
+  row-busy : (i : ℕ) → i < ports → bit (not (eqb (getD bytes i 0) 0)) ≡ sumTo ports (λ o. countOf ports m i o)
+  row-busy i h = sym (busy (getD bytes i 0) ports (sl .most i h)) ∙ sum-ext ports _ _ (λ o k. sl .same i o h k)
+
   pub slot-exact : (c : Class) → Of ports c → cells c ports bytes ≡ load c ports m
   unfolding load
   slot-exact (pair i o) of =
@@ -164,6 +168,7 @@ module _ (ports : ℕ) (m bytes : List ℕ) (sl : Slot ports m bytes) where
       ∙ at-own i (eqb (getD bytes i 0) (suc o)) ∙ sl .same i o (of .0) (of .1)
   slot-exact (input i) of =
       slot-sum (input i) ∙ sum-one ports i _ of (λ j k n. at-other i j (not (eqb (getD bytes j 0) 0)) n)
-      ∙ at-own i (not (eqb (getD bytes i 0) 0)) ∙ sym (busy (getD bytes i 0) ports (sl .most i of))
-      ∙ sum-ext ports _ _ (λ o k. sl .same i o of k)
+      ∙ at-own i (not (eqb (getD bytes i 0) 0)) ∙ row-busy i of
   slot-exact (output o) of = slot-sum (output o) ∙ sum-ext ports _ _ (λ i k. sl .same i o k of)
+  slot-exact total of =
+      slot-sum total ∙ sum-ext ports _ _ (λ i k. row-busy i k) ∙ sym (sum-rows ports ports (λ p. getD m p 0))
