@@ -13,7 +13,7 @@ use mir.Syntax.{w64}
 use mir.Val.{Fits}
 use borrow.Author.Tests.{lt-ltb, le-ltb, lt-leb, le-leb, not-true, not-false}
 use Rattle.model.specs.Words.{first, near}
-use Rattle.model.specs.Loads.{Class, pair, input, output, Of}
+use Rattle.model.specs.Loads.{Class, pair, input, output, total, Of}
 use Rattle.model.specs.Frames.{cells, runOf}
 use Rattle.model.specs.Refusals.{levels, report}
 use Rattle.model.specs.Inspect.{unbalanced, unbalancedNumber, firstAt, unbalancedAt, unbalancedBlock}
@@ -100,19 +100,27 @@ module _ (ports slots start half : ℕ) (frame a b : List ℕ) (r : Readable por
       let d : 272 + i ≡ x = omega arith in
       class-far (output i) (omega arith) (ap (far a b) (d ∙ e) ∙ f)
 
-  pub none-far : (x y z : ℕ) → x ≡ first (far a b) 0 (ports * ports) → y ≡ first (far a b) 256 ports → z ≡ first (far a b) 272 ports
-      → ports * ports ≤ x → 256 + ports ≤ y → 272 + ports ≤ z → false ≡ unbalanced ports frame start half
-  none-far x y z ex ey ez hx hy hz = sym (unbalanced-no ports frame start half (λ c of. not-false _ (sym (far-class c of) ∙ near-at c of)))
+  pub total-far : (x : ℕ) → x ≡ first (far a b) 288 1 → x < 289 → true ≡ unbalanced ports frame start half
+  total-far x e h =
+      let f = first-found (far a b) 1 288 (omega arith) in
+      let l = first-low (far a b) 1 288 in
+      let d : 288 ≡ x = omega arith in
+      class-far total tt (ap (far a b) (d ∙ e) ∙ f)
+
+  pub none-far : (x y z t : ℕ) → x ≡ first (far a b) 0 (ports * ports) → y ≡ first (far a b) 256 ports → z ≡ first (far a b) 272 ports → t ≡ first (far a b) 288 1
+      → ports * ports ≤ x → 256 + ports ≤ y → 272 + ports ≤ z → 289 ≤ t → false ≡ unbalanced ports frame start half
+  none-far x y z t ex ey ez et hx hy hz ht = sym (unbalanced-no ports frame start half (λ c of. not-false _ (sym (far-class c of) ∙ near-at c of)))
     where
       near-at : (c : Class) → Of ports c → far a b (place ports c) ≡ false
       near-at (pair i o) of = first-before (far a b) (ports * ports) 0 (i * ports + o) (omega arith) (omega (arith, digits-lt {q = i} {m = ports} {r = o} {c = ports} (of .0) (of .1)))
       near-at (input i) of = first-before (far a b) ports 256 (256 + i) (omega arith) (omega arith)
       near-at (output o) of = first-before (far a b) ports 272 (272 + o) (omega arith) (omega arith)
+      near-at total of = first-before (far a b) 1 288 288 (omega arith) (omega arith)
 
 pub square-fits : {ports : ℕ} → Switch ports → Fits w64 (ports * ports)
 square-fits {ports} s = record { fits = (let k : ports * ports ≤ 16 * 16 = mul-le-mul (s .high) (s .high) in omega arith) }
 
-pub square-most : {ports : ℕ} → Switch ports → 0 + ports * ports ≤ 288
+pub square-most : {ports : ℕ} → Switch ports → 0 + ports * ports ≤ 289
 square-most {ports} s = let k : ports * ports ≤ 16 * 16 = mul-le-mul (s .high) (s .high) in omega arith
 
 -- ---- depths

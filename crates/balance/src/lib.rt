@@ -27,8 +27,8 @@ fn apart(a: usize, b: usize) -> bool
 }
 
 // The first of some places where two tallies differ by more than 1; the place past them where there is none.
-fn first_far(a: &[u16; 288], b: &[u16; 288], from: usize, count: usize) -> usize
-    requires { ⌜ (from + count ≤ 288) × (length (now a) ≡ 288) × (length (now b) ≡ 288) ⌝ }
+fn first_far(a: &[u16; 289], b: &[u16; 289], from: usize, count: usize) -> usize
+    requires { ⌜ (from + count ≤ 289) × (length (now a) ≡ 289) × (length (now b) ≡ 289) ⌝ }
     ensures { λ r. ⌜ r ≡ first (far (now (a .entry)) (now (b .entry))) from count ⌝ }
 {
     let end = from + count;
@@ -42,13 +42,13 @@ fn first_far(a: &[u16; 288], b: &[u16; 288], from: usize, count: usize) -> usize
     x
 }
 
-// The two halves of a block, half slots each, differ by more than 1 for some pair, input or output.
+// The two halves of a block, half slots each, differ by more than 1 for some pair, input or output, or in total.
 fn unbalanced_at(ports: usize, slots: usize, frame: &[u8], start: usize, half: usize) -> bool
     requires { ⌜ Readable ports slots (now frame) × (start + half + half ≤ slots) ⌝ }
     ensures { λ r. ⌜ r ≡ unbalanced ports (now (frame .entry)) start half ⌝ }
 {
-    let mut front = [0u16; 288];
-    let mut back = [0u16; 288];
+    let mut front = [0u16; 289];
+    let mut back = [0u16; 289];
     tally_run(ports, slots, frame, start, half, &mut front);
     tally_run(ports, slots, frame, start + half, half, &mut back);
     let pairs = ports * ports;
@@ -59,6 +59,9 @@ fn unbalanced_at(ports: usize, slots: usize, frame: &[u8], start: usize, half: u
         return true;
     }
     if first_far(&front, &back, 272, ports) < 272 + ports {
+        return true;
+    }
+    if first_far(&front, &back, 288, 1) < 289 {
         return true;
     }
     false

@@ -31,7 +31,7 @@ fn lowest_twice(ports: usize, slots: usize, frame: &[u8], slot: usize) -> usize
     requires { ⌜ Readable ports slots (now frame) × (slot < slots) ⌝ }
     ensures { λ r. ⌜ r ≡ first (twiceIn ports (runOf ports slot 1 (now (frame .entry)))) 0 ports ⌝ }
 {
-    let mut tally = [0u16; 288];
+    let mut tally = [0u16; 289];
     tally_run(ports, slots, frame, slot, 1, &mut tally);
     let mut o: usize = 0;
     while o < ports {
@@ -64,7 +64,7 @@ fn first_wrong_count(ports: usize, slots: usize, matrix: &[u16], frame: &[u8]) -
     requires { ⌜ Readable ports slots (now frame) × (length (now matrix) ≡ ports * ports) ⌝ }
     ensures { λ r. ⌜ r ≡ first (wrongCount ports (now (matrix .entry)) (now (frame .entry))) 0 (ports * ports) ⌝ }
 {
-    let mut tally = [0u16; 288];
+    let mut tally = [0u16; 289];
     tally_run(ports, slots, frame, 0, slots, &mut tally);
     let mut p: usize = 0;
     while p < matrix.len() {

@@ -2,6 +2,7 @@
 use Prim.Native.Nat.{ℕ, suc, zero, _+_, _-_, _*_, _/_, _%_, _≤_, _<_}
 use mathlib.Core.Path.{_≡_, refl, sym, ap, _∙_}
 use mathlib.Core.List.{List, map}
+use mathlib.Core.Logic.{_≢_}
 use mathlib.Core.Bool.{true, false, true≢false}
 use native.Mathlib.Omega.{arith}
 use native.Mathlib.Nat.{mul-le-mul-right, mul-le-mul, div-add-mod'}
@@ -14,7 +15,7 @@ use lib.ListN.{length, getD, set, take, drop, replicate, length-set, length-repl
 use lib.Seq.{getD-set-same, getD-set-other, getD-take, getD-drop, set-out, ext-getD}
 use borrow.Author.Tests.{eq-eqb, ne-eqb, lt-ltb, le-ltb}
 use Rattle.model.specs.Words.{bit, within, upFrom, sumTo}
-use Rattle.model.specs.Loads.{Class, pair, input, output, Of}
+use Rattle.model.specs.Loads.{Class, pair, input, output, total, Of}
 use Rattle.model.specs.Frames.{counts, cells, runOf}
 use Rattle.model.proofs.Cases.{byBool, byEq, byLt, within-yes, within-above, within-true, is-yes, is-no}
 use Rattle.model.proofs.Sums.{sum-none, sum-more}
@@ -45,8 +46,9 @@ idle : (c : Class) (i : ℕ) → counts c i 0 ≡ false
 idle (pair j o) i = byEq i j (λ e. rw (eq-eqb i j e) (ne-eqb 0 (suc o) (omega arith))) (λ n. rw (ne-eqb i j n))
 idle (input j) i = byEq i j (λ e. rw (eq-eqb i j e)) (λ n. rw (ne-eqb i j n))
 idle (output o) i = ne-eqb 0 (suc o) (omega arith)
+idle total i = refl
 
-pub adds-idle : (ports i b : ℕ) (old : List ℕ) → Room 65532 old → b ≡ 0 → Adds ports 1 (ofByte i b) old old
+pub adds-idle : (ports i b : ℕ) (old : List ℕ) → Room 65531 old → b ≡ 0 → Adds ports 1 (ofByte i b) old old
 unfolding ofByte
 adds-idle ports i b old l e =
     record {
@@ -59,11 +61,12 @@ adds-idle ports i b old l e =
 module _ (ports i o : ℕ) (sw : Switch ports) (hi : i < ports) (ho : o < ports) where
   -- what a cell of (i, o) adds at the place of a class
   adds-at : (c : Class) → Of ports c
-      → bit (eqb (place ports c) (i * ports + o)) + bit (eqb (place ports c) (256 + i)) + bit (eqb (place ports c) (272 + o)) ≡ bit (counts c i (suc o))
+      → bit (eqb (place ports c) (i * ports + o)) + bit (eqb (place ports c) (256 + i)) + bit (eqb (place ports c) (272 + o)) + bit (eqb (place ports c) 288) ≡ bit (counts c i (suc o))
   adds-at (pair j u) of =
       let p = pair-place sw (of .0) (of .1) in
       let a = is-no (j * ports + u) (256 + i) (omega arith) in
       let b = is-no (j * ports + u) (272 + o) (omega arith) in
+      let t = is-no (j * ports + u) 288 (omega arith) in
       byEq i j
       (λ e. byEq o u
       (λ d. rw (eq-eqb i j e, eq-eqb (suc o) (suc u) (ap suc d)) (let z = is-yes (j * ports + u) (i * ports + o) (omega (arith, ap (λ x. x * ports) e)) in omega arith))
@@ -75,6 +78,7 @@ module _ (ports i o : ℕ) (sw : Switch ports) (hi : i < ports) (ho : o < ports)
       let h = sw .high in
       let a = is-no (256 + j) (i * ports + o) (omega arith) in
       let b = is-no (256 + j) (272 + o) (omega arith) in
+      let t = is-no (256 + j) 288 (omega arith) in
       byEq i j
       (λ e. rw (eq-eqb i j e, ne-eqb (suc o) 0 (omega arith)) (let z = is-yes (256 + j) (256 + i) (omega arith) in omega arith))
       (λ n. rw (ne-eqb i j n) (let z = is-no (256 + j) (256 + i) (λ k. n (omega arith)) in omega arith))
@@ -83,85 +87,100 @@ module _ (ports i o : ℕ) (sw : Switch ports) (hi : i < ports) (ho : o < ports)
       let h = sw .high in
       let a = is-no (272 + u) (i * ports + o) (omega arith) in
       let b = is-no (272 + u) (256 + i) (omega arith) in
+      let t = is-no (272 + u) 288 (omega arith) in
       byEq o u
       (λ e. rw (eq-eqb (suc o) (suc u) (ap suc e)) (let z = is-yes (272 + u) (272 + o) (omega arith) in omega arith))
       (λ n. rw (ne-eqb (suc o) (suc u) (λ k. n (omega arith))) (let z = is-no (272 + u) (272 + o) (λ k. n (omega arith)) in omega arith))
+  adds-at total of =
+      let p = pair-place sw hi ho in
+      let h = sw .high in
+      rw (ne-eqb (suc o) 0 (omega arith))
+      (omega (arith, is-no 288 (i * ports + o) (omega arith), is-no 288 (256 + i) (omega arith), is-no 288 (272 + o) (omega arith), is-yes 288 288 refl))
 
   -- at no place more than 1
-  adds-most : (x : ℕ) → bit (eqb x (i * ports + o)) + bit (eqb x (256 + i)) + bit (eqb x (272 + o)) ≤ 1
+  adds-most : (x : ℕ) → bit (eqb x (i * ports + o)) + bit (eqb x (256 + i)) + bit (eqb x (272 + o)) + bit (eqb x 288) ≤ 1
   adds-most x =
       let p = pair-place sw hi ho in
       let h = sw .high in
       byEq x (i * ports + o)
-      (λ e. omega (arith, is-yes x (i * ports + o) e, is-no x (256 + i) (omega arith), is-no x (272 + o) (omega arith)))
+      (λ e. omega (arith, is-yes x (i * ports + o) e, is-no x (256 + i) (omega arith), is-no x (272 + o) (omega arith), is-no x 288 (omega arith)))
       (λ n. byEq x (256 + i)
-      (λ e. omega (arith, is-no x (i * ports + o) n, is-yes x (256 + i) e, is-no x (272 + o) (omega arith)))
+      (λ e. omega (arith, is-no x (i * ports + o) n, is-yes x (256 + i) e, is-no x (272 + o) (omega arith), is-no x 288 (omega arith)))
       (λ m. byEq x (272 + o)
-      (λ e. omega (arith, is-no x (i * ports + o) n, is-no x (256 + i) m, is-yes x (272 + o) e))
-      (λ k. omega (arith, is-no x (i * ports + o) n, is-no x (256 + i) m, is-no x (272 + o) k))))
+      (λ e. omega (arith, is-no x (i * ports + o) n, is-no x (256 + i) m, is-yes x (272 + o) e, is-no x 288 (omega arith)))
+      (λ k. byEq x 288
+      (λ e. omega (arith, is-no x (i * ports + o) n, is-no x (256 + i) m, is-no x (272 + o) k, is-yes x 288 e))
+      (λ l. omega (arith, is-no x (i * ports + o) n, is-no x (256 + i) m, is-no x (272 + o) k, is-no x 288 l)))))
 
-  module _ (old : List ℕ) (size : length old ≡ 288) where
-    abbrev pub thrice : List ℕ
-    thrice = raised (raised (raised old (i * ports + o)) (256 + i)) (272 + o)
+  module _ (old : List ℕ) (size : length old ≡ 289) where
+    abbrev pub counted : List ℕ
+    counted = raised (raised (raised (raised old (i * ports + o)) (256 + i)) (272 + o)) 288
 
-    thrice-at : (x : ℕ) → getD thrice x 0 ≡ getD old x 0 + (bit (eqb x (i * ports + o)) + bit (eqb x (256 + i)) + bit (eqb x (272 + o)))
-    thrice-at x =
+    counted-at : (x : ℕ) → getD counted x 0 ≡ getD old x 0 + (bit (eqb x (i * ports + o)) + bit (eqb x (256 + i)) + bit (eqb x (272 + o)) + bit (eqb x 288))
+    counted-at x =
         let p = pair-place sw hi ho in
         let h = sw .high in
         let a = raised old (i * ports + o) in
         let b = raised a (256 + i) in
         let la = length-set old (i * ports + o) (getD old (i * ports + o) 0 + 1) in
         let lb = length-set a (256 + i) (getD a (256 + i) 0 + 1) in
-        omega (arith, raised-at old (i * ports + o) x (omega arith), raised-at a (256 + i) x (omega arith), raised-at b (272 + o) x (omega arith))
+        let d = raised b (272 + o) in
+        let ld = length-set b (272 + o) (getD b (272 + o) 0 + 1) in
+        omega (arith, raised-at old (i * ports + o) x (omega arith), raised-at a (256 + i) x (omega arith), raised-at b (272 + o) x (omega arith), raised-at d 288 x (omega arith))
 
-    thrice-length : length thrice ≡ 288
-    thrice-length = simp length-set size
+    counted-length : length counted ≡ 289
+    counted-length = simp length-set size
 
-    thrice-none : (x : ℕ) → Vacant ports x → getD thrice x 0 ≡ getD old x 0
-    thrice-none x v =
+    counted-none : (x : ℕ) → Vacant ports x → getD counted x 0 ≡ getD old x 0
+    counted-none x v =
         let a = is-no x (i * ports + o) (v (pair i o) (hi, ho)) in
         let b = is-no x (256 + i) (v (input i) hi) in
         let c = is-no x (272 + o) (v (output o) ho) in
-        omega (arith, thrice-at x)
+        let d = is-no x 288 (v total tt) in
+        omega (arith, counted-at x)
 
-    pub adds-thrice : Adds ports 1 (ofByte i (suc o)) old thrice
+    pub adds-all : Adds ports 1 (ofByte i (suc o)) old counted
     unfolding ofByte
-    adds-thrice =
+    adds-all =
         record {
-          size = thrice-length;
-          each = λ c of. thrice-at (place ports c) ∙ ap (λ z. getD old (place ports c) 0 + z) (adds-at c of);
-          none = thrice-none;
-          bound = λ x. omega (arith, thrice-at x, adds-most x);
+          size = counted-length;
+          each = λ c of. counted-at (place ports c) ∙ ap (λ z. getD old (place ports c) 0 + z) (adds-at c of);
+          none = counted-none;
+          bound = λ x. omega (arith, counted-at x, adds-most x);
         }
 
-pub adds-cell : (ports i b o : ℕ) (old t1 t2 t3 : List ℕ) → Switch ports → i < ports → b ≤ ports → Room 65532 old → (b ≡ 0 → ⊥) → o ≡ b - 1
+pub adds-cell : (ports i b o : ℕ) (old t1 t2 t3 t4 : List ℕ) → Switch ports → i < ports → b ≤ ports → Room 65531 old → (b ≡ 0 → ⊥) → o ≡ b - 1
     → t1 ≡ set old (i * ports + o) (getD old (i * ports + o) 0 + 1)
     → t2 ≡ set t1 (256 + i) (getD t1 (256 + i) 0 + 1)
     → t3 ≡ set t2 (272 + o) (getD t2 (272 + o) 0 + 1)
-    → Adds ports 1 (ofByte i b) old t3
-adds-cell ports i b o old t1 t2 t3 sw hi hb room n e e1 e2 e3 =
+    → t4 ≡ set t3 288 (getD t3 288 0 + 1)
+    → Adds ports 1 (ofByte i b) old t4
+adds-cell ports i b o old t1 t2 t3 t4 sw hi hb room n e e1 e2 e3 e4 =
     let ho : o < ports = omega arith in
     let k : b ≡ suc o = omega arith in
-    rw (e3, e2, e1, k) (adds-thrice ports i o sw hi ho old (room .size))
+    rw (e4, e3, e2, e1, k) (adds-all ports i o sw hi ho old (room .size))
 
 -- ---- the room that the code asks for
 pub row-fits : {ports i : ℕ} → Switch ports → i < ports → Fits w64 (i * ports)
 row-fits {ports} {i} sw hi = record { fits = (let p = pair-place {o = 0} sw hi (omega (arith, sw .low)) in omega arith) }
 
-pub pair-low : {ports i b : ℕ} → Switch ports → i < ports → b ≤ ports → (b ≡ 0 → ⊥) → i * ports + (b - 1) < 288
+pub pair-low : {ports i b : ℕ} → Switch ports → i < ports → b ≤ ports → (b ≡ 0 → ⊥) → i * ports + (b - 1) < 289
 pair-low {ports} {i} {b} sw hi hb n = let p = pair-place {o = b - 1} sw hi (omega arith) in omega arith
 
 pub pair-fits : {ports i b : ℕ} → Switch ports → i < ports → b ≤ ports → (b ≡ 0 → ⊥) → Fits w64 (i * ports + (b - 1))
 pair-fits {ports} {i} {b} sw hi hb n = record { fits = (let p = pair-low sw hi hb n in omega arith) }
 
-pub input-low : {ports i : ℕ} → Switch ports → i < ports → 256 + i < 288
+pub input-low : {ports i : ℕ} → Switch ports → i < ports → 256 + i < 289
 input-low {ports} {i} sw hi = omega (arith, sw .high)
 
-pub output-low : {ports b : ℕ} → Switch ports → b ≤ ports → (b ≡ 0 → ⊥) → 272 + (b - 1) < 288
+pub output-low : {ports b : ℕ} → Switch ports → b ≤ ports → (b ≡ 0 → ⊥) → 272 + (b - 1) < 289
 output-low {ports} {b} sw h n = omega (arith, sw .high)
 
-pub room-less : {l : List ℕ} → Room 65532 l → Room 65534 l
-room-less {l} r = record { size = r .size; each = λ x. omega (arith, r .each x) }
+room-within : {n : ℕ} {l : List ℕ} → n ≤ 65534 → Room n l → Room 65534 l
+room-within h r = record { size = r .size; each = λ x. omega (arith, r .each x) }
+
+pub room-less : {l : List ℕ} → Room 65531 l → Room 65534 l
+room-less r = room-within (omega arith) r
 
 room-raised : (n x : ℕ) (l l′ : List ℕ) → l′ ≡ set l x (getD l x 0 + 1) → Room n l → Room (suc n) l′
 room-raised n x l l′ e r =
@@ -174,11 +193,18 @@ room-raised n x l l′ e r =
           (λ h. rw (set-out l x (getD l x 0 + 1) h) (omega (arith, r .each y)));
     })
 
-pub room-one : (x : ℕ) (l l′ : List ℕ) → l′ ≡ set l x (getD l x 0 + 1) → Room 65532 l → Room 65534 l′
-room-one x l l′ e r = let s = room-raised 65532 x l l′ e r in record { size = s .size; each = λ y. omega (arith, s .each y) }
+pub room-one : (x : ℕ) (l l′ : List ℕ) → l′ ≡ set l x (getD l x 0 + 1) → Room 65531 l → Room 65534 l′
+room-one x l l′ e r = room-within (omega arith) (room-raised 65531 x l l′ e r)
 
-pub room-two : (x y : ℕ) (l l′ l″ : List ℕ) → l″ ≡ set l′ y (getD l′ y 0 + 1) → l′ ≡ set l x (getD l x 0 + 1) → Room 65532 l → Room 65534 l″
-room-two x y l l′ l″ f e r = room-raised 65533 y l′ l″ f (room-raised 65532 x l l′ e r)
+module _ (x y : ℕ) (l l′ l″ : List ℕ) (f : l″ ≡ set l′ y (getD l′ y 0 + 1)) (e : l′ ≡ set l x (getD l x 0 + 1)) (r : Room 65531 l) where
+  raised-two : Room 65533 l″
+  raised-two = room-raised 65532 y l′ l″ f (room-raised 65531 x l l′ e r)
+
+  pub room-two : Room 65534 l″
+  room-two = room-within (omega arith) raised-two
+
+  pub room-three : (z : ℕ) (l‴ : List ℕ) → l‴ ≡ set l″ z (getD l″ z 0 + 1) → Room 65534 l‴
+  room-three z l‴ g = room-raised 65533 z l″ l‴ g raised-two
 
 -- ---- a slot
 pub slot-start : (ports : ℕ) (slot old : List ℕ) → Room 65000 old → Adds ports 0 (partly slot 0) old old
@@ -212,7 +238,7 @@ slot-end ports i slot old new a r l g =
     }
 
 -- the room for one byte more
-pub slot-room : (ports i : ℕ) (slot old mid : List ℕ) → Adds ports i (partly slot i) old mid → Room 65000 old → Readable ports 1 slot → i < length slot → Room 65532 mid
+pub slot-room : (ports i : ℕ) (slot old mid : List ℕ) → Adds ports i (partly slot i) old mid → Room 65000 old → Readable ports 1 slot → i < length slot → Room 65531 mid
 slot-room ports i slot old mid a r d h =
     let s = d .size in
     let w = d .switch .high in
@@ -230,19 +256,19 @@ one-fits x tally r = record { fits = omega (arith, r .each x) }
 -- ---- a run
 -- a tally has the cells of each class, and 0 at the other places
 pub record Tally (ports : ℕ) (bytes tally : List ℕ) : Type 0 where
-  pub size : length tally ≡ 288
+  pub size : length tally ≡ 289
   pub each : (c : Class) → Of ports c → getD tally (place ports c) 0 ≡ cells c ports bytes
   pub none : (x : ℕ) → Vacant ports x → getD tally x 0 ≡ 0
   pub bound : (x : ℕ) → getD tally x 0 ≤ length bytes
 
-pub tally-start : (ports start : ℕ) (frame tally : List ℕ) → tally ≡ replicate 288 0 → Tally ports (runOf ports start 0 frame) tally
+pub tally-start : (ports start : ℕ) (frame tally : List ℕ) → tally ≡ replicate 289 0 → Tally ports (runOf ports start 0 frame) tally
 tally-start ports start frame tally e =
     rw (e, run-none ports start frame)
     (record {
-      size = length-replicate {A = ℕ} 288 0;
-      each = λ c of. zero-at 288 (place ports c) ∙ sym (cells-none ports c);
-      none = λ x v. zero-at 288 x;
-      bound = λ x. omega (arith, zero-at 288 x);
+      size = length-replicate {A = ℕ} 289 0;
+      each = λ c of. zero-at 289 (place ports c) ∙ sym (cells-none ports c);
+      none = λ x v. zero-at 289 x;
+      bound = λ x. omega (arith, zero-at 289 x);
     })
 
 module _ (ports slots start len t : ℕ) (frame : List ℕ) (r : Readable ports slots frame) (h : start + len ≤ slots) (l : t < len) where
@@ -314,13 +340,13 @@ listed-length : (f : ℕ → ℕ) (a n : ℕ) → length (map f (upFrom a n)) �
 listed-length f a zero = refl
 listed-length f a (suc n) = ap suc (listed-length f (suc a) n)
 
-tally-length : (ports : ℕ) (bytes : List ℕ) → length (tallyOf ports bytes) ≡ 288
+tally-length : (ports : ℕ) (bytes : List ℕ) → length (tallyOf ports bytes) ≡ 289
 unfolding tallyOf
-tally-length ports bytes = listed-length (numberAt ports bytes) 0 288
+tally-length ports bytes = listed-length (numberAt ports bytes) 0 289
 
-tally-at : (ports : ℕ) (bytes : List ℕ) (x : ℕ) → x < 288 → getD (tallyOf ports bytes) x 0 ≡ numberAt ports bytes x
+tally-at : (ports : ℕ) (bytes : List ℕ) (x : ℕ) → x < 289 → getD (tallyOf ports bytes) x 0 ≡ numberAt ports bytes x
 unfolding tallyOf
-tally-at ports bytes x h = listed (numberAt ports bytes) 0 288 x h ∙ ap (numberAt ports bytes) (omega arith)
+tally-at ports bytes x h = listed (numberAt ports bytes) 0 289 x h ∙ ap (numberAt ports bytes) (omega arith)
 
 module _ (ports : ℕ) (bytes : List ℕ) where
   -- what the places of the classes and the others have
@@ -337,15 +363,19 @@ module _ (ports : ℕ) (bytes : List ℕ) where
       let k : ports * ports ≤ 16 * 16 = mul-le-mul (s .high) (s .high) in
       let e : 272 + o - 272 ≡ o = omega arith in
       rw (le-ltb (272 + o) (ports * ports) (omega arith), within-above 256 (255 + ports) (272 + o) (omega arith) (omega (arith, s .high)), within-yes 272 (271 + ports) (272 + o) (omega arith) (omega arith), e)
+  number-class s total of =
+      let k : ports * ports ≤ 16 * 16 = mul-le-mul (s .high) (s .high) in
+      rw (le-ltb 288 (ports * ports) (omega arith), within-above 256 (255 + ports) 288 (omega arith) (omega (arith, s .high)), within-above 272 (271 + ports) 288 (omega arith) (omega (arith, s .high)))
 
   module _ (tally : List ℕ) (y : Tally ports bytes tally) (x : ℕ) where
     at-class : (c : Class) → Of ports c → place ports c ≡ x → getD tally x 0 ≡ cells c ports bytes
     at-class c of e = ap (λ z. getD tally z 0) (sym e) ∙ y .each c of
 
-    vacant : ports * ports ≤ x → within 256 (255 + ports) x ≡ false → within 272 (271 + ports) x ≡ false → Vacant ports x
-    vacant h f g (pair i o) of e = let l = digits-lt {q = i} {m = ports} {r = o} {c = ports} (of .0) (of .1) in omega arith
-    vacant h f g (input i) of e = true≢false (sym (within-yes 256 (255 + ports) x (omega arith) (omega arith)) ∙ f)
-    vacant h f g (output o) of e = true≢false (sym (within-yes 272 (271 + ports) x (omega arith) (omega arith)) ∙ g)
+    vacant : ports * ports ≤ x → within 256 (255 + ports) x ≡ false → within 272 (271 + ports) x ≡ false → x ≢ 288 → Vacant ports x
+    vacant h f g n (pair i o) of e = let l = digits-lt {q = i} {m = ports} {r = o} {c = ports} (of .0) (of .1) in omega arith
+    vacant h f g n (input i) of e = true≢false (sym (within-yes 256 (255 + ports) x (omega arith) (omega arith)) ∙ f)
+    vacant h f g n (output o) of e = true≢false (sym (within-yes 272 (271 + ports) x (omega arith) (omega arith)) ∙ g)
+    vacant h f g n total of e = n e
 
     number-is : getD tally x 0 ≡ numberAt ports bytes x
     unfolding numberAt
@@ -358,7 +388,10 @@ module _ (ports : ℕ) (bytes : List ℕ) where
         (λ f. rw f
         (byBool (within 272 (271 + ports) x)
         (λ g. let w = within-true 272 (271 + ports) x g in rw g (at-class (output (x - 272)) (omega arith) (omega arith)))
-        (λ g. rw g (y .none x (vacant h f g)))))))
+        (λ g. rw g
+        (byEq x 288
+        (λ e. rw (eq-eqb x 288 e) (at-class total tt (sym e)))
+        (λ n. rw (ne-eqb x 288 n) (y .none x (vacant h f g n)))))))))
 
   tally-is : (tally : List ℕ) → Tally ports bytes tally → tally ≡ tallyOf ports bytes
   tally-is tally y =
@@ -369,7 +402,7 @@ pub tally-end : (ports start len t : ℕ) (frame tally : List ℕ) → Tally por
     → tally ≡ tallyOf ports (runOf ports start len frame)
 tally-end ports start len t frame tally y a b = let e : len ≡ t = omega arith in rw e (tally-is ports (runOf ports start t frame) tally y)
 
-pub tally-size : (ports : ℕ) (bytes tally : List ℕ) → tally ≡ tallyOf ports bytes → length tally ≡ 288
+pub tally-size : (ports : ℕ) (bytes tally : List ℕ) → tally ≡ tallyOf ports bytes → length tally ≡ 289
 tally-size ports bytes tally e = ap length e ∙ tally-length ports bytes
 
 -- what a tally has for each class
@@ -378,7 +411,8 @@ pub tally-class : (ports : ℕ) (bytes tally : List ℕ) → Switch ports → ta
 tally-class ports bytes tally s e c of =
     ap (λ z. getD z (place ports c) 0) e ∙ tally-at ports bytes (place ports c) (low c of) ∙ number-class ports bytes s c of
   where
-    low : (c : Class) → Of ports c → place ports c < 288
+    low : (c : Class) → Of ports c → place ports c < 289
     low (pair i o) of = let l = pair-place s (of .0) (of .1) in omega arith
     low (input i) of = omega (arith, s .high)
     low (output o) of = omega (arith, s .high)
+    low total of = omega arith

@@ -1,4 +1,4 @@
-// Tallies: the cells of each pair, input and output in a run of slots.
+// Tallies: the cells of each pair, input and output in a run of slots, and their total.
 ghost use mathlib.Core.Path.{_≡_};
 ghost use Prim.Native.Nat.{_+_, _≤_, _<_};
 ghost use lib.ListN.{getD, set, replicate};
@@ -6,16 +6,16 @@ ghost use Rattle.model.specs.Frames.{runOf};
 ghost use Rattle.tally.specs.Tally.{Switch, Readable, Room, Adds, ofByte, ofSlot, tallyOf};
 
 // Counts one more at a place of a tally.
-fn add_one(tally: &mut [u16; 288], x: usize)
-    requires { ⌜ (x < 288) × Room 65534 (now tally) ⌝ }
+fn add_one(tally: &mut [u16; 289], x: usize)
+    requires { ⌜ (x < 289) × Room 65534 (now tally) ⌝ }
     ensures { λ _. ⌜ now (tally .exit) ≡ set (now (tally .entry)) x (getD (now (tally .entry)) x 0 + 1) ⌝ }
 {
     tally[x] = tally[x] + 1;
 }
 
-// Counts a byte of an input: for its pair, its input and its output, if it is not 0.
-fn add_byte(ports: usize, input: usize, byte: usize, tally: &mut [u16; 288])
-    requires { ⌜ Switch ports × (input < ports) × (byte ≤ ports) × Room 65532 (now tally) ⌝ }
+// Counts a byte of an input: for its pair, its input, its output and the total, if it is not 0.
+fn add_byte(ports: usize, input: usize, byte: usize, tally: &mut [u16; 289])
+    requires { ⌜ Switch ports × (input < ports) × (byte ≤ ports) × Room 65531 (now tally) ⌝ }
     ensures { λ _. ⌜ Adds ports 1 (ofByte input byte) (now (tally .entry)) (now (tally .exit)) ⌝ }
 {
     if byte == 0 {
@@ -25,10 +25,11 @@ fn add_byte(ports: usize, input: usize, byte: usize, tally: &mut [u16; 288])
     add_one(tally, input * ports + output);
     add_one(tally, 256 + input);
     add_one(tally, 272 + output);
+    add_one(tally, 288);
 }
 
 // Counts a slot.
-fn add_slot(ports: usize, slot: &[u8], tally: &mut [u16; 288])
+fn add_slot(ports: usize, slot: &[u8], tally: &mut [u16; 289])
     requires { ⌜ Readable ports 1 (now slot) × Room 65000 (now tally) ⌝ }
     ensures { λ _. ⌜ Adds ports ports (ofSlot ports (now (slot .entry))) (now (tally .entry)) (now (tally .exit)) ⌝ }
 {
@@ -47,9 +48,9 @@ pub fn tally_run(
     frame: &[u8],
     start: usize,
     len: usize,
-    tally: &mut [u16; 288],
+    tally: &mut [u16; 289],
 )
-    requires { ⌜ Readable ports slots (now frame) × (start + len ≤ slots) × (now tally ≡ replicate 288 0) ⌝ }
+    requires { ⌜ Readable ports slots (now frame) × (start + len ≤ slots) × (now tally ≡ replicate 289 0) ⌝ }
     ensures { λ _. ⌜ now (tally .exit) ≡ tallyOf ports (runOf ports start len (now (frame .entry))) ⌝ }
 {
     let mut t: usize = 0;

@@ -1,5 +1,5 @@
 use Rattle.tally.proofs.Tallies.{tally-size}
-use Rattle.balance.proofs.Blocks.{square-fits, square-most, pair-far, input-far, output-far, none-far}
+use Rattle.balance.proofs.Blocks.{square-fits, square-most, pair-far, input-far, output-far, total-far, none-far}
 use borrow.Author.Needs.{needs}
 use Rattle.balance.proofs.unbalanced_at.Statement.{statement}
 use Rattle.balance.proofs.unbalanced_at.Tie as tie
@@ -20,4 +20,6 @@ unbalanced-at-spec =
     (λ c κs. (search needs, search (needs, tally-size), search (needs, tally-size)))
     (λ c. search needs)
     (λ c. search (needs, output-far))
+    (λ c κs. (search needs, search (needs, tally-size), search (needs, tally-size)))
+    (λ c. search (needs, total-far))
     (λ c. search (needs, none-far)))

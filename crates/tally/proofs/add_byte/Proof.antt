@@ -1,4 +1,4 @@
-use Rattle.tally.proofs.Tallies.{adds-idle, adds-cell, row-fits, pair-low, pair-fits, input-low, output-low, room-less, room-one, room-two}
+use Rattle.tally.proofs.Tallies.{adds-idle, adds-cell, row-fits, pair-low, pair-fits, input-low, output-low, room-less, room-one, room-two, room-three}
 use borrow.Author.Needs.{needs}
 use Rattle.tally.proofs.add_byte.Statement.{statement}
 use Rattle.tally.proofs.add_byte.Tie as tie
@@ -16,4 +16,5 @@ add-byte-spec =
     (λ c κs. (search (needs, input-low), search (needs, room-one)))
     (λ c. search needs)
     (λ c κs. (search (needs, output-low), room-two _ _ _ _ _ (c .before .add-one2 .ensures) (c .before .before .before .add-one .ensures) (c .before .before .before .before .before .before .pre .3)))
+    (λ c κs. (search needs, room-three _ _ _ _ _ (c .before .before .before .add-one2 .ensures) (c .before .before .before .before .before .add-one .ensures) (c .before .before .before .before .before .before .before .before .pre .3) _ _ (c .before .add-one3 .ensures)))
     (λ c. search (needs, adds-cell)))
