@@ -68,7 +68,7 @@ module _ (ports slots p : ℕ) (matrix frame tally : List ℕ) (r : Readable por
   unfolding wrongCount
   count-found q n = passed-found q (omega arith) (ap not (ne-eqb _ _ (λ e. n (count-is ∙ e ∙ sym load-is))))
 
-pub position-low : {ports slots p m : ℕ} {frame : List ℕ} → Readable ports slots frame → m ≡ ports * ports → p < m → p < 288
+pub position-low : {ports slots p m : ℕ} {frame : List ℕ} → Readable ports slots frame → m ≡ ports * ports → p < m → p < 289
 position-low r e h = let k = square-most (r .switch) in omega arith
 
 pub position-done : {n m p : ℕ} {t : ℕ → Bool} → Passed t 0 n p → m ≡ n → m ≤ p → p ≡ first t 0 n

@@ -10,7 +10,7 @@ use lib.Dec.{eqb}
 use lib.ListN.{length, getD, List·getD-eq-default}
 use borrow.Author.Tests.{ne-eqb}
 use Rattle.model.specs.Words.{both, bit, sumTo}
-use Rattle.model.specs.Loads.{Class, pair, input, output}
+use Rattle.model.specs.Loads.{Class, pair, input, output, total}
 use Rattle.model.specs.Frames.{counts, cells}
 use Rattle.model.proofs.Cases.{byBool, byLt}
 use Rattle.model.proofs.Sums.{sum-zero, sum-one, sum-append}
@@ -42,6 +42,7 @@ first-none : (c : Class) (ports t byte : ℕ) → firstByte c < nextByte ports c
 first-none (pair i o) ports t byte l h = elsewhere (t % ports) i _ (λ e. let m = mod-eq-of-lt {n = t} {m = ports} (omega arith) in omega arith)
 first-none (input i) ports t byte l h = elsewhere (t % ports) i _ (λ e. let m = mod-eq-of-lt {n = t} {m = ports} (omega arith) in omega arith)
 first-none (output o) ports t byte l h = absurd (omega arith)
+first-none total ports t byte l h = absurd (omega arith)
 
 -- none between one and the next
 between-none : (c : Class) (ports q t byte : ℕ) → q % nextByte ports c ≡ firstByte c → t < nextByte ports c → t ≢ 0
@@ -49,18 +50,21 @@ between-none : (c : Class) (ports q t byte : ℕ) → q % nextByte ports c ≡ f
 between-none (pair i o) ports q t byte at l n = elsewhere ((q + t) % ports) i _ (λ e. n (remainder-moves q t ports l (e ∙ sym at)))
 between-none (input i) ports q t byte at l n = elsewhere ((q + t) % ports) i _ (λ e. n (remainder-moves q t ports l (e ∙ sym at)))
 between-none (output o) ports q t byte at l n = absurd (n (omega arith))
+between-none total ports q t byte at l n = absurd (n (omega arith))
 
 -- at each the byte alone decides
 here-counts : (c : Class) (ports q byte : ℕ) → q % nextByte ports c ≡ firstByte c → counts c (q % ports) byte ≡ counts c (firstByte c) byte
 here-counts (pair i o) ports q byte at = rw at
 here-counts (input i) ports q byte at = rw at
 here-counts (output o) ports q byte at = refl
+here-counts total ports q byte at = refl
 
 -- an idle byte counts for nobody
 idle-none : (c : Class) (at : ℕ) → counts c at 0 ≡ false
 idle-none (pair i o) at = rw (ne-eqb 0 (suc o) (λ e. omega arith)) (neither (eqb at i))
 idle-none (input i) at = neither (eqb at i)
 idle-none (output o) at = ne-eqb 0 (suc o) (λ e. omega arith)
+idle-none total at = refl
 
 -- ---- the loop
 pub record Counting (c : Class) (ports : ℕ) (bytes : List ℕ) (q sum : ℕ) : Type 0 where

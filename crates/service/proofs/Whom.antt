@@ -6,7 +6,7 @@ use native.Mathlib.Omega.{arith}
 use lib.Dec.{eqb}
 use borrow.Author.Tests.{eq-eqb, not-true, not-false}
 use Rattle.model.specs.Words.{bit, within}
-use Rattle.model.specs.Loads.{Class, pair, input, output, Of}
+use Rattle.model.specs.Loads.{Class, pair, input, output, total, Of}
 use Rattle.model.specs.Frames.{counts}
 use Rattle.model.specs.Service.{classOf, portsWithin}
 use Rattle.model.specs.declared.Who.{Who}
@@ -43,15 +43,16 @@ first-low : (ports : ℕ) (c : Class) → Of ports c → firstByte c < nextByte 
 first-low ports (pair i o) of = of .0
 first-low ports (input i) of = of
 first-low ports (output o) of = omega arith
+first-low ports total of = omega arith
 
-next-low : (ports : ℕ) (c : Class) → Of ports c → nextByte ports c ≤ ports
-next-low ports (pair i o) of = omega arith
-next-low ports (input i) of = omega arith
-next-low ports (output o) of = omega arith
+next-low : (ports : ℕ) (who : Who) → Of ports (classOf who) → nextByte ports (classOf who) ≤ ports
+next-low ports (Pair i o) of = omega arith
+next-low ports (Input i) of = omega arith
+next-low ports (Output o) of = omega arith
 
 pub who-placed : (ports : ℕ) (who : Who) → portsWithin ports who ≡ true
     → (firstByte (classOf who) < nextByte ports (classOf who)) × (nextByte ports (classOf who) ≤ ports)
-who-placed ports who e = let of = who-of ports who e in (first-low ports (classOf who) of, next-low ports (classOf who) of)
+who-placed ports who e = let of = who-of ports who e in (first-low ports (classOf who) of, next-low ports who of)
 
 pub pair-input : (who : Who) {i o : ℕ} → Numbered who → who ≡ Pair i o → 1 ≤ i
 pair-input who n is = (rw is at n) .0

@@ -3,7 +3,7 @@ use Prim.Native.Nat.{ℕ, _≤_, _<_}
 use mathlib.Core.Path.{_≡_}
 use mathlib.Core.List.{List}
 use mathlib.Core.Bool.{true}
-use Rattle.model.specs.Loads.{Class, pair, input, output}
+use Rattle.model.specs.Loads.{Class, pair, input, output, total}
 use Rattle.model.specs.Service.{portsWithin}
 use Rattle.model.specs.declared.Who.{Who}
 use Rattle.model.specs.declared.Who.the-variants.{Pair, Input, Output}
@@ -15,17 +15,19 @@ Numbered (Pair i o) = (1 ≤ i) × (1 ≤ o)
 Numbered (Input i) = 1 ≤ i
 Numbered (Output o) = 1 ≤ o
 
--- A pair and an input have their bytes at one place of each slot, an output anywhere: where the first stands,
+-- A pair and an input have their bytes at one place of each slot, an output and the total anywhere: where the first stands,
 abbrev pub firstByte : Class → ℕ
 firstByte (pair i o) = i
 firstByte (input i) = i
 firstByte (output o) = 0
+firstByte total = 0
 
 -- and how many bytes later the next.
 abbrev pub nextByte : ℕ → Class → ℕ
 nextByte ports (pair i o) = ports
 nextByte ports (input i) = ports
 nextByte ports (output o) = 1
+nextByte ports total = 1
 
 -- What is asked is not refused; the start is numbered from 0.
 pub record Asked (ports slots : ℕ) (bytes : List ℕ) (who : Who) (start len : ℕ) : Type 0 where

@@ -22,4 +22,11 @@ unbalanced-at-spec =
     (λ c. search (needs, output-far))
     (λ c κs. (search needs, search (needs, tally-size), search (needs, tally-size)))
     (λ c. search (needs, total-far))
-    (λ c. search (needs, none-far)))
+    (λ c.
+    let outputs = c .before .before .before .before in
+    let inputs = outputs .before .before .before .before in
+    let pairs = inputs .before .before .before .before in
+    let tallies = pairs .before .before .before .before in
+    none-far _ _ _ _ _ _ _ (tallies .before .before .before .before .before .pre .0) (tallies .before .before .tally-run .ensures) (tallies .tally-run2 .ensures) _ _ _ _
+    (pairs .before .first-far .ensures) (inputs .before .first-far2 .ensures) (outputs .before .first-far3 .ensures) (c .before .first-far4 .ensures)
+    (pairs .if1 .left) (inputs .if2 .left) (outputs .if3 .left) (c .if4 .left)))
