@@ -154,7 +154,7 @@ size_t frame_builder_build(size_t ports, size_t slots, const uint16_t *matrix, s
 
 /* Inspect: whether a frame from anywhere is legal for the load and balanced; if not, its first fault. Each kind of fault is looked for in
  * the whole frame before the next kind. A block is the whole frame, or either half of a block of 2 or more slots; it is unbalanced where
- * its halves differ by more than one cell of some pair, input or output.
+ * its halves differ by more than one cell of some pair, input or output, or in total.
  *
  *     answer                  *first                   *second                             which, of several
  *     CLEAN                   0                        0

@@ -102,7 +102,7 @@ pub record FirstWrong (rows width : ℕ) (Fact : ℕ → ℕ → Type 0) (r c : 
   pub rows-before : (y z : ℕ) → y < r → z < width → Fact y z
   pub columns-before : (z : ℕ) → z < c → Fact r z
 
--- The halves, half slots each from slot start on, differ by at most 1 for each pair, input and output.
+-- The halves, half slots each from slot start on, differ by at most 1 for each pair, input and output and in total.
 abbrev pub HalvesNear : ℕ → List ℕ → ℕ → ℕ → Type 0
 HalvesNear ports bytes start half =
     (c : Class) → Of ports c → Near 1 (cells c ports (runOf ports start half bytes)) (cells c ports (runOf ports (start + half) half bytes))

@@ -52,12 +52,7 @@ module _ (ports : ℕ) (t : Class → Bool) where
   -- kind by kind
   all-kinds : all t (classes ports)
       ≡ both (all t (map (λ p. pair (p / ports) (p % ports)) (upFrom 0 (ports * ports)))) (both (all t (map input (upFrom 0 ports))) (both (all t (map output (upFrom 0 ports))) (both (t total) true)))
-  all-kinds =
-      rw (
-        all-append t (map (λ p. pair (p / ports) (p % ports)) (upFrom 0 (ports * ports))) (map input (upFrom 0 ports) ++ (map output (upFrom 0 ports) ++ (total ∷ []))),
-        all-append t (map input (upFrom 0 ports)) (map output (upFrom 0 ports) ++ (total ∷ [])),
-        all-append t (map output (upFrom 0 ports)) (total ∷ []),
-      )
+  all-kinds = rw (all-append, all-append, all-append)
 
   pub all-classes : ((c : Class) → Of ports c → t c ≡ true) → all t (classes ports) ≡ true
   all-classes h =

@@ -23,8 +23,8 @@ pub record Led (c : Class) (ports slots k : ℕ) (matrix bytes : List ℕ) (star
   -- Whole turns of the frame, none too, are neither ahead nor behind.
   pub turns : (w : ℕ) → len ≡ w * slots → lead c ports slots bytes start len ≡ pos 0
 
--- What an accepted Build leaves, counted with what Build was given: for every pair, input and output, from every slot on and
--- for every length, of no limit.
+-- What an accepted Build leaves, counted with what Build was given: for every pair, input and output and for the total, from
+-- every slot on and for every length, of no limit.
 abbrev pub BuiltLead : Type 0
 BuiltLead =
     (ports slots : ℕ) (matrix buffer : List ℕ) → buildAccepts ports slots matrix buffer ≡ true → (k : ℕ) → slots ≡ 2 ^ k

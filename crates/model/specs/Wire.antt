@@ -66,8 +66,8 @@ pub record Shape (ports slots : ℕ) (f : Carried) : Type 0 where
   pub ports-are : f .call .ports ≡ ports
   pub slots-are : f .call .slots ≡ slots
 
--- Over a chain of frames of 2 ^ k slots: over any run of consecutive slots, none too, and for every pair, input and output,
--- 3 × 2 ^ k × cells differs by at most (2k + 1) × 2 ^ k, either way, from three times the share times 2 ^ k.
+-- Over a chain of frames of 2 ^ k slots: over any run of consecutive slots, none too, and for every pair, input and output and
+-- for the total, 3 × 2 ^ k × cells differs by at most (2k + 1) × 2 ^ k, either way, from three times the share times 2 ^ k.
 abbrev pub Accurate : ℕ → ℕ → List Carried → Type 0
 Accurate ports k frames =
     (start len : ℕ) → start + len ≤ length frames * 2 ^ k → (c : Class) → Of ports c
