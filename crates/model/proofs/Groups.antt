@@ -96,11 +96,13 @@ module _ (n : ℕ) (c d : List ℕ) (lc : length c ≡ n) (ld : length d ≡ n) 
 
   pub new-size : sumTo n (λ q. bit (new c d q)) + (favouring 1 c + favouring 2 c) ≡ favouring 1 d + favouring 2 d
   new-size =
-      omega (arith,
+      omega (
+        arith,
         sum-ext n _ _ (λ q _. new-two q),
         sum-add n (λ q. bit (both (new c d q) (eqb (getD d q 0) 1))) (λ q. bit (both (new c d q) (eqb (getD d q 0) 2))),
         new-share 1 (omega arith),
-        new-share 2 (omega arith))
+        new-share 2 (omega arith),
+      )
 
 -- ---- the groups that the scan takes
 module _ (m : List ℕ) (f : Side → ℕ → ℕ) (pf : (s : Side) → Pairing (odd m) (f s)) where

@@ -148,7 +148,7 @@ module _ (m : List ℕ) (i o : ℕ → ℕ) (pi : Pairing (odd m) i) (po : Pairi
       one : List ℕ
       one = groupOf i o m 1 p c
 
-      shares : Shared (length m) (odd m) (odd-lt m) c one (groupOf i o m 2 p c)
+      shares : Shared c one (groupOf i o m 2 p c)
       shares = group-shares (length m) (odd m) (odd-lt m) i o m p c pi po refl len od z
 
       no : level one ≡ false → Level one → ⊥

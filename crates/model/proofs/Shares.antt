@@ -61,6 +61,16 @@ pub record Both (h g : ℕ) (c d w v : List ℕ) : Type 0 where
   pub own′ : favouring g v ≡ favouring g d + count / 2
   pub other′ : favouring h v ≡ favouring h d + (count + 1) / 2
 
+-- ---- a group, settled from c with its first count favouring the first half in one, the second half in two; besides the
+-- first count, a of its counts are settled by the walk along inputs and b by the one along outputs
+pub record Shared (c one two : List ℕ) : Type 0 where
+  pub a : ℕ
+  pub b : ℕ
+  pub one-first : favouring 1 one ≡ favouring 1 c + 1 + a / 2 + b / 2
+  pub one-second : favouring 2 one ≡ favouring 2 c + (a + 1) / 2 + (b + 1) / 2
+  pub two-first : favouring 1 two ≡ favouring 1 c + (a + 1) / 2 + (b + 1) / 2
+  pub two-second : favouring 2 two ≡ favouring 2 c + 1 + a / 2 + b / 2
+
 module _ (n : ℕ) (od : ℕ → Bool) (od-lt : (p : ℕ) → od p ≡ true → p < n) where
   walk-both : (k : ℕ) (go back : ℕ → ℕ) (p h g : ℕ) (c d : List ℕ) → Pairing od go → Pairing od back → od p ≡ true
       → h + g ≡ 3 → 1 ≤ h → 1 ≤ g → length c ≡ n → Alike c d
@@ -94,16 +104,6 @@ module _ (n : ℕ) (od : ℕ → Bool) (od-lt : (p : ℕ) → od p ≡ true → 
       rw (walk-off k go back p h c e, walk-off k go back p g d e′)
       (record { count = 0; alike = a; own = omega arith; other = omega arith; own′ = omega arith; other′ = omega arith }))
 
-  -- ---- a group, settled from c with its first count favouring the first half in one, the second half in two; besides the
-  -- first count, a of its counts are settled by the walk along inputs and b by the one along outputs
-  pub record Shared (c one two : List ℕ) : Type 0 where
-    pub a : ℕ
-    pub b : ℕ
-    pub one-first : favouring 1 one ≡ favouring 1 c + 1 + a / 2 + b / 2
-    pub one-second : favouring 2 one ≡ favouring 2 c + (a + 1) / 2 + (b + 1) / 2
-    pub two-first : favouring 1 two ≡ favouring 1 c + (a + 1) / 2 + (b + 1) / 2
-    pub two-second : favouring 2 two ≡ favouring 2 c + 1 + a / 2 + b / 2
-
   pub group-shares : (i o : ℕ → ℕ) (m : List ℕ) (p : ℕ) (c : List ℕ) → Pairing od i → Pairing od o → length m ≡ n → length c ≡ n → od p ≡ true
       → getD c p 0 ≡ 0 → Shared c (groupOf i o m 1 p c) (groupOf i o m 2 p c)
   group-shares i o m p c pi po lm l e z =
@@ -133,11 +133,11 @@ two-halves : (a : ℕ) → a / 2 + (a + 1) / 2 ≡ a
 two-halves a = byEq (a % 2) 0 (λ e. omega arith) (λ e. omega arith)
 
 -- a group with an even number of counts gives both halves as many
-same-shares : (x a b : ℕ) → (2 * x + (1 + a + b)) % 2 ≡ 0 → 1 + a / 2 + b / 2 ≡ (a + 1) / 2 + (b + 1) / 2
+pub same-shares : (x a b : ℕ) → (2 * x + (1 + a + b)) % 2 ≡ 0 → 1 + a / 2 + b / 2 ≡ (a + 1) / 2 + (b + 1) / 2
 same-shares x a b e = byEq (a % 2) 0 (λ h. omega arith) (λ h. omega arith)
 
 -- where one way round does not leave the halves level, the other does, and the group has an odd number of counts
-module _ {n : ℕ} {od : ℕ → Bool} {od-lt : (p : ℕ) → od p ≡ true → p < n} {c one two : List ℕ} (s : Shared n od od-lt c one two) (l : Level c) (no : Level one → ⊥) where
+module _ {c one two : List ℕ} (s : Shared c one two) (l : Level c) (no : Level one → ⊥) where
   pub level-two : Level two
   level-two =
       let a = s .one-first in

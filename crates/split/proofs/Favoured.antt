@@ -1,26 +1,27 @@
 -- What the steps settle is what the definitions settle.
-use Prim.Native.Nat.{ℕ, suc, zero, _-_, _≤_, _<_}
+use Prim.Native.Nat.{ℕ, suc, zero, _+_, _-_, _≤_, _<_}
 use mathlib.Core.Path.{_≡_, refl, sym, ap, ap₂, _∙_, subst, fun-ext}
 use mathlib.Core.Logic.{_≢_}
-use mathlib.Core.List.{List, _∷_, _++_}
+use mathlib.Core.List.{List, [], _∷_, _++_}
 use mathlib.Core.Bool.{Bool, true, false}
 use native.Mathlib.Omega.{arith}
 use lib.Dec.{eqb}
 use lib.ListN.{length, getD, set, take, drop, replicate, length-set, length-append, length-drop, length-replicate}
-use lib.Seq.{length-take-le, getD-take, take-set-lt, take-at}
+use lib.Seq.{length-take-le, getD-take, take-set-lt, take-at, drop-set-lt}
 use borrow.Author.Tests.{eq-eqb, ne-eqb}
 use Rattle.model.specs.Words.{both, upFrom, keep, Every}
 use Rattle.model.specs.Rules.{Side, inputs, outputs, portOf, odd, oddsAt}
-use Rattle.model.specs.Schedule.{partnerIn, partner, walk, tieHalf, settleAt, settle, favours, halfBy, halfOf}
+use Rattle.model.specs.Schedule.{partnerIn, partner, walk, groupOf, favouring, level, settleAt, settle, favours, halfBy, halfOf}
 use Rattle.model.proofs.Cases.{byBool, byEq, byLt}
 use Rattle.model.proofs.Partners.{odd-lt, every-map, keep-every}
-use Rattle.model.proofs.Walks.{zeros, zeros-set, zeros-le, walk-on, walk-off}
-use Rattle.model.proofs.Settled.{partner-pairing, favours-law}
+use Rattle.model.proofs.Kept.{keep-same, keep-keep}
+use Rattle.model.proofs.Walks.{zeros, zeros-set, zeros-le, walk-on, walk-off, walk-length}
+use Rattle.model.proofs.Settled.{partner-pairing, favours-law, none-favour}
 use Rattle.model.proofs.Splits.{half-length}
-use Rattle.split.specs.Steps.{Wide, lookup, tabled, Sides, Tables, oddsBelow, portIn, thoseAt, mateAmong, Linked, walked, groupSettled, allSettled, SettledBy, halvedBy, halved}
-use Rattle.split.proofs.Lists.{every-kept, keep-same, keep-keep}
+use Rattle.split.specs.Steps.{Wide, lookup, tabled, Sides, Tables, oddsBelow, portIn, thoseAt, mateAmong, Linked, walked, bothWays, groupSettled, allSettled, SettledBy, halvedBy, halved}
+use Rattle.split.proofs.Lists.{every-kept}
 use Rattle.split.proofs.Gathered.{Gathered, odds-take}
-use Rattle.split.proofs.Walked.{walk-end, walk-length}
+use Rattle.split.proofs.Walked.{walk-end}
 use Rattle.split.proofs.Linked.{Mated, none-at}
 
 -- ---- walks
@@ -74,40 +75,97 @@ module _ (n : ℕ) (od : ℕ → Bool) (od-lt : (p : ℕ) → od p ≡ true → 
   walked-take go back go′ back′ dg db p h c l o low high =
       walk-take (lookup go) (lookup back) go′ back′ dg db (length c) n p h c l o low high (zeros-le c) (omega (arith, zeros-le (take n c), length-take-le n c l))
 
+  -- and nothing behind them is touched
+  walk-drop : (go back go′ back′ : ℕ → ℕ) → Does go go′ → Does back back′ → (j p h : ℕ) (c : List ℕ) → od p ≡ true → drop n (walk j go back p h c) ≡ drop n c
+  unfolding walk
+  walk-drop go back go′ back′ dg db zero p h c o = refl
+  walk-drop go back go′ back′ dg db (suc j) p h c o =
+      let oq : od (go p) ≡ true = rw (dg p o .0) (dg p o .1) in
+      byEq (getD c (go p) 0) 0
+      (λ e.
+      ap (drop n) (walk-on j go back p h c e)
+      ∙ walk-drop back go back′ go′ db dg j (go p) (3 - h) (set c (go p) (3 - h)) oq
+      ∙ drop-set-lt n c (go p) (3 - h) (od-lt (go p) oq))
+      (λ e. ap (drop n) (walk-off j go back p h c e))
+
+-- ---- those that favour a half, among the first n and behind them
+favouring-parts : (h n : ℕ) (c : List ℕ) → favouring h c ≡ favouring h (take n c) + favouring h (drop n c)
+favouring-parts h zero c = omega arith
+favouring-parts h (suc n) [] = refl
+favouring-parts h (suc n) (x ∷ c) = omega (arith, favouring-parts h n c)
+
+-- behind the first n no count favours a half
+abbrev Blank : ℕ → List ℕ → Type 0
+Blank n c = (h : ℕ) → h ≢ 0 → favouring h (drop n c) ≡ 0
+
+zeros-blank : (n k : ℕ) → Blank n (replicate k 0)
+zeros-blank zero k h m = none-favour h k m
+zeros-blank (suc n) zero h m = refl
+zeros-blank (suc n) (suc k) h m = zeros-blank n k h m
+
 -- ---- groups
 module _ (m i o : List ℕ) (i′ o′ : ℕ → ℕ) (di : Does (length m) (odd m) (odd-lt m) (lookup i) i′)
     (do′ : Does (length m) (odd m) (odd-lt m) (lookup o) o′) where
-  group-take : (p : ℕ) (c : List ℕ) → length m ≤ length c → odd m p ≡ true
-      → take (length m) (groupSettled i o p c) ≡ settleAt i′ o′ m p (take (length m) c)
-  unfolding settleAt
-  group-take p c l e =
-      let p-lt = odd-lt m p e in
-      let g = getD-take (length m) c p 0 p-lt in
-      byEq (getD c p 0) 0
-      (λ z.
-      let c1 : length m ≤ length (set c p tieHalf) = rw (length-set c p tieHalf) l in
-      let c2 : length m ≤ length (walked i o p tieHalf (set c p tieHalf)) = rw (walk-length (length (set c p tieHalf)) (lookup i) (lookup o) p tieHalf (set c p tieHalf)) c1 in
-      rw (eq-eqb (getD c p 0) 0 z, e, g, eq-eqb (getD c p 0) 0 z, settleAt)
-      (walked-take (length m) (odd m) (odd-lt m) o i o′ i′ do′ di p tieHalf (walked i o p tieHalf (set c p tieHalf)) c2 e (omega arith) (omega arith)
-      ∙ ap (λ (d : List ℕ). walk (length m) o′ i′ p tieHalf d) (walked-take (length m) (odd m) (odd-lt m) i o i′ o′ di do′ p tieHalf (set c p tieHalf) c1 e (omega arith) (omega arith)
-      ∙ ap (λ (d : List ℕ). walk (length m) i′ o′ p tieHalf d) (take-set-lt (length m) c p tieHalf p-lt))))
-      (λ z. rw (ne-eqb (getD c p 0) 0 z, e, g, ne-eqb (getD c p 0) 0 z, settleAt))
+  module _ (h : ℕ) (low : 1 ≤ h) (high : h ≤ 2) (p : ℕ) (c : List ℕ) (l : length m ≤ length c) (e : odd m p ≡ true) where
+    both-length : length (bothWays i o h p c) ≡ length c
+    both-length =
+        walk-length (length (walked i o p h (set c p h))) (lookup o) (lookup i) p h (walked i o p h (set c p h))
+        ∙ walk-length (length (set c p h)) (lookup i) (lookup o) p h (set c p h) ∙ length-set c p h
 
-  group-length : (p : ℕ) (c : List ℕ) → length (groupSettled i o p c) ≡ length c
-  group-length p c =
-      byBool (eqb (getD c p 0) 0)
-      (λ e. rw e (walk-length (length (walked i o p tieHalf (set c p tieHalf))) (lookup o) (lookup i) p tieHalf (walked i o p tieHalf (set c p tieHalf))
-      ∙ walk-length (length (set c p tieHalf)) (lookup i) (lookup o) p tieHalf (set c p tieHalf) ∙ length-set c p tieHalf))
-      (λ e. rw e)
+    both-take : take (length m) (bothWays i o h p c) ≡ groupOf i′ o′ m h p (take (length m) c)
+    both-take =
+        let c1 : length m ≤ length (set c p h) = rw (length-set c p h) l in
+        let c2 : length m ≤ length (walked i o p h (set c p h)) = rw (walk-length (length (set c p h)) (lookup i) (lookup o) p h (set c p h)) c1 in
+        walked-take (length m) (odd m) (odd-lt m) o i o′ i′ do′ di p h (walked i o p h (set c p h)) c2 e low high
+        ∙ ap (λ (d : List ℕ). walk (length m) o′ i′ p h d) (walked-take (length m) (odd m) (odd-lt m) i o i′ o′ di do′ p h (set c p h) c1 e low high
+        ∙ ap (λ (d : List ℕ). walk (length m) i′ o′ p h d) (take-set-lt (length m) c p h (odd-lt m p e)))
 
-  all-take : (k a : ℕ) (c : List ℕ) → length m ≤ length c
+    both-drop : drop (length m) (bothWays i o h p c) ≡ drop (length m) c
+    both-drop =
+        walk-drop (length m) (odd m) (odd-lt m) (lookup o) (lookup i) o′ i′ do′ di (length (walked i o p h (set c p h))) p h (walked i o p h (set c p h)) e
+        ∙ walk-drop (length m) (odd m) (odd-lt m) (lookup i) (lookup o) i′ o′ di do′ (length (set c p h)) p h (set c p h) e
+        ∙ drop-set-lt (length m) c p h (odd-lt m p e)
+
+    both-blank : Blank (length m) c → Blank (length m) (bothWays i o h p c)
+    both-blank b k n = ap (favouring k) both-drop ∙ b k n
+
+    both-favour : Blank (length m) c → (k : ℕ) → k ≢ 0 → favouring k (bothWays i o h p c) ≡ favouring k (groupOf i′ o′ m h p (take (length m) c))
+    both-favour b k n = omega (arith, favouring-parts k (length m) (bothWays i o h p c), both-blank b k n, ap (favouring k) both-take)
+
+  module _ (p : ℕ) (c : List ℕ) (l : length m ≤ length c) (b : Blank (length m) c) (e : odd m p ≡ true) where
+    level-take : level (bothWays i o 1 p c) ≡ level (groupOf i′ o′ m 1 p (take (length m) c))
+    level-take = rw (both-favour 1 (omega arith) (omega arith) p c l e b 1 (omega arith), both-favour 1 (omega arith) (omega arith) p c l e b 2 (omega arith))
+
+    -- a goal on the group settled, by the three ways that it can go
+    group-cases : (P : List ℕ → List ℕ → Type 0) → (P c (take (length m) c))
+        → ((h : ℕ) → 1 ≤ h → h ≤ 2 → P (bothWays i o h p c) (groupOf i′ o′ m h p (take (length m) c)))
+        → P (groupSettled i o p c) (settleAt i′ o′ m p (take (length m) c))
+    unfolding settleAt groupSettled
+    group-cases P f g =
+        let same = getD-take (length m) c p 0 (odd-lt m p e) in
+        byEq (getD c p 0) 0
+        (λ z. byBool (level (bothWays i o 1 p c))
+        (λ k. rw (eq-eqb (getD c p 0) 0 z, e, same, eq-eqb (getD c p 0) 0 z, settleAt, groupSettled, k, sym level-take ∙ k) (g 1 (omega arith) (omega arith)))
+        (λ k. rw (eq-eqb (getD c p 0) 0 z, e, same, eq-eqb (getD c p 0) 0 z, settleAt, groupSettled, k, sym level-take ∙ k) (g 2 (omega arith) (omega arith))))
+        (λ z. rw (ne-eqb (getD c p 0) 0 z, e, same, ne-eqb (getD c p 0) 0 z, settleAt, groupSettled) f)
+
+    group-take : take (length m) (groupSettled i o p c) ≡ settleAt i′ o′ m p (take (length m) c)
+    group-take = group-cases (λ x y. take (length m) x ≡ y) refl (λ h low high. both-take h low high p c l e)
+
+    group-length : length (groupSettled i o p c) ≡ length c
+    group-length = group-cases (λ x y. length x ≡ length c) refl (λ h low high. both-length h low high p c l e)
+
+    group-blank : Blank (length m) (groupSettled i o p c)
+    group-blank = group-cases (λ x y. Blank (length m) x) b (λ h low high. both-blank h low high p c l e b)
+
+  all-take : (k a : ℕ) (c : List ℕ) → length m ≤ length c → Blank (length m) c
       → take (length m) (allSettled i o (keep (odd m) (upFrom a k)) c) ≡ settle i′ o′ m (upFrom a k) (take (length m) c)
   unfolding settleAt
-  all-take zero a c l = refl
-  all-take (suc k) a c l =
+  all-take zero a c l b = refl
+  all-take (suc k) a c l b =
       byBool (odd m a)
-      (λ e. rw e (all-take k (suc a) (groupSettled i o a c) (rw (group-length a c) l) ∙ ap (settle i′ o′ m (upFrom (suc a) k)) (group-take a c l e)))
-      (λ e. rw e (all-take k (suc a) c l ∙ ap (settle i′ o′ m (upFrom (suc a) k)) (sym (off a c e))))
+      (λ e. rw e (all-take k (suc a) (groupSettled i o a c) (rw (group-length a c l b e) l) (group-blank a c l b e) ∙ ap (settle i′ o′ m (upFrom (suc a) k)) (group-take a c l b e)))
+      (λ e. rw e (all-take k (suc a) c l b ∙ ap (settle i′ o′ m (upFrom (suc a) k)) (sym (off a c e))))
     where
       off : (p : ℕ) (c : List ℕ) → odd m p ≡ false → settleAt i′ o′ m p (take (length m) c) ≡ take (length m) c
       off p c e = rw (e, settleAt)
@@ -160,7 +218,7 @@ module _ {n k : ℕ} {m ins outs odds i o c : List ℕ} (t : Sides n ins outs) (
       ap (take n) (s .same)
       ∙ ap (λ (l : List ℕ). take n (allSettled i o l z)) (g .same ∙ odds-take n m)
       ∙ ap (λ (j : ℕ). take j (allSettled i o (keep (odd (take n m)) (upFrom 0 j)) z)) (sym len)
-      ∙ all-take (take n m) i o i′ o′ di do′ (length (take n m)) 0 z wz
+      ∙ all-take (take n m) i o i′ o′ di do′ (length (take n m)) 0 z wz (zeros-blank (length (take n m)) 256)
       ∙ ap (settle i′ o′ (take n m) (upFrom 0 (length (take n m)))) (take-zeros (length (take n m)) 256 (omega (arith, t .most)))
 
   pub half-is : (h : ℕ) (lent half : List ℕ) → half ≡ halvedBy h n m c lent → half ≡ halved h n m ins outs lent

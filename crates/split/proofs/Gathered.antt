@@ -12,9 +12,10 @@ use borrow.Author.Tests.{eq-eqb, ne-eqb}
 use Rattle.model.specs.Words.{if, upFrom, keep}
 use Rattle.model.specs.Rules.{odd}
 use Rattle.model.proofs.Cases.{byBool, byEq}
+use Rattle.model.proofs.Kept.{keep-same}
 use Rattle.model.proofs.Partners.{Rising, keep-rising}
 use Rattle.split.specs.Steps.{Wide, oddsBelow, gathered}
-use Rattle.split.proofs.Lists.{up-snoc, keep-snoc, keep-same}
+use Rattle.split.proofs.Lists.{up-snoc, keep-snoc}
 
 odds-snoc : (m : List ℕ) (p : ℕ) → oddsBelow (p + 1) m ≡ oddsBelow p m ++ if (odd m p) (p ∷ []) []
 odds-snoc m p = ap (keep (odd m)) (ap (upFrom 0) (add-one p) ∙ up-snoc 0 p ∙ ap (λ (x : ℕ). upFrom 0 p ++ (x ∷ [])) (omega arith)) ∙ keep-snoc (odd m) (upFrom 0 p) p

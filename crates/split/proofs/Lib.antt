@@ -2,6 +2,7 @@
 pub mod Lists
 pub mod Gathered
 pub mod Linked
+pub mod Turned
 pub mod Walked
 pub mod Settled
 pub mod Favoured

@@ -42,15 +42,3 @@ every-kept P t a (suc n) al p h g e =
     byEq a p
     (λ f. let f⁻ = sym f in let e′ = rw f⁻ at e in rw f⁻ ((rw e′ at al) .0))
     (λ f. every-kept P t (suc a) n (byBool (t a) (λ d. (rw d at al) .1) (λ d. rw d at al)) p (omega arith) (omega arith) e)
-
--- ---- what is kept
-pub keep-same : (t u : ℕ → Bool) (a n : ℕ) → ((p : ℕ) → p < a + n → t p ≡ u p) → keep t (upFrom a n) ≡ keep u (upFrom a n)
-keep-same t u a zero f = refl
-keep-same t u a (suc n) f = rw (f a (omega arith), keep-same t u (suc a) n (λ p h. f p (omega arith)))
-
-pub keep-keep : (t u : ℕ → Bool) (l : List ℕ) → keep u (keep t l) ≡ keep (λ p. both (t p) (u p)) l
-keep-keep t u [] = refl
-keep-keep t u (x ∷ l) =
-    byBool (t x)
-    (λ e. byBool (u x) (λ f. rw (e, f, keep-keep t u l)) (λ f. rw (e, f, keep-keep t u l)))
-    (λ e. rw (e, keep-keep t u l))

@@ -1,14 +1,16 @@
 -- The walk, step by step: from where it stands it does what is left to do, with fuel for each count not settled.
-use Prim.Native.Nat.{ℕ, suc, zero, _+_, _-_, _≤_, _<_}
+use Prim.Native.Nat.{ℕ, suc, zero, _+_, _-_, _/_, _%_, _≤_, _<_}
 use mathlib.Core.Path.{_≡_, refl, sym, ap, _∙_}
 use mathlib.Core.Logic.{_≢_}
 use mathlib.Core.List.{List}
 use native.Mathlib.Omega.{arith}
-use lib.ListN.{length, getD, set, length-set}
-use Rattle.model.specs.Schedule.{walk}
+use lib.ListN.{length, getD, set, take, length-set}
+use Rattle.model.specs.Schedule.{walk, favouring}
 use Rattle.model.proofs.Cases.{byEq}
 use Rattle.model.proofs.Walks.{zeros, zeros-set, zeros-le, walk-on, walk-off}
-use Rattle.split.specs.Steps.{Wide, lookup, walked}
+use Rattle.model.proofs.Shares.{favouring-more, favouring-same}
+use Rattle.split.specs.Steps.{Wide, lookup, walked, WalkedBy, turned, Listed, Walks}
+use Rattle.split.proofs.Turned.{turned-length, listed-not, listed-zero, listed-room, listed-on, listed-turned}
 
 walk-one : (go back : ℕ → ℕ) (p h q d : ℕ) (c : List ℕ) → q ≡ go p → q < length c → getD c q 0 ≡ 0 → h < 3
     → walk (zeros c + d) go back p h c ≡ walk (zeros (set c q (3 - h)) + d) back go q (3 - h) (set c q (3 - h))
@@ -22,14 +24,6 @@ pub walk-end : (k : ℕ) (go back : ℕ → ℕ) (p h q : ℕ) (c : List ℕ) �
 unfolding walk
 walk-end zero go back p h q c e z = refl
 walk-end (suc k) go back p h q c e z = walk-off k go back p h c (rw e at z)
-
-pub walk-length : (k : ℕ) (go back : ℕ → ℕ) (p h : ℕ) (c : List ℕ) → length (walk k go back p h c) ≡ length c
-unfolding walk
-walk-length zero go back p h c = refl
-walk-length (suc k) go back p h c =
-    byEq (getD c (go p) 0) 0
-    (λ e. rw (walk-on k go back p h c e) (walk-length k back go (go p) (3 - h) (set c (go p) (3 - h)) ∙ length-set c (go p) (3 - h)))
-    (λ e. rw (walk-off k go back p h c e))
 
 -- the walk in c₀, whose start favours half, goes on from p in c
 pub record Goes (near far : List ℕ) (start half : ℕ) (c₀ : List ℕ) (p : ℕ) (c : List ℕ) : Type 0 where
@@ -78,3 +72,113 @@ module _ {near far : List ℕ} {start half : ℕ} {c₀ : List ℕ} {p : ℕ} {c
         let a = zeros-set c q (3 - half) (omega (arith, g .len)) z (omega arith) in
         let b = zeros-set (set c q (3 - half)) r half (omega (arith, len-once)) y (omega arith) in
         omega arith
+
+-- ---- with what either half has got: the same number of counts each, where the walk stands at one that favours half
+pub record Along (near far : List ℕ) (start half : ℕ) (c₀ : List ℕ) (p : ℕ) (c : List ℕ) (steps : ℕ) : Type 0 where
+  pub goes : Goes near far start half c₀ p c
+  pub even : steps % 2 ≡ 0
+  pub own : favouring half c ≡ favouring half c₀ + steps / 2
+  pub other : favouring (3 - half) c ≡ favouring (3 - half) c₀ + steps / 2
+
+along-start : (near far : List ℕ) (start half : ℕ) (c : List ℕ) (steps : ℕ) → steps ≡ 0 → Wide c → start < 256 → Along near far start half c start c steps
+along-start near far start half c steps e l h =
+    record { goes = goes-start near far start half c l h; even = omega arith; own = omega arith; other = omega arith }
+
+module _ {near far : List ℕ} {start half : ℕ} {c₀ : List ℕ} {p : ℕ} {c : List ℕ} {steps : ℕ} (g : Along near far start half c₀ p c steps)
+    (low : 1 ≤ half) (high : half ≤ 2)
+    {q : ℕ} (e : q ≡ lookup near p) (q-lt : q < 256) where
+  along-stop : getD c q 0 ≢ 0 → WalkedBy near far start half c₀ steps c
+  along-stop z =
+      record { same = goes-stop (g .goes) low high e q-lt z; own = g .own; other = omega (arith, g .other, g .even) }
+
+  module _ (z : getD c q 0 ≡ 0) {r : ℕ} (f : r ≡ lookup far q) (r-lt : r < 256) where
+    q-in : q < length c
+    q-in = omega (arith, g .goes .len)
+
+    along-stop-2 : (more : ℕ) → more ≡ steps + 1 → getD (set c q (3 - half)) r 0 ≢ 0 → WalkedBy near far start half c₀ more (set c q (3 - half))
+    along-stop-2 more k y =
+        record {
+          same = goes-stop-2 (g .goes) low high e q-lt z f r-lt y;
+          own = omega (arith, g .own, g .even, favouring-same half c q (3 - half) q-in z (omega arith) (omega arith));
+          other = omega (arith, g .other, g .even, favouring-more (3 - half) c q (3 - half) q-in z (omega arith) refl);
+        }
+
+    along-on : (more : ℕ) → more ≡ steps + 2 → getD (set c q (3 - half)) r 0 ≡ 0 → Along near far start half c₀ r (set (set c q (3 - half)) r half) more
+    along-on more k y =
+        let r-in : r < length (set c q (3 - half)) = omega (arith, length-set c q (3 - half), g .goes .len) in
+        record {
+          goes = goes-on (g .goes) low high e q-lt z f r-lt y;
+          even = omega (arith, g .even);
+          own = omega (arith, g .own, g .even, favouring-same half c q (3 - half) q-in z (omega arith) (omega arith), favouring-more half (set c q (3 - half)) r half r-in y (omega arith) refl);
+          other = omega (arith, g .other, g .even, favouring-more (3 - half) c q (3 - half) q-in z (omega arith) refl, favouring-same (3 - half) (set c q (3 - half)) r half r-in y (omega arith) (omega arith));
+        }
+
+-- ---- the walk from a count that favours the first half, with its counts listed, and from one that favours the second
+pub record Walking (near far : List ℕ) (start count : ℕ) (listed favoured : List ℕ) (p n : ℕ) (group c : List ℕ) : Type 0 where
+  pub list : Listed n group c
+  pub more : count ≤ n
+  pub first : Along near far start 1 favoured p c (n - count)
+  pub second : Along near far start 2 (turned (take count listed) favoured) p (turned (take n group) c) (n - count)
+
+pub walking-start : (near far : List ℕ) {start count : ℕ} {group c : List ℕ} → start < 256 → Listed count group c
+    → Walking near far start count group c start count group c
+walking-start near far {start} {count} {group} {c} h g =
+    record {
+      list = g;
+      more = omega arith;
+      first = along-start near far start 1 c (count - count) (omega arith) (g .len) h;
+      second = along-start near far start 2 (turned (take count group) c) (count - count) (omega arith) (turned-length (take count group) c ∙ g .len) h;
+    }
+
+module _ {near far : List ℕ} {start count : ℕ} {listed favoured : List ℕ} {p n : ℕ} {group c : List ℕ}
+    (w : Walking near far start count listed favoured p n group c) {q : ℕ} (e : q ≡ lookup near p) (q-lt : q < 256) where
+  pub walking-stop : getD c q 0 ≢ 0 → Walks near far start count listed favoured n group c
+  walking-stop z =
+      record {
+        list = w .list;
+        more = w .more;
+        first = along-stop (w .first) (omega arith) (omega arith) e q-lt z;
+        second = along-stop (w .second) (omega arith) (omega arith) e q-lt (listed-not (w .list) q z);
+      }
+
+  module _ (z : getD c q 0 ≡ 0) where
+    pub walking-room : n < 256
+    walking-room = listed-room (w .list) q z q-lt
+
+    first-listed : Listed (n + 1) (set group n q) (set c q 2)
+    first-listed = listed-on (w .list) q z q-lt 2 (omega arith)
+
+    first-turned : turned (take (n + 1) (set group n q)) (set c q 2) ≡ set (turned (take n group) c) q 1
+    first-turned = listed-turned (w .list) q z q-lt 2 1 refl
+
+    module _ {r : ℕ} (f : r ≡ lookup far q) (r-lt : r < 256) where
+      pub walking-stop-2 : getD (set c q 2) r 0 ≢ 0 → Walks near far start count listed favoured (n + 1) (set group n (lookup near p)) (set c q 2)
+      walking-stop-2 y =
+          let s : n + 1 - count ≡ n - count + 1 = omega (arith, w .more) in
+          let y′ = listed-not first-listed r y in
+          rw (sym e) (record {
+            list = first-listed;
+            more = omega (arith, w .more);
+            first = along-stop-2 (w .first) (omega arith) (omega arith) e q-lt z f r-lt (n + 1 - count) s y;
+            second = rw first-turned (along-stop-2 (w .second) (omega arith) (omega arith) e q-lt (listed-zero (w .list) q z) f r-lt (n + 1 - count) s (rw first-turned at y′));
+          })
+
+      module _ (y : getD (set c q 2) r 0 ≡ 0) where
+        pub walking-room-2 : n + 1 < 256
+        walking-room-2 = listed-room first-listed r y r-lt
+
+        pub walking-on : Walking near far start count listed favoured r (n + 1 + 1) (set (set group n (lookup near p)) (n + 1) (lookup far q)) (set (set c q 2) r 1)
+        walking-on =
+            let s : n + 1 + 1 - count ≡ n - count + 2 = omega (arith, w .more) in
+            let y′ = listed-zero first-listed r y in
+            let t : turned (take (n + 1 + 1) (set (set group n q) (n + 1) r)) (set (set c q 2) r 1) ≡ set (set (turned (take n group) c) q 1) r 2 =
+            listed-turned first-listed r y r-lt 1 2 refl ∙ ap (λ (d : List ℕ). set d r 2) first-turned in
+            rw (sym e, sym f) (record {
+              list = listed-on first-listed r y r-lt 1 (omega arith);
+              more = omega (arith, w .more);
+              first = along-on (w .first) (omega arith) (omega arith) e q-lt z f r-lt (n + 1 + 1 - count) s y;
+              second = rw t (along-on (w .second) (omega arith) (omega arith) e q-lt (listed-zero (w .list) q z) f r-lt (n + 1 + 1 - count) s (rw first-turned at y′));
+            })
+
+        pub walking-less : zeros (set (set c q 2) r 1) < zeros c
+        walking-less = goes-less (w .first .goes) (omega arith) (omega arith) e q-lt z f r-lt y

@@ -1,12 +1,14 @@
 -- The steps of a split, as functions of the lists that they are lent.
-use Prim.Native.Nat.{ℕ, _+_, _%_, _≤_, _<_}
+use Prim.Native.Nat.{ℕ, _+_, _-_, _/_, _%_, _≤_, _<_}
 use mathlib.Core.Path.{_≡_}
+use mathlib.Core.Logic.{_≢_}
 use mathlib.Core.List.{List, [], _∷_, _++_}
 use lib.Dec.{eqb}
 use lib.ListN.{length, getD, set, take, drop}
 use Rattle.model.specs.Words.{if, keep, upFrom, Every}
 use Rattle.model.specs.Rules.{Side, inputs, outputs, portOf, odd}
-use Rattle.model.specs.Schedule.{partnerIn, walk, tieHalf, halfBy, halfOf}
+use Rattle.model.specs.Schedule.{partnerIn, walk, favouring, level, halfBy, halfOf}
+use Rattle.model.proofs.Walks.{zeros}
 
 -- ---- positions
 -- A list has room for the positions of the largest matrix.
@@ -65,9 +67,59 @@ pub record Linked (table odds : List ℕ) (k : ℕ) (mates : List ℕ) : Type 0 
 abbrev pub walked : List ℕ → List ℕ → ℕ → ℕ → List ℕ → List ℕ
 walked near far p h c = walk (length c) (lookup near) (lookup far) p h c
 
--- The group of p is settled by walks both ways, unless it is settled already.
-abbrev pub groupSettled : List ℕ → List ℕ → ℕ → List ℕ → List ℕ
-groupSettled i o p c = if (eqb (getD c p 0) 0) (walked o i p tieHalf (walked i o p tieHalf (set c p tieHalf))) c
+-- A walk settles so many counts that the half which its start does not favour has every second one, beginning with the first.
+pub record WalkedBy (near far : List ℕ) (start half : ℕ) (c : List ℕ) (steps : ℕ) (d : List ℕ) : Type 0 where
+  pub same : d ≡ walked near far start half c
+  pub own : favouring half d ≡ favouring half c + steps / 2
+  pub other : favouring (3 - half) d ≡ favouring (3 - half) c + (steps + 1) / 2
+
+-- The half that is not h, and the counts of a list turned round: each favours the half that it did not.
+abbrev pub otherHalf : ℕ → ℕ
+otherHalf h = if (eqb h 1) 2 1
+
+abbrev pub turned : List ℕ → List ℕ → List ℕ
+turned [] c = c
+turned (q ∷ l) c = turned l (set c q (otherHalf (getD c q 0)))
+
+-- The first n of a list are settled counts, and it has room for those that are not settled.
+pub record Listed (n : ℕ) (group c : List ℕ) : Type 0 where
+  pub size : Wide group
+  pub len : Wide c
+  pub room : n + zeros c ≤ 256
+  pub settled : Every (λ q. getD c q 0 ≢ 0) (take n group)
+
+-- A walk from a count that favours the first half lists what it settles: c is what is left with n counts listed; and with
+-- these turned round it is what the same walk leaves from a start that favours the second half.
+pub record Walks (near far : List ℕ) (start count : ℕ) (listed favoured : List ℕ) (n : ℕ) (group c : List ℕ) : Type 0 where
+  pub list : Listed n group c
+  pub more : count ≤ n
+  pub first : WalkedBy near far start 1 favoured (n - count) c
+  pub second : WalkedBy near far start 2 (turned (take count listed) favoured) (n - count) (turned (take n group) c)
+
+-- The group of p settled by walks both ways, p favouring half h.
+abbrev pub bothWays : List ℕ → List ℕ → ℕ → ℕ → List ℕ → List ℕ
+bothWays i o h p c = walked o i p h (walked i o p h (set c p h))
+
+-- The group of p is settled, unless it is already, the way round that leaves the halves level.
+unfoldable pub groupSettled : List ℕ → List ℕ → ℕ → List ℕ → List ℕ
+groupSettled i o p c = if (eqb (getD c p 0) 0) (if (level (bothWays i o 1 p c)) (bothWays i o 1 p c) (bothWays i o 2 p c)) c
+
+-- The half with the larger share of a group of an odd number of counts whose first favours the first half, by how many the
+-- first count and the walk by inputs are.
+abbrev pub largerHalf : ℕ → ℕ
+largerHalf n = if (eqb (n % 2) 1) 1 2
+
+-- It is the turn of the first half where as many counts favour the two, and of the second where the first has one more.
+pub record Turn (half : ℕ) (c : List ℕ) : Type 0 where
+  pub low : 1 ≤ half
+  pub high : half ≤ 2
+  pub ahead : favouring 1 c + 1 ≡ favouring 2 c + half
+
+-- With the group of p settled c becomes d, and then it is the turn of a half.
+pub record Settles (i o : List ℕ) (p : ℕ) (c : List ℕ) (half : ℕ) (d : List ℕ) : Type 0 where
+  pub len : Wide d
+  pub turn : Turn half d
+  pub same : d ≡ groupSettled i o p c
 
 -- The groups of those of a list, in their order.
 abbrev pub allSettled : List ℕ → List ℕ → List ℕ → List ℕ → List ℕ

@@ -1,55 +1,104 @@
 // Groups: who is joined by partnership favours the two halves in turn. A count has 0 until it is settled.
 use widths::byte;
 ghost use mathlib.Core.Path.{_≡_};
-ghost use Prim.Native.Nat.{_<_, _≤_};
-ghost use Rattle.model.specs.Schedule.{tieHalf};
-ghost use Rattle.split.specs.Steps.{Wide, SettledBy, walked, groupSettled};
+ghost use Prim.Native.Nat.{_%_, _<_, _≤_};
+ghost use lib.ListN.{take, replicate};
+ghost use Rattle.split.specs.Steps.{Wide, otherHalf, turned, Listed, Walks, largerHalf, Turn, Settles, SettledBy};
 
-// The half that the first count of a group favours.
-fn tie_half() -> u8
-    ensures { λ r. ⌜ r ≡ tieHalf ⌝ }
+// The half that a count does not favour.
+fn other_half(half: u8) -> u8
+    ensures { λ r. ⌜ r ≡ otherHalf half ⌝ }
 {
-    1
+    if half == 1 { 2 } else { 1 }
 }
 
-// A single count is its own partner, so a walk stops at a settled count and at nothing else.
-fn walk(start: usize, half: u8, near: &[u8; 256], far: &[u8; 256], favoured: &mut [u8; 256])
-    requires { ⌜ (start < 256) × (1 ≤ half) × (half ≤ 2) × Wide (now favoured) ⌝ }
-    ensures { λ _. ⌜ Wide (now (favoured .exit))
-        × (now (favoured .exit) ≡ walked (now (near .entry)) (now (far .entry)) start half (now (favoured .entry))) ⌝ }
+// Settles who is joined to a count that favours the first half, lists them, and answers how many the list then has. A single
+// count is its own partner, so a walk stops at a settled count and at nothing else.
+fn walk(
+    start: usize,
+    near: &[u8; 256],
+    far: &[u8; 256],
+    count: usize,
+    group: &mut [u8; 256],
+    favoured: &mut [u8; 256],
+) -> usize
+    requires { ⌜ (start < 256) × Listed count (now group) (now favoured) ⌝ }
+    ensures { λ r. ⌜ Walks (now (near .entry)) (now (far .entry)) start count (now (group .entry)) (now (favoured .entry)) r (now (group .exit)) (now (favoured .exit)) ⌝ }
 {
-    let other = 3 - half;
+    let mut n = count;
     let mut p = start;
     loop {
-        let q = byte(near[p]);
+        let second = near[p];
+        let q = byte(second);
         if favoured[q] != 0 {
-            return;
+            return n;
         }
-        favoured[q] = other;
-        p = byte(far[q]);
+        favoured[q] = 2;
+        group[n] = second;
+        n += 1;
+        let first = far[q];
+        p = byte(first);
         if favoured[p] != 0 {
-            return;
+            return n;
         }
-        favoured[p] = half;
+        favoured[p] = 1;
+        group[n] = first;
+        n += 1;
     }
 }
 
-// The first count that is met of a group is its first in matrix order, for the scan goes in that order.
-fn settle_group(p: usize, in_mates: &[u8; 256], out_mates: &[u8; 256], favoured: &mut [u8; 256])
-    requires { ⌜ (p < 256) × Wide (now favoured) ⌝ }
-    ensures { λ _. ⌜ Wide (now (favoured .exit))
-        × (now (favoured .exit) ≡ groupSettled (now («in_mates» .entry)) (now («out_mates» .entry)) p (now (favoured .entry))) ⌝ }
+// Turns the counts of a list round: each favours the half that it did not.
+fn turn_round(group: &[u8; 256], n: usize, favoured: &mut [u8; 256])
+    requires { ⌜ (n ≤ 256) × Wide (now group) × Wide (now favoured) ⌝ }
+    ensures { λ _. ⌜ Wide (now (favoured .exit)) × (now (favoured .exit) ≡ turned (take n (now (group .entry))) (now (favoured .entry))) ⌝ }
+{
+    let mut i: usize = 0;
+    while i < n {
+        let q = byte(group[i]);
+        favoured[q] = other_half(favoured[q]);
+        i += 1;
+    }
+}
+
+// The half with the larger share of a group of an odd number of counts, whose first count favours the first half: that half
+// where the first count and those of the walk by inputs are odd in number.
+fn larger_half(count: usize) -> u8
+    ensures { λ r. ⌜ r ≡ largerHalf count ⌝ }
+{
+    if count % 2 == 1 { 1 } else { 2 }
+}
+
+// The first count that is met of a group is its first in matrix order, for the scan goes in that order. The next larger share
+// goes to `turn`; the answer is whose turn it is then.
+fn settle_group(
+    p: usize,
+    turn: u8,
+    in_mates: &[u8; 256],
+    out_mates: &[u8; 256],
+    group: &mut [u8; 256],
+    favoured: &mut [u8; 256],
+) -> u8
+    requires { ⌜ (p < 256) × Wide (now group) × Wide (now favoured) × Turn turn (now favoured) ⌝ }
+    ensures { λ r. ⌜ Wide (now (group .exit)) × Settles (now («in_mates» .entry)) (now («out_mates» .entry)) p (now (favoured .entry)) r (now (favoured .exit)) ⌝ }
 {
     if favoured[p] != 0 {
-        return;
+        return turn;
     }
-    let half = tie_half();
-    favoured[p] = half;
-    walk(p, half, in_mates, out_mates, favoured);
-    walk(p, half, out_mates, in_mates, favoured);
+    favoured[p] = 1;
+    group[0] = p as u8;
+    let by_inputs = walk(p, in_mates, out_mates, 1, group, favoured);
+    let n = walk(p, out_mates, in_mates, by_inputs, group, favoured);
+    if n % 2 == 0 {
+        return turn;
+    }
+    if larger_half(by_inputs) == turn {
+        return other_half(turn);
+    }
+    turn_round(group, n, favoured);
+    other_half(turn)
 }
 
-// Only the odd counts are scanned.
+// Only the odd counts are scanned; the first larger share goes to the first half.
 pub(crate) fn settle(
     odds: &[u8; 256],
     k: usize,
@@ -57,13 +106,15 @@ pub(crate) fn settle(
     out_mates: &[u8; 256],
     favoured: &mut [u8; 256],
 )
-    requires { ⌜ (k ≤ 256) × Wide (now odds) × Wide (now favoured) ⌝ }
+    requires { ⌜ (k ≤ 256) × Wide (now odds) × (now favoured ≡ replicate 256 0) ⌝ }
     ensures { λ _. ⌜ SettledBy (now («in_mates» .entry)) (now («out_mates» .entry)) (now (odds .entry)) k (now (favoured .entry)) (now (favoured .exit)) ⌝ }
 {
+    let mut group = [0u8; 256];
+    let mut turn: u8 = 1;
     let mut i: usize = 0;
     while i < k {
         let p = byte(odds[i]);
-        settle_group(p, in_mates, out_mates, favoured);
+        turn = settle_group(p, turn, in_mates, out_mates, &mut group, favoured);
         i += 1;
     }
 }

@@ -122,9 +122,9 @@ module _ (ports i o : ℕ) (sw : Switch ports) (hi : i < ports) (ho : o < ports)
         let h = sw .high in
         let a = raised old (i * ports + o) in
         let b = raised a (256 + i) in
+        let d = raised b (272 + o) in
         let la = length-set old (i * ports + o) (getD old (i * ports + o) 0 + 1) in
         let lb = length-set a (256 + i) (getD a (256 + i) 0 + 1) in
-        let d = raised b (272 + o) in
         let ld = length-set b (272 + o) (getD b (272 + o) 0 + 1) in
         omega (arith, raised-at old (i * ports + o) x (omega arith), raised-at a (256 + i) x (omega arith), raised-at b (272 + o) x (omega arith), raised-at d 288 x (omega arith))
 

@@ -1,14 +1,14 @@
 use borrow.Author.Needs.{needs}
 use Rattle.model.proofs.Walks.{zeros}
-use Rattle.split.proofs.Walked.{Goes, goes-start, goes-stop, goes-stop-2, goes-on, goes-less}
+use Rattle.split.proofs.Walked.{Walking, walking-start, walking-stop, walking-room, walking-stop-2, walking-room-2, walking-on, walking-less}
 use Rattle.split.proofs.groups.walk.Statement.{statement}
 use Rattle.split.proofs.groups.walk.Tie as tie
 
 abbrev Inv-loop : tie.InvT-loop
-Inv-loop start half near far favoured₀ other p₀ favoured p = Goes near far start half favoured₀ p favoured
+Inv-loop start near far count group₀ favoured₀ n₀ p₀ group favoured n p = Walking near far start count group₀ favoured₀ p n group favoured
 
 abbrev μ-loop : tie.MeasureT-loop
-μ-loop start half near far favoured₀ other p₀ favoured p = zeros favoured
+μ-loop start near far count group₀ favoured₀ n₀ p₀ group favoured n p = zeros favoured
 
 pub walk-spec : {M : Type 1} → statement M
 walk-spec =
@@ -16,17 +16,20 @@ walk-spec =
     (tie.spec
     Inv-loop
     μ-loop
-    (λ c. search needs)
-    (λ c. goes-start _ _ _ _ _ (c .pre .3) (c .pre .0))
-    (λ c. search needs)
-    (λ c κs. search needs)
-    (λ c. search needs)
-    (λ c. search (needs, goes-stop))
-    (λ c. search needs)
+    (λ c. walking-start _ _ (c .pre .0) (c .pre .1))
     (λ c. search needs)
     (λ c κs. search needs)
     (λ c. search needs)
-    (λ c. search (needs, goes-stop-2))
+    (λ c. search (needs, walking-stop))
     (λ c. search needs)
-    (λ c. search (needs, goes-less))
-    (λ c. search (needs, goes-on)))
+    (λ c. search (needs, walking-room))
+    (λ c. search (needs, walking-room))
+    (λ c. search needs)
+    (λ c κs. search needs)
+    (λ c. search needs)
+    (λ c. search (needs, walking-stop-2))
+    (λ c. search needs)
+    (λ c. search (needs, walking-room-2))
+    (λ c. search (needs, walking-room-2))
+    (λ c. search (needs, walking-less))
+    (λ c. search (needs, walking-on)))

@@ -1,0 +1,29 @@
+use Prim.Native.Nat.{_≤_, _-_}
+use borrow.Author.Needs.{needs}
+use native.Mathlib.Omega.{arith}
+use Rattle.split.proofs.Turned.{Turning, turning-start, turning-on, turning-end}
+use Rattle.split.proofs.groups.turn_round.Statement.{statement}
+use Rattle.split.proofs.groups.turn_round.Tie as tie
+
+abbrev Inv-loop : tie.InvT-loop
+Inv-loop group n favoured₀ i₀ favoured i = (i ≤ n) × Turning group i favoured₀ favoured
+
+abbrev μ-loop : tie.MeasureT-loop
+μ-loop group n favoured₀ i₀ favoured i = n - i
+
+pub turn-round-spec : {M : Type 1} → statement M
+turn-round-spec =
+    tie.close
+    (tie.spec
+    Inv-loop
+    μ-loop
+    (λ c. (omega arith, turning-start (c .pre .2)))
+    (λ c. search needs)
+    (λ c κs. search needs)
+    (λ c. search needs)
+    (λ c κs. search needs)
+    (λ c. search needs)
+    (λ c. search needs)
+    (λ c. search needs)
+    (λ c. (omega arith, search (needs, turning-on)))
+    (λ c. search (needs, turning-end)))
