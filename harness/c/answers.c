@@ -151,6 +151,12 @@ static uint8_t miscounted[SLOTS * PORTS] = {1, 0, 0, 4, 2, 0, 0, 1, 1, 0, 0, 2, 
 static uint8_t bunched[SLOTS * PORTS] = {1, 0, 0, 4, 1, 0, 0, 2, 2, 0, 0, 1, 2, 0, 0, 4};
 static uint8_t crowded[SLOTS * PORTS] = {1, 1, 1, 1, 1, 1, 1, 1, 0, 0, 0, 0, 0, 0, 0, 255};
 
+/* One cell from each port to its own number. */
+static const uint16_t own[PORTS * PORTS] = {1, 0, 0, 0, 0, 1, 0, 0, 0, 0, 1, 0, 0, 0, 0, 1};
+static uint8_t own_spread[SLOTS * PORTS] = {1, 0, 0, 0, 0, 0, 3, 0, 0, 2, 0, 0, 0, 0, 0, 4};
+static uint8_t own_in_one[SLOTS * PORTS] = {1, 2, 3, 4, 0, 0, 0, 0, 0, 0, 0, 0, 0, 0, 0, 0};
+static uint8_t own_in_two[SLOTS * PORTS] = {1, 0, 0, 0, 0, 0, 3, 0, 0, 2, 0, 4, 0, 0, 0, 0};
+
 #define MATRIX(matrix) matrix, PORTS *PORTS
 #define FRAME(frame) frame, SLOTS *PORTS
 #define NO_MATRIX NULL, 0
@@ -190,6 +196,9 @@ static const struct expected expectations[] = {
     {"inspect: output twice", INSPECT, {4, 4, MATRIX(table7), FRAME(twice), 0, 0, 0, 0}, 102, 4, 4},
     {"inspect: pair count", INSPECT, {4, 4, MATRIX(table7), FRAME(miscounted), 0, 0, 0, 0}, 103, 4, 4},
     {"inspect: unbalanced block", INSPECT, {4, 4, MATRIX(table7), FRAME(bunched), 0, 0, 0, 0}, 104, 1, 4},
+    {"inspect: clean, own numbers", INSPECT, {4, 4, MATRIX(own), FRAME(own_spread), 0, 0, 0, 0}, 0, 0, 0},
+    {"inspect: block unbalanced in all cells", INSPECT, {4, 4, MATRIX(own), FRAME(own_in_one), 0, 0, 0, 0}, 104, 1, 4},
+    {"inspect: block of two unbalanced in all cells", INSPECT, {4, 4, MATRIX(own), FRAME(own_in_two), 0, 0, 0, 0}, 104, 3, 2},
     {"inspect: no matrix", INSPECT, {4, 4, NO_MATRIX, FRAME(built), 0, 0, 0, 0}, 3, 0, 0},
     {"inspect: no frame", INSPECT, {4, 4, MATRIX(table7), NO_FRAME, 0, 0, 0, 0}, 4, 0, 0},
     {"inspect: nothing", INSPECT, {4, 4, NO_MATRIX, NO_FRAME, 0, 0, 0, 0}, 3, 0, 0},

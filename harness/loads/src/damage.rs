@@ -10,6 +10,7 @@ kinds! {
         ByteChanged = "byte-changed",
         SlotsSwapped = "slots-swapped",
         HalvesCrossed = "halves-crossed",
+        HalvesExchanged = "halves-exchanged",
         CellToOtherSlot = "cell-to-other-slot",
         CellToOtherOutput = "cell-to-other-output",
         InputsExchanged = "inputs-exchanged",
@@ -39,6 +40,10 @@ pub fn damage(
         Damage::ByteChanged => frame[any_byte] = random.between(0, ports as u64) as u8,
         Damage::SlotsSwapped => swap_slots(frame, ports, shape.slots, shape.slots, random),
         Damage::HalvesCrossed => cross_halves(shape, frame, random),
+        Damage::HalvesExchanged => {
+            let block = random_block(1, shape, frame, random);
+            exchange_uneven(ports, block, random);
+        }
         Damage::CellToOtherSlot => move_cell(shape, frame, random),
         Damage::CellToOtherOutput => redirect_cell(shape, frame, random),
         Damage::InputsExchanged => {
@@ -49,7 +54,7 @@ pub fn damage(
         Damage::RandomBytes => *frame = random.bytes(frame.len()),
         Damage::RandomOutputs => frame.fill_with(|| random.between(0, ports as u64) as u8),
         Damage::Bunched => bunch_block(frame, ports),
-        Damage::BlockBunched => bunch_block(random_block(shape, frame, random), ports),
+        Damage::BlockBunched => bunch_block(random_block(2, shape, frame, random), ports),
         Damage::LoadWrongByOne => change_load(call, random),
         Damage::Several => {
             for _ in 0..random.between(2, 4) {
@@ -64,13 +69,108 @@ pub fn damage(
     }
 }
 
-/// A random aligned block of four slots or more, or the whole of a shorter frame.
-fn random_block<'f>(shape: Shape, frame: &'f mut [u8], random: &mut Random) -> &'f mut [u8] {
-    let longest = u64::from(shape.slots.trailing_zeros());
-    let size = 1 << random.between(longest.min(2), longest);
-    let place = random.place(shape.slots / size);
-    let block = frame.chunks_mut(size * shape.ports).nth(place);
-    block.unwrap_or_default()
+/// A block: its first slot, numbered from 1, and its size in slots.
+#[derive(Clone, Copy, Debug, PartialEq, Eq)]
+pub struct Block {
+    pub slot: usize,
+    pub size: usize,
+}
+
+impl Block {
+    /// A random block of 2^least slots or more, or the whole of a shorter frame.
+    pub fn random(least: u64, slots: usize, random: &mut Random) -> Block {
+        let longest = u64::from(slots.trailing_zeros());
+        let size = 1 << random.between(longest.min(least), longest);
+        Block::of_size(size, slots, random)
+    }
+
+    /// A random one of the blocks of this size.
+    pub fn of_size(size: usize, slots: usize, random: &mut Random) -> Block {
+        Block {
+            slot: size * random.place(slots / size) + 1,
+            size,
+        }
+    }
+
+    /// The bytes of the block.
+    fn of(self, ports: usize, frame: &mut [u8]) -> &mut [u8] {
+        &mut frame[(self.slot - 1) * ports..][..self.size * ports]
+    }
+}
+
+/// A frame whose only fault is that the halves of this block differ by more than one cell in all, with its load.
+///
+/// No two flows share a port, and `build` makes their frame. In the block, some of the inputs with an odd number of cells
+/// exchange what they send in its first half with what they send in its second. Every pair, input and output stays balanced in
+/// every block, and so does the total in blocks that are larger or do not overlap this one. The shape has two ports or more
+/// and the block two slots or more; loads are tried until the block has two inputs with an odd number of cells.
+pub fn unbalance_total(
+    shape: Shape,
+    block: Block,
+    build: impl Fn(&Call) -> Vec<u8>,
+    random: &mut Random,
+) -> (Call, Vec<u8>) {
+    loop {
+        let call = load_of_shape(LoadKind::Apart, shape, random);
+        let mut frame = build(&call);
+        if exchange_uneven(shape.ports, block.of(shape.ports, &mut frame), random) {
+            return (call, frame);
+        }
+    }
+}
+
+/// Of the inputs that send one cell more in one half of a block, lets so many exchange their halves that the totals of the
+/// halves differ by more than one cell; false, and nothing done, where there are not enough such inputs, or no two halves.
+fn exchange_uneven(ports: usize, block: &mut [u8], random: &mut Random) -> bool {
+    if block.len() < 2 * ports {
+        return false;
+    }
+    let more: Vec<i64> = (0..ports).map(|input| more(ports, block, input)).collect();
+    let total: i64 = more.iter().sum();
+    let one = random.pick(&[1, -1]);
+    for uneven in [one, -one] {
+        let mut inputs: Vec<usize> = (0..ports).filter(|&port| more[port] == uneven).collect();
+        let most = inputs.len() as i64;
+        let enough = (1..=most).find(|exchanged| (total - 2 * uneven * exchanged).abs() > 1);
+        if let Some(enough) = enough {
+            random.shuffle(&mut inputs);
+            inputs.truncate(random.between(enough as u64, most as u64) as usize);
+            exchange_halves(ports, block, &inputs);
+            return true;
+        }
+    }
+    false
+}
+
+/// The cells that an input sends in the first half of a block, less those in its second half.
+fn more(ports: usize, block: &[u8], input: usize) -> i64 {
+    let (front, back) = block.split_at(block.len() / 2);
+    let cells = |half: &[u8]| {
+        let sent = half.iter().skip(input).step_by(ports);
+        sent.filter(|&&byte| byte != 0).count() as i64
+    };
+    cells(front) - cells(back)
+}
+
+/// Exchanges what these inputs send in the first half of a block with what they send in its second.
+fn exchange_halves(ports: usize, block: &mut [u8], inputs: &[usize]) {
+    let (front, back) = block.split_at_mut(block.len() / 2);
+    for (one, other) in front.chunks_mut(ports).zip(back.chunks_mut(ports)) {
+        for &input in inputs {
+            std::mem::swap(&mut one[input], &mut other[input]);
+        }
+    }
+}
+
+/// The bytes of a random block of 2^least slots or more, or of the whole of a shorter frame.
+fn random_block<'f>(
+    least: u64,
+    shape: Shape,
+    frame: &'f mut [u8],
+    random: &mut Random,
+) -> &'f mut [u8] {
+    let block = Block::random(least, shape.slots, random);
+    block.of(shape.ports, frame)
 }
 
 /// Swaps a random one of the first slots with a random one of the last.
@@ -85,7 +185,7 @@ fn swap_slots(block: &mut [u8], ports: usize, first: usize, last: usize, random:
 
 /// Swaps slots between the halves of one block, which leaves larger blocks balanced.
 fn cross_halves(shape: Shape, frame: &mut [u8], random: &mut Random) {
-    let block = random_block(shape, frame, random);
+    let block = random_block(2, shape, frame, random);
     let half = (block.len() / shape.ports / 2).max(1);
     for _ in 0..random.between(1, 3) {
         swap_slots(block, shape.ports, half, half, random);

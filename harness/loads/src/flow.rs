@@ -32,7 +32,8 @@ impl Flow {
         }
     }
 
-    /// A load of this shape that fits; other ports than the flow's and its partner's have any.
+    /// A load of this shape that fits; other ports than the flow's and its partner's have any. A flow with nobody at its ports
+    /// comes first of the whole matrix in half of the cases, so that its extra cells all go to first halves.
     pub fn load(self, company: Company, shape: Shape, random: &mut Random) -> Call {
         let mut grid = Grid::new(shape);
         *grid.at(self.input, self.output) = self.cells;
@@ -44,6 +45,9 @@ impl Flow {
         let of_flow = if company == Company::Anybody { left } else { 0 };
         room[0][self.input] = of_flow;
         room[1][self.output] = of_flow;
+        if company == Company::Nobody && random.one_in(2) {
+            room[0][..self.input].fill(0);
+        }
         if company == Company::Partner {
             let (input, output) = self.earlier(random);
             if (input, output) != (self.input, self.output) {

@@ -32,10 +32,12 @@ mod random;
 mod seam;
 mod sheet;
 
-pub use damage::{damage, Damage};
+pub use damage::{damage, unbalance_total, Block, Damage};
 pub use flow::{Company, Flow};
 pub use hostile::{hostile_length, hostile_number, LengthKind, HOSTILE};
-pub use load::{full_load, junk_number, load, load_of_shape, random_shape, Call, LoadKind, Shape};
+pub use load::{
+    full_load, junk_number, load, load_of_shape, load_of_total, random_shape, Call, LoadKind, Shape,
+};
 pub use random::Random;
 pub use seam::{Seam, SEAMS};
 pub use sheet::{sheet, SheetKind};

@@ -34,6 +34,8 @@ kinds! {
         SinglePair = "single-pair",
         OwnNumber = "own-number",
         Permutation = "permutation",
+        Apart = "apart",
+        Groups = "groups",
         Staircase = "staircase",
         CyclicBand = "cyclic-band",
         AllOdd = "all-odd",
@@ -48,7 +50,7 @@ kinds! {
 
 impl LoadKind {
     /// Kinds that are never refused.
-    pub const FITTING: [LoadKind; 10] = [
+    pub const FITTING: [LoadKind; 12] = [
         LoadKind::Zero,
         LoadKind::Full,
         LoadKind::Sparse,
@@ -56,6 +58,8 @@ impl LoadKind {
         LoadKind::SinglePair,
         LoadKind::OwnNumber,
         LoadKind::Permutation,
+        LoadKind::Apart,
+        LoadKind::Groups,
         LoadKind::Staircase,
         LoadKind::CyclicBand,
         LoadKind::AllOdd,
@@ -112,6 +116,8 @@ pub fn load_of_shape(kind: LoadKind, shape: Shape, random: &mut Random) -> Call 
             grid.add_band(0, count);
             grid.reorder(random);
         }
+        LoadKind::Apart => grid.add_flows_apart(random),
+        LoadKind::Groups => grid.add_groups(random),
         LoadKind::Staircase => grid.add_staircase(random),
         LoadKind::CyclicBand => grid.add_odd_bands(random),
         LoadKind::AllOdd => grid.add_all_odd(random),
@@ -129,6 +135,13 @@ pub fn load_of_shape(kind: LoadKind, shape: Shape, random: &mut Random) -> Call 
 pub fn full_load(shape: Shape, cells: usize, random: &mut Random) -> Call {
     let mut grid = Grid::new(shape);
     grid.add_permutations_of_weight(cells, 1, random);
+    grid.into_call()
+}
+
+/// A load with so many cells in all, which are no more than ports × slots.
+pub fn load_of_total(shape: Shape, cells: usize, random: &mut Random) -> Call {
+    let mut grid = Grid::new(shape);
+    grid.add_cells(cells, random);
     grid.into_call()
 }
 
@@ -207,6 +220,51 @@ impl Grid {
     fn add_band(&mut self, offset: usize, count: u16) {
         for input in 0..self.shape.ports {
             *self.at(input, (input + offset) % self.shape.ports) += count;
+        }
+    }
+
+    /// Any count from each input to an output of its own, so that no two flows share a port.
+    fn add_flows_apart(&mut self, random: &mut Random) {
+        for port in 0..self.shape.ports {
+            *self.at(port, port) = random.between(0, self.shape.slots as u64) as u16;
+        }
+        if random.one_in(2) {
+            self.reorder(random);
+        }
+    }
+
+    /// Odd counts along the diagonal and beside it with gaps, so that many groups follow on each other, of any number of
+    /// counts.
+    fn add_groups(&mut self, random: &mut Random) {
+        let most = (self.shape.slots as u64 / 2).max(1);
+        for port in 0..self.shape.ports {
+            if !random.one_in(4) {
+                *self.at(port, port) = random_odd(most, random);
+            }
+            if self.shape.slots > 1 && port + 1 < self.shape.ports && !random.one_in(3) {
+                *self.at(port, port + 1) = random_odd(most, random);
+            }
+        }
+        if random.one_in(2) {
+            self.reorder(random);
+        }
+    }
+
+    /// Adds so many cells wherever an input and an output have room.
+    fn add_cells(&mut self, cells: usize, random: &mut Random) {
+        let mut rooms = [0; 2].map(|_| vec![self.shape.slots; self.shape.ports]);
+        let mut left = cells;
+        while left > 0 {
+            let [input, output] = [0, 1].map(|side: usize| {
+                let free = (0..self.shape.ports).filter(|&port| rooms[side][port] > 0);
+                random.pick(&free.collect::<Vec<usize>>())
+            });
+            let room = left.min(rooms[0][input]).min(rooms[1][output]);
+            let count = random.between(1, room as u64) as usize;
+            *self.at(input, output) += count as u16;
+            rooms[0][input] -= count;
+            rooms[1][output] -= count;
+            left -= count;
         }
     }
 

@@ -4,8 +4,9 @@
 /// which has all other slots of input 1. In the run from slot t of the one to slot 2^k - t of the other the flow gets
 /// 2 × deviation less than its share, in parts of 1/2^k of a cell, and no flow of any chain gets less than that.
 ///
-/// How m and t are found. A lone odd count favours the first half in every block of the path that leads to t; beside an
-/// odd partner that comes first in matrix order it favours the second, so that its path is the other's mirror image. Let
+/// How m and t are found. An odd count that is the only one favours the first half in every block of the path that leads to t:
+/// it is the block's first group with an odd number of counts. Beside an odd partner that comes first in matrix order it
+/// favours the second, so that its path is the other's mirror image. Let
 /// the lone flow's path go into a first half, then a second, then a first, and so on down to a block of two slots. Each
 /// block of it then has the last two middles for its ends, and at its own middle the flow is ahead by half a cell more
 /// than the mean of those two: that is the recurrence of the deviation. t is the last middle, so that the t of 2^(k + 1)

@@ -72,46 +72,109 @@ fn fill_slot(ports: usize, counts: &Counts, slot: &mut [u8]) {
 
 /// Shares the counts between the two halves of a block.
 fn halve(ports: usize, counts: &Counts) -> (Counts, Counts) {
-    let (at_input, at_output) = find_partners(ports, counts);
-    let mut first = [0; MOST_PAIRS];
-    let mut second = [0; MOST_PAIRS];
+    let partners = find_partners(ports, counts);
+    let mut first = counts.map(|count| count / 2);
+    let mut second = first;
     let mut settled = [false; MOST_PAIRS];
+    let mut group = Group::new();
+    let mut larger_first = true;
     for place in 0..ports * ports {
-        first[place] += counts[place] / 2;
-        second[place] += counts[place] / 2;
-        if counts[place] % 2 == 1 && !settled[place] {
-            settled[place] = true;
-            first[place] += 1;
-            let mut halves = [&mut second, &mut first];
-            walk(place, [&at_input, &at_output], &mut halves, &mut settled);
-            walk(place, [&at_output, &at_input], &mut halves, &mut settled);
+        if counts[place] % 2 == 0 || settled[place] {
+            continue;
+        }
+        group.gather(place, &partners, &mut settled);
+        let own_first = if group.is_odd() {
+            let own_first = group.own_is_larger() == larger_first;
+            larger_first = !larger_first;
+            own_first
+        } else {
+            true
+        };
+        if own_first {
+            group.share_out(&mut first, &mut second);
+        } else {
+            group.share_out(&mut second, &mut first);
         }
     }
     (first, second)
 }
 
-/// Walks a chain of partners from one count on, the extra cells going to each half in turn.
-fn walk(
-    from: usize,
-    partners: [&Partners; 2],
-    halves: &mut [&mut Counts; 2],
-    settled: &mut [bool; MOST_PAIRS],
-) {
-    let mut place = from;
-    let mut step = 0;
-    while let Some(next) = partners[step % 2][place].map(usize::from) {
-        if settled[next] {
-            return;
+/// Counts joined by partnership. Those on the side of the group's first count favour the same half as that count does, those
+/// on the other side the other half.
+struct Group {
+    places: [u8; MOST_PAIRS],
+    is_own: [bool; MOST_PAIRS],
+    size: usize,
+    own: usize,
+}
+
+impl Group {
+    fn new() -> Group {
+        Group {
+            places: [0; MOST_PAIRS],
+            is_own: [false; MOST_PAIRS],
+            size: 0,
+            own: 0,
         }
-        settled[next] = true;
-        halves[step % 2][next] += 1;
-        place = next;
-        step += 1;
+    }
+
+    /// Begins a group anew with its first count, and walks from there both ways.
+    fn gather(&mut self, first: usize, partners: &[Partners; 2], settled: &mut [bool; MOST_PAIRS]) {
+        self.size = 0;
+        self.own = 0;
+        settled[first] = true;
+        self.add(first, true);
+        let [at_input, at_output] = partners;
+        self.walk(first, [at_input, at_output], settled);
+        self.walk(first, [at_output, at_input], settled);
+    }
+
+    /// Walks a chain of partners from the first count on, which are on either side in turn.
+    fn walk(&mut self, first: usize, partners: [&Partners; 2], settled: &mut [bool; MOST_PAIRS]) {
+        let mut place = first;
+        let mut step = 0;
+        while let Some(next) = partners[step % 2][place].map(usize::from) {
+            if settled[next] {
+                return;
+            }
+            settled[next] = true;
+            self.add(next, step % 2 == 1);
+            place = next;
+            step += 1;
+        }
+    }
+
+    fn add(&mut self, place: usize, is_own: bool) {
+        self.places[self.size] = place as u8;
+        self.is_own[self.size] = is_own;
+        self.size += 1;
+        self.own += usize::from(is_own);
+    }
+
+    fn is_odd(&self) -> bool {
+        self.size % 2 == 1
+    }
+
+    /// Whether more counts are on the side of the first than on the other.
+    fn own_is_larger(&self) -> bool {
+        2 * self.own > self.size
+    }
+
+    /// Gives an extra cell of each count on the side of the first to the one half, and of each other count to the other half.
+    fn share_out(&self, to_own: &mut Counts, to_other: &mut Counts) {
+        let places = self.places.iter().zip(&self.is_own);
+        for (&place, &is_own) in places.take(self.size) {
+            if is_own {
+                to_own[usize::from(place)] += 1;
+            } else {
+                to_other[usize::from(place)] += 1;
+            }
+        }
     }
 }
 
-/// Partners the odd counts of each row and of each column, first with second and so on.
-fn find_partners(ports: usize, counts: &Counts) -> (Partners, Partners) {
+/// Partners the odd counts of each row and of each column, first with second and so on: those of rows, then those of columns.
+fn find_partners(ports: usize, counts: &Counts) -> [Partners; 2] {
     let mut at_input = [None; MOST_PAIRS];
     let mut at_output = [None; MOST_PAIRS];
     let mut waiting_at_output = [None; MOST_PORTS];
@@ -125,7 +188,7 @@ fn find_partners(ports: usize, counts: &Counts) -> (Partners, Partners) {
             }
         }
     }
-    (at_input, at_output)
+    [at_input, at_output]
 }
 
 /// Partners a count with the one waiting in its row or column, or leaves it waiting.

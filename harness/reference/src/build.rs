@@ -1,6 +1,5 @@
-//! Build, by the splitting rules: groups of odd counts are coloured breadth first.
-
-use std::collections::VecDeque;
+//! Build, by the splitting rules: each group of odd counts is searched from its first count, and its two halves told apart by
+//! distance.
 
 use crate::admission::{check_frame, check_loads, check_matrix, check_ports, check_slots};
 use crate::refusal::Refusal;
@@ -54,7 +53,8 @@ fn fill_slot(ports: usize, matrix: &[u16], slot: &mut [u8]) {
 
 /// Rule 2: shares a block's matrix between its halves.
 fn split(ports: usize, matrix: &[u16]) -> (Vec<u16>, Vec<u16>) {
-    let favoured = favour_halves(matrix, &partnerships(ports, matrix));
+    let groups = groups(matrix, &partnerships(ports, matrix));
+    let favoured = favour_halves(matrix.len(), &groups);
     let share_of = |half: Half| {
         let extra = favoured.iter().map(|&choice| choice == Some(half));
         let counts = matrix.iter().zip(extra);
@@ -86,28 +86,81 @@ fn join_partners(matrix: &[u16], places: impl Iterator<Item = usize>, partners: 
     }
 }
 
-/// Rules 4 and 5: the half each odd count favours; even counts favour none.
-fn favour_halves(matrix: &[u16], partners: &[Vec<usize>]) -> Vec<Option<Half>> {
-    let mut favoured = vec![None; matrix.len()];
-    for (place, &count) in matrix.iter().enumerate() {
-        if count % 2 == 1 && favoured[place].is_none() {
-            settle_group(place, partners, &mut favoured);
+/// All odd counts joined by partnership, by how many partnerships each is away from the first of them in matrix order: an
+/// even number, as the first itself, or an odd number. By rule 4 the even ones favour one half and the odd ones the other.
+struct Group {
+    even: Vec<usize>,
+    odd: Vec<usize>,
+}
+
+/// The groups, taken by their first count in matrix order.
+fn groups(matrix: &[u16], partners: &[Vec<usize>]) -> Vec<Group> {
+    let mut found = vec![false; matrix.len()];
+    let mut groups = Vec::new();
+    for first in 0..matrix.len() {
+        if matrix[first] % 2 == 1 && !found[first] {
+            groups.push(search_group(first, partners, &mut found));
+        }
+    }
+    groups
+}
+
+/// Goes out from the first count one partnership at a time, until nobody new is reached.
+fn search_group(first: usize, partners: &[Vec<usize>], found: &mut [bool]) -> Group {
+    let [mut even, mut odd] = [Vec::new(), Vec::new()];
+    let mut reached = vec![first];
+    found[first] = true;
+    while !reached.is_empty() {
+        even.extend(&reached);
+        reached = further(&reached, partners, found);
+        odd.extend(&reached);
+        reached = further(&reached, partners, found);
+    }
+    Group { even, odd }
+}
+
+/// The partners of these counts that were not found before.
+fn further(reached: &[usize], partners: &[Vec<usize>], found: &mut [bool]) -> Vec<usize> {
+    let all = reached.iter().flat_map(|&place| &partners[place]);
+    all.copied()
+        .filter(|&partner| !std::mem::replace(&mut found[partner], true))
+        .collect()
+}
+
+impl Group {
+    /// Whether the group has an odd number of counts, so that one half gets one more of its extra cells.
+    fn is_odd(&self) -> bool {
+        (self.even.len() + self.odd.len()) % 2 == 1
+    }
+
+    /// Rule 5: the half that the first count favours, where the larger share of an odd group goes to the half `larger_to`.
+    fn half_of_first(&self, larger_to: Half) -> Half {
+        if !self.is_odd() {
+            Half::First
+        } else if self.even.len() > self.odd.len() {
+            larger_to
+        } else {
+            larger_to.opposite()
+        }
+    }
+}
+
+/// Rule 5: the half each odd count favours; even counts favour none. Of the odd groups the first, the third, the fifth and
+/// so on give their larger share to the first half, the others to the second.
+fn favour_halves(places: usize, groups: &[Group]) -> Vec<Option<Half>> {
+    let mut favoured = vec![None; places];
+    let mut larger_to = Half::First;
+    for group in groups {
+        let half = group.half_of_first(larger_to);
+        for &place in &group.even {
+            favoured[place] = Some(half);
+        }
+        for &place in &group.odd {
+            favoured[place] = Some(half.opposite());
+        }
+        if group.is_odd() {
+            larger_to = larger_to.opposite();
         }
     }
     favoured
-}
-
-/// Colours the whole group outwards from its first count in matrix order.
-fn settle_group(first: usize, partners: &[Vec<usize>], favoured: &mut [Option<Half>]) {
-    favoured[first] = Some(Half::First);
-    let mut waiting = VecDeque::from([first]);
-    while let Some(place) = waiting.pop_front() {
-        let opposite = favoured[place].map(Half::opposite);
-        for &partner in &partners[place] {
-            if favoured[partner].is_none() {
-                favoured[partner] = opposite;
-                waiting.push_back(partner);
-            }
-        }
-    }
 }

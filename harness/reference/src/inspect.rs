@@ -82,7 +82,7 @@ fn unbalanced_block(ports: usize, frame: &[u8]) -> Option<Inspection> {
     None
 }
 
-/// Whether the halves of a block differ by at most 1 in every pair, input and output.
+/// Whether the halves of a block differ by at most 1 in every pair, input and output, and in the total.
 fn is_balanced(ports: usize, block: &[u8]) -> bool {
     let (front, back) = block.split_at(block.len() / 2);
     let front = cells_by_class(ports, front);
@@ -90,16 +90,18 @@ fn is_balanced(ports: usize, block: &[u8]) -> bool {
     front.iter().zip(&back).all(|(a, b)| a.abs_diff(*b) <= 1)
 }
 
-/// The cells of every pair in matrix order, then of every input, then of every output.
+/// The cells of every pair in matrix order, then of every input, then of every output, then all of them.
 fn cells_by_class(ports: usize, block: &[u8]) -> Vec<u64> {
     let pairs = ports * ports;
-    let mut cells = vec![0; pairs + 2 * ports];
+    let total = pairs + 2 * ports;
+    let mut cells = vec![0; total + 1];
     for slot in block.chunks(ports) {
         for (input, &byte) in slot.iter().enumerate() {
             if let Some(output) = usize::from(byte).checked_sub(1) {
                 cells[input * ports + output] += 1;
                 cells[pairs + input] += 1;
                 cells[pairs + ports + output] += 1;
+                cells[total] += 1;
             }
         }
     }

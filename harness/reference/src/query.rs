@@ -8,7 +8,7 @@ use crate::refusal::{require, Refusal};
 /// The longest run Service count takes.
 pub const LONGEST_RUN: u64 = 1_000_000;
 
-/// Whose cells are counted; ports are numbered from 1.
+/// Whose cells Service count counts; ports are numbered from 1.
 #[derive(Clone, Copy, Debug, PartialEq, Eq)]
 pub enum Class {
     Pair { input: u64, output: u64 },

@@ -3,6 +3,29 @@
 use crate::admission::{input_load, output_load, place_of};
 use crate::query::Class;
 
+/// Whose share the accuracy rule speaks of: the classes that Service count counts, and all cells together.
+#[derive(Clone, Copy, Debug, PartialEq, Eq)]
+pub enum Whose {
+    Class(Class),
+    Total,
+}
+
+impl From<Class> for Whose {
+    fn from(class: Class) -> Whose {
+        Whose::Class(class)
+    }
+}
+
+impl Whose {
+    /// Their cells among one slot's bytes, whatever those bytes are.
+    fn cells_in_slot(self, slot: &[u8]) -> u64 {
+        match self {
+            Whose::Class(class) => class.cells_in_slot(slot),
+            Whose::Total => slot.iter().filter(|&&byte| byte != 0).count() as u64,
+        }
+    }
+}
+
 /// One frame as the wire carried it, with the load of the last accepted call before it.
 #[derive(Clone, Debug)]
 pub struct Frame {
@@ -13,24 +36,25 @@ pub struct Frame {
 }
 
 impl Frame {
-    /// The load of the class in this frame.
-    fn load_of(&self, class: Class) -> u64 {
-        match class {
-            Class::Pair { input, output } => {
+    /// Their load in this frame.
+    fn load_of(&self, whose: Whose) -> u64 {
+        match whose {
+            Whose::Class(Class::Pair { input, output }) => {
                 u64::from(self.matrix[place_of(self.ports, input, output)])
             }
-            Class::Input { port } => input_load(self.ports, &self.matrix, port),
-            Class::Output { port } => output_load(self.ports, &self.matrix, port),
+            Whose::Class(Class::Input { port }) => input_load(self.ports, &self.matrix, port),
+            Whose::Class(Class::Output { port }) => output_load(self.ports, &self.matrix, port),
+            Whose::Total => self.matrix.iter().map(|&count| u64::from(count)).sum(),
         }
     }
 
-    /// What the class is given in each slot.
-    fn each_slot(&self, class: Class) -> impl Iterator<Item = Slot> + '_ {
-        let load = self.load_of(class);
+    /// What they are given in each slot.
+    fn each_slot(&self, whose: Whose) -> impl Iterator<Item = Slot> + '_ {
+        let load = self.load_of(whose);
         let slots = self.bytes.chunks(self.ports as usize);
         slots.map(move |slot| Slot {
             load,
-            cells: class.cells_in_slot(slot),
+            cells: whose.cells_in_slot(slot),
         })
     }
 }
@@ -50,14 +74,14 @@ pub struct Run {
     pub length: usize,
 }
 
-/// A class's cells in a slot, and its load in the frame that the slot is in.
+/// The cells of a class, or all cells, in a slot, and their load in the frame that the slot is in.
 #[derive(Clone, Copy, Debug, PartialEq, Eq)]
 pub struct Slot {
     pub load: u64,
     pub cells: u64,
 }
 
-/// What a chain gives one class, slot by slot.
+/// What a chain gives one class, or all pairs together, slot by slot.
 #[derive(Clone, Debug)]
 pub struct Course {
     /// The slots of a frame, 2^k.
@@ -67,12 +91,13 @@ pub struct Course {
 
 impl Course {
     /// Counts the bytes of a chain.
-    pub fn of(chain: &[Frame], class: Class) -> Course {
+    pub fn of(chain: &[Frame], whose: impl Into<Whose>) -> Course {
+        let whose = whose.into();
         Course {
             slots: chain.first().map_or(1, |frame| frame.slots),
             given: chain
                 .iter()
-                .flat_map(|frame| frame.each_slot(class))
+                .flat_map(|frame| frame.each_slot(whose))
                 .collect(),
         }
     }
@@ -86,7 +111,7 @@ impl Course {
         &self.given[run.start..][..run.length]
     }
 
-    /// The cells of the class in the run.
+    /// The cells in the run.
     pub fn cells(&self, run: Run) -> u128 {
         self.run(run)
             .iter()
@@ -99,7 +124,7 @@ impl Course {
         self.run(run).iter().map(|slot| u128::from(slot.load)).sum()
     }
 
-    /// How far the class is ahead of its share in the run, in parts of 1/2^k of a cell; below 0 is behind. Nothing is rounded.
+    /// How far the cells are ahead of their share in the run, in parts of 1/2^k of a cell; below 0 is behind. Nothing is rounded.
     pub fn lead(&self, run: Run) -> i128 {
         (u128::from(self.slots) * self.cells(run)) as i128 - self.share(run) as i128
     }
@@ -123,18 +148,18 @@ impl Course {
         slot.is_multiple_of(self.slots as usize)
     }
 
-    /// The run on which the class strays furthest from its share.
+    /// The run on which the cells stray furthest from their share.
     pub fn furthest_run(&self) -> Run {
         let anywhere = |_| true;
         further(self.greatest(1, anywhere), self.greatest(-1, anywhere))
     }
 
-    /// The run on which the class gets furthest ahead of its share.
+    /// The run on which the cells get furthest ahead of their share.
     pub fn furthest_ahead(&self) -> Run {
         self.greatest(1, |_| true).1
     }
 
-    /// The run on which the class falls furthest behind its share.
+    /// The run on which the cells fall furthest behind their share.
     pub fn furthest_behind(&self) -> Run {
         self.greatest(-1, |_| true).1
     }
@@ -181,7 +206,7 @@ pub fn demanded(k: u32) -> i128 {
     i128::from(2 * k + 1) << k
 }
 
-/// How far a class can be from its share, in parts of 1/2^k of a cell, after the first slots of a frame of 2^k.
+/// How far a class, or the total, can be from its share, in parts of 1/2^k of a cell, after the first slots of a frame of 2^k.
 ///
 /// Each place in a frame is the middle of one block, and there within half a cell of the mean of the block's two ends. Of
 /// these one is the middle of the block's own parent, the other that of a block before it, or an end of the frame.

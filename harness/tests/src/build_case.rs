@@ -2,9 +2,9 @@
 
 use calls::{Answer, Calls, Inspection};
 use loads::{load, Call, LoadKind, Random};
-use reference::wire::{Course, Frame};
+use reference::wire::{Course, Frame, Whose};
 
-use crate::hits::Hits;
+use crate::hits::{Hits, SAME_FRAME};
 use crate::lent::Lent;
 use crate::share_case::{check_share, expect_chain, random_class};
 use crate::verdict::{expect_equal, outcome, Verdict};
@@ -44,7 +44,7 @@ pub fn check_build(
 ) -> Verdict {
     let call = load(kind, random);
     let mut buffer = lend_bytes(&random.bytes(call.frame_length), random);
-    let answer = build_and_compare(candidate, &call, &mut buffer, random)?;
+    let answer = build_and_compare(candidate, &call, &mut buffer, random, hits)?;
     hits.add(outcome("build", &answer));
     if answer.is_err() {
         return Ok(());
@@ -55,9 +55,9 @@ pub fn check_build(
     expect_equal("inspect after build", &inspection, &Inspection::Clean)?;
     let chain = vec![wire_frame(&call, buffer.part()); 2];
     expect_chain(&chain)?;
-    for _ in 0..3 {
-        let class = random_class(call.ports, random);
-        check_share(&Course::of(&chain, class), class, random, hits)?;
+    let classes = [(); 3].map(|()| Whose::Class(random_class(call.ports, random)));
+    for whose in classes.into_iter().chain([Whose::Total]) {
+        check_share(&Course::of(&chain, whose), whose, random, hits)?;
     }
     Ok(())
 }
@@ -68,6 +68,7 @@ pub fn build_and_compare(
     call: &Call,
     buffer: &mut Lent<u8>,
     random: &mut Random,
+    hits: &mut Hits,
 ) -> Result<Answer, String> {
     let matrix = lend_matrix(&call.matrix, random);
     let before = matrix.clone();
@@ -77,6 +78,9 @@ pub fn build_and_compare(
     expect_equal("build", &answer, &right)?;
     buffer.expect_same("buffer after build", &expected)?;
     matrix.expect_same("matrix after build", &before)?;
+    if answer.is_ok() {
+        hits.add(SAME_FRAME);
+    }
     Ok(answer)
 }
 

@@ -1,8 +1,8 @@
 //! Cases of demand 3: lists of Build calls on one buffer and the chain the wire carries.
 
-use calls::{Calls, Class};
+use calls::Calls;
 use loads::{load_of_shape, random_shape, Call, Company, Flow, LoadKind, Random, Seam, Shape};
-use reference::wire::{Course, Frame};
+use reference::wire::{Course, Frame, Whose};
 
 use crate::build_case::{build_and_compare, lend_bytes, wire_frame};
 use crate::hits::Hits;
@@ -10,7 +10,7 @@ use crate::queue_case::check_queue;
 use crate::share_case::{check_share, class_of, expect_chain, random_class};
 use crate::verdict::Verdict;
 
-/// The classes that are looked at on a chain.
+/// The pairs, inputs and outputs that are looked at on a chain, besides the total.
 const CLASSES: usize = 8;
 
 loads::kinds! {
@@ -36,7 +36,7 @@ pub fn check_chain(
     let mut accepted: Option<Call> = None;
     for _ in 0..random.between(1, 12) {
         let call = next_call(kind, shape, flow, random);
-        let refused = build_and_compare(candidate, &call, &mut buffer, random)?.is_err();
+        let refused = build_and_compare(candidate, &call, &mut buffer, random, hits)?.is_err();
         hits.add(event_of(refused, accepted.is_some()));
         if !refused {
             accepted = Some(call);
@@ -47,10 +47,10 @@ pub fn check_chain(
         chain.extend(std::iter::repeat_n(frame, times));
     }
     expect_chain(&chain)?;
-    for class in random_classes(shape, flow, random) {
-        let course = Course::of(&chain, class);
-        check_share(&course, class, random, hits)?;
-        check_queue(&course, class, random, hits)?;
+    for whose in counted_on_chain(shape, flow, random) {
+        let course = Course::of(&chain, whose);
+        check_share(&course, whose, random, hits)?;
+        check_queue(&course, whose, random, hits)?;
     }
     Ok(())
 }
@@ -67,11 +67,13 @@ pub fn straying_load(flow: Flow, shape: Shape, random: &mut Random) -> Call {
     flow.load(company, shape, random)
 }
 
-/// Any classes, and the flow of the seam where there is one.
-fn random_classes(shape: Shape, flow: Option<Flow>, random: &mut Random) -> Vec<Class> {
+/// The total, and any classes, with the flow of the seam where there is one.
+fn counted_on_chain(shape: Shape, flow: Option<Flow>, random: &mut Random) -> Vec<Whose> {
     let straying = flow.map(class_of);
     let any = std::iter::repeat_with(|| random_class(shape.ports as u64, random));
-    straying.into_iter().chain(any).take(CLASSES).collect()
+    let classes = straying.into_iter().chain(any).take(CLASSES);
+    let classes = classes.map(Whose::Class);
+    [Whose::Total].into_iter().chain(classes).collect()
 }
 
 /// The one shape of all the frames a chain carries.

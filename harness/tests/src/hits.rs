@@ -4,6 +4,9 @@ use std::collections::BTreeMap;
 
 use crate::kind::Kind;
 
+/// A load that fits was built, and its frame was the reference's in every byte.
+pub const SAME_FRAME: &str = "frame compared byte for byte with the reference's";
+
 /// A run strayed from its share by the whole of the sharp bound.
 pub const RUN_REACHED: &str = "sharp bound reached";
 /// As many cells waited after a slot as the sharp bound allows.
@@ -14,9 +17,17 @@ pub const QUEUE_REACHED_BEFORE: &str = "queue bound reached before a cell leaves
 /// A run of one repeating frame had a lead of p(k) cells or more, ahead or behind.
 pub const LEAD_REACHED: &str = "lead of half the sharp bound reached in one frame";
 
+/// All cells of a built frame together strayed from their share by p(k) cells: further than that no built frame lets them.
+pub const TOTAL_REACHED: &str = "half the sharp bound reached by the total";
+
+/// A block of 2^k slots had halves that differed by more than one cell in all, and the frame had no other fault before it.
+pub const TOTAL_UNBALANCED: &str = "block of 2^k slots unbalanced in its total alone";
+
 /// What is counted for each k from 1 to 10; with k = 0 nothing strays.
-pub const FOR_EACH_K: [&str; 4] = [
+pub const FOR_EACH_K: [&str; 6] = [
+    TOTAL_UNBALANCED,
     RUN_REACHED,
+    TOTAL_REACHED,
     LEAD_REACHED,
     QUEUE_REACHED_AFTER,
     QUEUE_REACHED_BEFORE,
@@ -113,11 +124,14 @@ impl Hits {
         names.extend((0..=10).map(|k| format!("build with {} slots", 1 << k)));
         names.extend(CHAIN_EVENTS.map(str::to_string));
         names.extend((0..=10).map(|k| format!("leads of a frame of {} slots", 1 << k)));
+        names.extend((1..=10).map(|k| name_at(TOTAL_UNBALANCED, k)));
         names.extend((1..=10).map(|k| name_at(RUN_REACHED, k)));
+        names.extend((1..=10).map(|k| name_at(TOTAL_REACHED, k)));
         names.extend((1..=10).map(|k| name_at(LEAD_REACHED, k)));
         names.push(name_at(QUEUE_REACHED_AFTER, 1));
         names.push(name_at(QUEUE_REACHED_BEFORE, 1));
         names.extend((2..=5).map(|switches| format!("row of {switches} switches")));
+        names.push("row of all cells together".into());
         let kinds = Kind::all().into_iter();
         names.extend(kinds.map(|kind| format!("case {}", kind.name())));
         names
@@ -136,8 +150,7 @@ pub fn outcomes() -> Vec<String> {
     for fault in ["byte too large", "output twice", "pair count"] {
         names.push(format!("inspect {fault}"));
     }
-    // A legal frame cannot unbalance a block of 2: each of its halves is one slot.
-    names.extend((2..=10).map(|k| format!("inspect unbalanced block of {}", 1 << k)));
+    names.extend((1..=10).map(|k| format!("inspect unbalanced block of {}", 1 << k)));
     names.extend(refusal_names("admit", &[1, 2, 3, 5, 6]));
     names.extend(refusal_names("build", &[1, 2, 3, 4, 5, 6]));
     names.extend(refusal_names("inspect", &[1, 2, 3, 4]));

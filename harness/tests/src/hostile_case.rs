@@ -76,11 +76,14 @@ fn make_call(
     match kind {
         HostileKind::Admit => admit_and_compare(calls, call, random, hits),
         HostileKind::Build => {
-            let answer = build_and_compare(calls, call, &mut frame, random)?;
+            let answer = build_and_compare(calls, call, &mut frame, random, hits)?;
             hits.add(outcome("build", &answer));
             Ok(())
         }
-        HostileKind::Inspect => inspect_and_compare(calls, call, &frame, random, hits),
+        HostileKind::Inspect => {
+            inspect_and_compare(calls, call, &frame, random, hits)?;
+            Ok(())
+        }
         HostileKind::View => view_and_compare(calls, call, &frame, given.slot, random, hits),
         HostileKind::Count => {
             let run = (given.slot, given.length);

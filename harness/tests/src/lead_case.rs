@@ -3,7 +3,7 @@
 use calls::{Calls, Class, Count, Service};
 use loads::{load_of_shape, random_shape, Call, Flow, LoadKind, Random, Shape};
 use reference::queue::{pass, Source};
-use reference::wire::{deviation, Course, Run};
+use reference::wire::{deviation, Course, Run, Whose};
 use reference::LONGEST_RUN;
 
 use crate::build_case::{lend_bytes, wire_frame};
@@ -23,7 +23,7 @@ struct Built<'b> {
     frame: &'b Lent<u8>,
 }
 
-/// Builds a load that fits, and counts the pairs, inputs and outputs of its frame.
+/// Builds a load that fits, and counts the pairs, inputs and outputs of its frame, and all cells of it.
 pub fn check_leads(candidate: &dyn Calls, random: &mut Random, hits: &mut Hits) -> Verdict {
     let shape = random_shape(random);
     let flow = straying_flow(shape, random);
@@ -45,6 +45,7 @@ pub fn check_leads(candidate: &dyn Calls, random: &mut Random, hits: &mut Hits) 
     for class in classes_of(shape, flow, random) {
         built.check(class, &Course::of(&turns, class), random, hits)?;
     }
+    built.check_total(&Course::of(&turns, Whose::Total), random, hits)?;
     frame.expect_same("frame after counts", &before)
 }
 
@@ -96,7 +97,37 @@ impl Built<'_> {
                 hits.add_at(LEAD_REACHED, course.k());
             }
         }
-        check_queue(course, class, random)
+        check_queue(course, class.into(), random)
+    }
+
+    /// Holds all cells together to the bounds, on the runs on which they get furthest ahead and fall furthest behind. Service
+    /// count is not asked for the total, but has to give the total's cells and lead in those of all inputs.
+    fn check_total(&self, course: &Course, random: &mut Random, hits: &mut Hits) -> Verdict {
+        for run in [course.furthest_ahead(), course.furthest_behind()] {
+            expect(course.has_its_share(run), || {
+                let lead = course.lead(run);
+                format!("all cells in {run:?}: a lead of {lead} is too far from 0")
+            })?;
+            let counted = self.count_all_inputs(run)?;
+            let right = (course.cells(run), course.lead(run));
+            expect_equal("counts of all inputs, added", &counted, &right)?;
+            hits.stray(course.k(), course.lead(run).abs());
+        }
+        check_queue(course, Whose::Total, random)
+    }
+
+    /// The cells and the leads of all inputs in a run, each added.
+    fn count_all_inputs(&self, run: Run) -> Result<(u128, i128), String> {
+        let Call { ports, slots, .. } = *self.call;
+        let start = run.start as u64 % slots + 1;
+        let (mut cells, mut lead) = (0, 0);
+        for port in 1..=ports {
+            let count = self.count(Class::Input { port }, start, run.length as u64);
+            let count = count.map_err(|refusal| format!("count of input {port}: {refusal:?}"))?;
+            cells += u128::from(count.cells);
+            lead += i128::from(count.lead);
+        }
+        Ok((cells, lead))
     }
 
     /// Holds the lead of a run to the reference and to the bounds, then the same run after whole turns.
@@ -124,9 +155,9 @@ impl Built<'_> {
     }
 }
 
-/// Runs the queue of a class that is fed as fast as it may be while the frame repeats: no more waits than the source's
-/// allowance and the lead that is furthest behind.
-fn check_queue(course: &Course, class: Class, random: &mut Random) -> Verdict {
+/// Runs a queue that is fed as fast as it may be while the frame repeats: no more waits than the source's allowance and the
+/// lead that is furthest behind.
+fn check_queue(course: &Course, whose: Whose, random: &mut Random) -> Verdict {
     let behind = course.furthest_behind();
     let source = Source {
         from: behind.start,
@@ -136,6 +167,6 @@ fn check_queue(course: &Course, class: Class, random: &mut Random) -> Verdict {
     let waiting = i128::from(course.slots * passed.waiting);
     let allowed = i128::from(source.ahead) - course.lead(behind);
     expect(waiting <= allowed, || {
-        format!("the queue of {class:?}, fed by {source:?}, has {waiting} parts, and {allowed} are allowed")
+        format!("the queue of {whose:?}, fed by {source:?}, has {waiting} parts, and {allowed} are allowed")
     })
 }

@@ -1,15 +1,14 @@
-//! How deep the queue of a flow stands on a chain.
+//! How deep the queue of a flow, or of all cells together, stands on a chain.
 
-use calls::Class;
 use loads::Random;
 use reference::queue::{pass, Source};
-use reference::wire::{deviation, Course, Run};
+use reference::wire::{deviation, Course, Run, Whose};
 
 use crate::hits::{Hits, QUEUE_REACHED_AFTER, QUEUE_REACHED_BEFORE};
 use crate::verdict::{expect, Verdict};
 
-/// Runs the queue of a class that is fed as fast as it may be, from where it begins to fall behind or from anywhere.
-pub fn check_queue(course: &Course, class: Class, random: &mut Random, hits: &mut Hits) -> Verdict {
+/// Runs a queue that is fed as fast as it may be, from where it begins to fall behind or from anywhere.
+pub fn check_queue(course: &Course, whose: Whose, random: &mut Random, hits: &mut Hits) -> Verdict {
     let behind = course.furthest_behind();
     let anywhere = random.between(0, course.given.len() as u64) as usize;
     let source = Source {
@@ -27,7 +26,7 @@ pub fn check_queue(course: &Course, class: Class, random: &mut Random, hits: &mu
         hits.add_at(QUEUE_REACHED_BEFORE, course.k());
     }
     expect(depth.after <= 0 && depth.before <= 0, || {
-        format!("the queue of {class:?}, fed by {source:?}, stands too deep: {depth:?}")
+        format!("the queue of {whose:?}, fed by {source:?}, stands too deep: {depth:?}")
     })
 }
 

@@ -1,10 +1,10 @@
-//! How far classes stray from their share on a chain.
+//! How far classes and the total stray from their share on a chain.
 
 use calls::Class;
 use loads::{Flow, Random};
-use reference::wire::{self, deviation, Course, Frame, Run};
+use reference::wire::{self, deviation, Course, Frame, Run, Whose};
 
-use crate::hits::{Hits, RUN_REACHED};
+use crate::hits::{Hits, RUN_REACHED, TOTAL_REACHED};
 use crate::verdict::{expect, Verdict};
 
 /// Fails where the frames are of several shapes.
@@ -13,17 +13,21 @@ pub fn expect_chain(chain: &[Frame]) -> Verdict {
 }
 
 /// Holds any run of the chain, the furthest of all and the furthest that begins with a frame to their bounds.
-pub fn check_share(course: &Course, class: Class, random: &mut Random, hits: &mut Hits) -> Verdict {
+pub fn check_share(course: &Course, whose: Whose, random: &mut Random, hits: &mut Hits) -> Verdict {
     let furthest = course.furthest_run();
     let others = [random_run(course, random), course.furthest_from_a_frame()];
     for run in [furthest].into_iter().chain(others) {
         expect(course.has_its_share(run), || {
             let cells = course.cells(run);
-            format!("{class:?} has {cells} cells, too far from its share, in {run:?}")
+            format!("{whose:?} has {cells} cells, too far from its share, in {run:?}")
         })?;
     }
-    if course.lead(furthest).abs() == 2 * deviation(course.k()) {
-        hits.add_at(RUN_REACHED, course.k());
+    let (lead, k) = (course.lead(furthest).abs(), course.k());
+    if lead == 2 * deviation(k) {
+        hits.add_at(RUN_REACHED, k);
+    }
+    if whose == Whose::Total && lead == deviation(k) {
+        hits.add_at(TOTAL_REACHED, k);
     }
     Ok(())
 }

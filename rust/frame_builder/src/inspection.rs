@@ -34,7 +34,7 @@ impl Inspection {
     ///     Ok(())
     /// }
     ///
-    /// assert!(put_on_the_wire(&[1, 0, 0, 1], &[1, 2, 0, 0]).is_ok());
+    /// assert!(put_on_the_wire(&[1, 0, 0, 1], &[1, 0, 0, 2]).is_ok());
     /// let error = put_on_the_wire(&[1, 0, 0, 1], &[2, 2, 0, 0]).unwrap_err();
     /// assert_eq!(error.to_string(), "in slot 1 output 2 is used twice");
     /// ```
@@ -90,7 +90,8 @@ pub enum Fault {
         /// The pair's output.
         output: usize,
     },
-    /// 104: the halves of a block differ by more than one cell in some pair, input or output. The largest block, then the earliest.
+    /// 104: the halves of a block differ by more than one cell in some pair, input or output, or in all cells. The largest block, then
+    /// the earliest.
     UnbalancedBlock {
         /// The first slot of the block.
         slot: usize,

@@ -17,8 +17,8 @@
 //! by row: all outputs of input 1, then of input 2, and so on. It fits if no input and no output is asked for more cells than the
 //! frame has slots; every load that fits can be built.
 //!
-//! A frame is **balanced** if the cells of every pair, input and output are spread evenly: a frame of two or more slots has two
-//! halves, which differ by at most one cell, each half is split again, and so on down to the slots.
+//! A frame is **balanced** if the cells of every pair, input and output, and all cells together, are spread evenly: a frame of two or
+//! more slots has two halves, which differ by at most one cell, each half is split again, and so on down to the slots.
 //!
 //! A **run** is some consecutive slots of the repeating frame. Its **share** is the part of a whole frame's cells that falls to so
 //! many slots, and its **lead** is how far its cells are above that share, in parts of 1/slots of a cell; below 0 it is behind.
@@ -181,7 +181,7 @@ pub fn admit(ports: usize, slots: usize, matrix: &[u16]) -> Result<(), Refusal> 
 /// assert_eq!(build(2, 3, &[1, 0, 0, 1], &mut frame), Err(Refusal::Slots));
 /// assert_eq!(frame, [9; 8]);
 /// assert_eq!(build(2, 4, &[2, 0, 0, 1], &mut frame), Ok(()));
-/// assert_eq!(frame, [1, 2, 0, 0, 1, 0, 0, 0]);
+/// assert_eq!(frame, [1, 0, 0, 2, 1, 0, 0, 0]);
 /// ```
 pub fn build(ports: usize, slots: usize, matrix: &[u16], frame: &mut [u8]) -> Result<(), Refusal> {
     exported::build(ports, slots, matrix, frame).answer()
@@ -197,9 +197,11 @@ pub fn build(ports: usize, slots: usize, matrix: &[u16], frame: &mut [u8]) -> Re
 /// use frame_builder::{inspect, Fault, Inspection};
 ///
 /// let matrix = [1, 0, 0, 1];
-/// assert_eq!(inspect(2, 2, &matrix, &[1, 2, 0, 0]), Ok(Inspection::Clean));
+/// assert_eq!(inspect(2, 2, &matrix, &[1, 0, 0, 2]), Ok(Inspection::Clean));
 /// let fault = Fault::OutputTwice { slot: 1, output: 2 };
 /// assert_eq!(inspect(2, 2, &matrix, &[2, 2, 0, 0]), Ok(Inspection::Faulty(fault)));
+/// let fault = Fault::UnbalancedBlock { slot: 1, size: 2 };
+/// assert_eq!(inspect(2, 2, &matrix, &[1, 2, 0, 0]), Ok(Inspection::Faulty(fault)));
 /// ```
 pub fn inspect(
     ports: usize,

@@ -69,7 +69,7 @@ fn found(slots: usize, frame: &[u8]) -> Inspection {
 #[test]
 fn faults_read_as_sentences() {
     let sentence = |slots, frame: &[u8]| found(slots, frame).to_string();
-    assert_eq!(sentence(2, &[1, 2, 0, 0]), "the frame is clean");
+    assert_eq!(sentence(2, &[1, 0, 0, 2]), "the frame is clean");
     assert_eq!(
         sentence(2, &[1, 2, 0, 3]),
         "in slot 2 the byte of input 2 is above ports"
@@ -87,6 +87,10 @@ fn faults_read_as_sentences() {
         bunched.to_string(),
         "the block of 4 slots from slot 1 on is unbalanced"
     );
+    assert_eq!(
+        sentence(2, &[1, 2, 0, 0]),
+        "the block of 2 slots from slot 1 on is unbalanced"
+    );
 }
 
 #[test]
@@ -95,8 +99,8 @@ fn refusals_and_faults_are_errors() {
         inspect(2, 2, matrix, frame)?.clean()?;
         Ok(())
     }
-    assert!(whole(&[1, 0, 0, 1], &[1, 2, 0, 0]).is_ok());
-    let error = whole(&[1, 0, 0], &[1, 2, 0, 0]).expect_err("a short matrix");
+    assert!(whole(&[1, 0, 0, 1], &[1, 0, 0, 2]).is_ok());
+    let error = whole(&[1, 0, 0], &[1, 0, 0, 2]).expect_err("a short matrix");
     assert_eq!(error.downcast_ref(), Some(&Refusal::MatrixLength));
     let error = whole(&[1, 0, 0, 1], &[2, 2, 0, 0]).expect_err("an output twice");
     let fault = Fault::OutputTwice { slot: 1, output: 2 };
