@@ -79,21 +79,17 @@ fn halve(ports: usize, counts: &Counts) -> (Counts, Counts) {
     let mut group = Group::new();
     let mut larger_first = true;
     for place in 0..ports * ports {
-        if counts[place] % 2 == 0 || settled[place] {
-            continue;
-        }
-        group.gather(place, &partners, &mut settled);
-        let own_first = if group.is_odd() {
-            let own_first = group.own_is_larger() == larger_first;
-            larger_first = !larger_first;
-            own_first
-        } else {
-            true
-        };
-        if own_first {
-            group.share_out(&mut first, &mut second);
-        } else {
-            group.share_out(&mut second, &mut first);
+        if counts[place] % 2 == 1 && !settled[place] {
+            group.gather(place, &partners, &mut settled);
+            let own_first = !group.is_odd() || group.own_is_larger() == larger_first;
+            if own_first {
+                group.share_out(&mut first, &mut second);
+            } else {
+                group.share_out(&mut second, &mut first);
+            }
+            if group.is_odd() {
+                larger_first = !larger_first;
+            }
         }
     }
     (first, second)

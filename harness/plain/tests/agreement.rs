@@ -6,7 +6,7 @@ use loads::{load, LoadKind, Random};
 fn same_frames_on_random_loads() {
     let mut random = Random::new(7);
     for &kind in LoadKind::ALL {
-        for _ in 0..60 {
+        for _ in 0..300 {
             let call = load(kind, &mut random);
             let mut right = random.bytes(call.frame_length);
             let mut frame = right.clone();

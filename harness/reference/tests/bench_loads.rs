@@ -53,11 +53,11 @@ fn two_ports_all_ones() {
     assert_eq!(built(2, 2, &[1, 1, 1, 1]), Ok(vec![1, 2, 2, 1]));
 }
 
+/// (1 1), (3 3), (2 2), (4 4) in slots 1 to 4.
 #[test]
-fn own_numbers_all_in_slot_1() {
+fn own_numbers_one_in_each_slot() {
     let matrix = [1, 0, 0, 0, 0, 1, 0, 0, 0, 0, 1, 0, 0, 0, 0, 1];
-    let mut frame = vec![0; 16];
-    frame[..4].copy_from_slice(&[1, 2, 3, 4]);
+    let frame = vec![1, 0, 0, 0, 0, 0, 3, 0, 0, 2, 0, 0, 0, 0, 0, 4];
     assert_eq!(built(4, 4, &matrix), Ok(frame));
 }
 

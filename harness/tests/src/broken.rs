@@ -171,6 +171,147 @@ fn partner(ports: usize, matrix: &[u16], place: usize, at_input: bool) -> Option
     odd.get(order ^ 1).copied()
 }
 
+/// A group of odd counts: those that favour the same half as its first count, and those that favour the other.
+struct Group {
+    own: Vec<usize>,
+    other: Vec<usize>,
+}
+
+impl Group {
+    fn is_odd(&self) -> bool {
+        (self.own.len() + self.other.len()) % 2 == 1
+    }
+
+    fn own_is_larger(&self) -> bool {
+        self.own.len() > self.other.len()
+    }
+}
+
+/// The groups by their first count in matrix order.
+fn groups(ports: usize, matrix: &[u16]) -> Vec<Group> {
+    let mut taken = vec![false; matrix.len()];
+    let mut groups = Vec::new();
+    for first in (0..matrix.len()).filter(|&place| matrix[place] % 2 == 1) {
+        if !taken[first] {
+            groups.push(walk_both_ways(ports, matrix, first, &mut taken));
+        }
+    }
+    groups
+}
+
+/// The group of its first count, walked from there by its input and then by its output.
+fn walk_both_ways(ports: usize, matrix: &[u16], first: usize, taken: &mut [bool]) -> Group {
+    let mut sides = [vec![first], vec![]];
+    taken[first] = true;
+    for by_input in [true, false] {
+        let mut place = first;
+        let mut steps = 0;
+        while let Some(next) = partner(ports, matrix, place, by_input == (steps % 2 == 0)) {
+            if std::mem::replace(&mut taken[next], true) {
+                break;
+            }
+            steps += 1;
+            sides[steps % 2].push(next);
+            place = next;
+        }
+    }
+    let [own, other] = sides;
+    Group { own, other }
+}
+
+/// Splits group by group; whether the first count of a group favours the first half is asked with the number of groups before
+/// it and the number of those of them that are odd.
+fn split_by_groups(
+    ports: usize,
+    matrix: &[u16],
+    own_first: impl Fn(&Group, usize, usize) -> bool,
+) -> [Vec<u16>; 2] {
+    let mut to_first = vec![false; matrix.len()];
+    let mut odd_before = 0;
+    for (before, group) in groups(ports, matrix).iter().enumerate() {
+        let own = own_first(group, before, odd_before);
+        let favouring = if own { &group.own } else { &group.other };
+        for &place in favouring {
+            to_first[place] = true;
+        }
+        odd_before += usize::from(group.is_odd());
+    }
+    halve(matrix, |place| to_first[place])
+}
+
+/// Whether the first count of a group favours the first half, where the larger share of an odd group goes there or not.
+fn by_larger(group: &Group, larger_first: bool) -> bool {
+    !group.is_odd() || group.own_is_larger() == larger_first
+}
+
+/// The rules as they are, by the same walks as the builders that break them.
+pub fn right_groups(ports: u64, slots: u64, matrix: &[u16], frame: &mut [u8]) -> Answer {
+    let split: Splitter = |ports, matrix| {
+        split_by_groups(ports, matrix, |group, _, odd_before| {
+            by_larger(group, odd_before % 2 == 0)
+        })
+    };
+    build_by(split, ports, slots, matrix, frame)
+}
+
+/// The first count of every group favours the first half.
+pub fn first_count_to_first_half(
+    ports: u64,
+    slots: u64,
+    matrix: &[u16],
+    frame: &mut [u8],
+) -> Answer {
+    let split: Splitter = |ports, matrix| split_by_groups(ports, matrix, |_, _, _| true);
+    build_by(split, ports, slots, matrix, frame)
+}
+
+/// The larger share of every odd group goes to the first half.
+pub fn larger_share_to_first_half(
+    ports: u64,
+    slots: u64,
+    matrix: &[u16],
+    frame: &mut [u8],
+) -> Answer {
+    let split: Splitter =
+        |ports, matrix| split_by_groups(ports, matrix, |group, _, _| by_larger(group, true));
+    build_by(split, ports, slots, matrix, frame)
+}
+
+/// Even groups count in the turn.
+pub fn even_groups_in_turn(ports: u64, slots: u64, matrix: &[u16], frame: &mut [u8]) -> Answer {
+    let split: Splitter = |ports, matrix| {
+        split_by_groups(ports, matrix, |group, before, _| {
+            by_larger(group, before % 2 == 0)
+        })
+    };
+    build_by(split, ports, slots, matrix, frame)
+}
+
+/// The larger share of the first odd group goes to the second half, that of the second to the first, and so on.
+pub fn turn_begins_with_second_half(
+    ports: u64,
+    slots: u64,
+    matrix: &[u16],
+    frame: &mut [u8],
+) -> Answer {
+    let split: Splitter = |ports, matrix| {
+        split_by_groups(ports, matrix, |group, _, odd_before| {
+            by_larger(group, odd_before % 2 == 1)
+        })
+    };
+    build_by(split, ports, slots, matrix, frame)
+}
+
+/// The first count of an odd group takes the turn, and not its larger share.
+pub fn first_count_takes_turn(ports: u64, slots: u64, matrix: &[u16], frame: &mut [u8]) -> Answer {
+    let split: Splitter = |ports, matrix| {
+        split_by_groups(ports, matrix, |group, _, odd_before| {
+            !group.is_odd() || odd_before % 2 == 0
+        })
+    };
+    build_by(split, ports, slots, matrix, frame)
+}
+
 /// Every group settled the other way round, which gives the right frame read backwards.
 pub fn other_tie(ports: u64, slots: u64, matrix: &[u16], frame: &mut [u8]) -> Answer {
     reference::build(ports, slots, matrix, frame)?;
@@ -290,6 +431,48 @@ pub fn legal_is_clean(ports: u64, slots: u64, matrix: &[u16], frame: &[u8]) -> I
         Inspection::UnbalancedBlock { .. } => Inspection::Clean,
         other => other,
     }
+}
+
+/// Passes an unbalanced block of two slots.
+pub fn two_slots_are_balanced(ports: u64, slots: u64, matrix: &[u16], frame: &[u8]) -> Inspection {
+    match reference::inspect(ports, slots, matrix, frame) {
+        Inspection::UnbalancedBlock { size: 2, .. } => Inspection::Clean,
+        other => other,
+    }
+}
+
+/// Leaves out the total.
+pub fn no_total(ports: u64, slots: u64, matrix: &[u16], frame: &[u8]) -> Inspection {
+    let right = reference::inspect(ports, slots, matrix, frame);
+    if !matches!(right, Inspection::UnbalancedBlock { .. }) {
+        return right;
+    }
+    let ports = ports as usize;
+    let sizes = (1..=slots.trailing_zeros()).rev().map(|k| 1 << k);
+    for size in sizes {
+        let mut blocks = frame.chunks(size * ports);
+        if let Some(place) = blocks.position(|block| !has_even_halves(ports, block)) {
+            return Inspection::UnbalancedBlock {
+                slot: (place * size + 1) as u64,
+                size: size as u64,
+            };
+        }
+    }
+    Inspection::Clean
+}
+
+/// Whether the halves of a block differ by at most 1 in every pair, input and output.
+fn has_even_halves(ports: usize, block: &[u8]) -> bool {
+    let mut more = vec![0_i32; ports * ports + 2 * ports];
+    let (inputs, outputs) = (ports * ports, ports * ports + ports);
+    for (place, &byte) in block.iter().enumerate().filter(|(_, &byte)| byte > 0) {
+        let (input, output) = (place % ports, usize::from(byte) - 1);
+        let one = if place < block.len() / 2 { 1 } else { -1 };
+        for class in [input * ports + output, inputs + input, outputs + output] {
+            more[class] += one;
+        }
+    }
+    more.iter().all(|more| more.abs() <= 1)
 }
 
 /// The reference's view as a plain function.

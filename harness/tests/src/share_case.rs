@@ -12,7 +12,8 @@ pub fn expect_chain(chain: &[Frame]) -> Verdict {
     expect(wire::is_chain(chain), || "frames of several shapes".into())
 }
 
-/// Holds any run of the chain, the furthest of all and the furthest that begins with a frame to their bounds.
+/// Holds any run of a chain of built frames, the furthest of all and the furthest that begins with a frame to their bounds. The
+/// total has half the bound of a class: its extra cell always goes to the first half.
 pub fn check_share(course: &Course, whose: Whose, random: &mut Random, hits: &mut Hits) -> Verdict {
     let furthest = course.furthest_run();
     let others = [random_run(course, random), course.furthest_from_a_frame()];
@@ -26,8 +27,13 @@ pub fn check_share(course: &Course, whose: Whose, random: &mut Random, hits: &mu
     if lead == 2 * deviation(k) {
         hits.add_at(RUN_REACHED, k);
     }
-    if whose == Whose::Total && lead == deviation(k) {
-        hits.add_at(TOTAL_REACHED, k);
+    if whose == Whose::Total {
+        expect(lead <= deviation(k), || {
+            format!("the total of built frames strays by {lead} parts in {furthest:?}")
+        })?;
+        if lead == deviation(k) {
+            hits.add_at(TOTAL_REACHED, k);
+        }
     }
     Ok(())
 }

@@ -2,7 +2,7 @@
 
 use calls::{Calls, Class, Inspection, Reference};
 use reference::queue::{ahead_behind_a_switch, pass_row, Depth, Switch};
-use reference::wire::{Course, Frame};
+use reference::wire::{Course, Frame, Whose};
 use tests::broken::{self, Broken};
 use tests::{run, Settings};
 
@@ -67,6 +67,73 @@ fn walk_in_one_direction_only() {
     let builder = sent_back!(build: walk_one_way, "build/");
     let fault = Inspection::OutputTwice { slot: 1, output: 1 };
     assert_eq!(inspected(&builder, 2, 2, &[1, 1, 1, 0]), fault);
+}
+
+/// One cell from each port to its own number.
+const OWN_NUMBERS: [u16; 16] = [1, 0, 0, 0, 0, 1, 0, 0, 0, 0, 1, 0, 0, 0, 0, 1];
+
+#[test]
+fn groups_by_another_walk_are_not_sent_back() {
+    let builder = Broken {
+        build: broken::right_groups,
+        ..Broken::default()
+    };
+    assert_eq!(failures(&builder, "build/"), 0);
+    assert_eq!(failures(&builder, "chain/"), 0);
+}
+
+#[test]
+fn first_count_of_each_group_to_the_first_half() {
+    let builder = sent_back!(build: first_count_to_first_half, "build/");
+    let fault = Inspection::UnbalancedBlock { slot: 1, size: 4 };
+    assert_eq!(inspected(&builder, 4, 4, &OWN_NUMBERS), fault);
+
+    let frame = Frame {
+        ports: 4,
+        slots: 4,
+        bytes: frame_of(&builder, 4, 4, &OWN_NUMBERS),
+        matrix: OWN_NUMBERS.to_vec(),
+    };
+    assert_eq!(frame.bytes[..4], [1, 2, 3, 4], "all cells are in slot 1");
+    let course = Course::of(&[frame], Whose::Total);
+    assert!(!course.has_its_share(course.furthest_run()));
+}
+
+#[test]
+fn larger_share_always_to_the_first_half() {
+    let builder = sent_back!(build: larger_share_to_first_half, "build/");
+    let fault = Inspection::UnbalancedBlock { slot: 1, size: 4 };
+    assert_eq!(inspected(&builder, 4, 4, &OWN_NUMBERS), fault);
+}
+
+/// Pair (1, 1), then the partners (2, 2) and (2, 3), then pair (3, 4): two odd groups with an even one between.
+#[test]
+fn even_groups_counted_in_the_turn() {
+    let builder = sent_back!(build: even_groups_in_turn, "build/");
+    let matrix = [1, 0, 0, 0, 0, 1, 1, 0, 0, 0, 0, 1, 0, 0, 0, 0];
+    let fault = Inspection::UnbalancedBlock { slot: 1, size: 2 };
+    assert_eq!(inspected(&builder, 4, 2, &matrix), fault);
+}
+
+/// The total stays balanced: only the frame shows the fault.
+#[test]
+fn odd_groups_numbered_from_the_second() {
+    let builder = sent_back!(build: turn_begins_with_second_half, "build/");
+    assert_eq!(inspected(&builder, 4, 4, &OWN_NUMBERS), Inspection::Clean);
+    let frame = frame_of(&builder, 4, 4, &OWN_NUMBERS);
+    assert_eq!(frame, [0, 0, 0, 4, 0, 2, 0, 0, 0, 0, 3, 0, 1, 0, 0, 0]);
+}
+
+/// Both loads are one group of three counts. The first of them is in the larger share of the one, and in the smaller share of
+/// the other.
+#[test]
+fn first_count_takes_the_turn_of_its_group() {
+    let builder = sent_back!(build: first_count_takes_turn, "build/");
+    let right = Broken::default();
+    for (matrix, same) in [([0, 1, 1, 1], true), ([1, 1, 1, 0], false)] {
+        let frames = [&builder, &right].map(|builder| frame_of(builder, 2, 2, &matrix));
+        assert_eq!(frames[0] == frames[1], same, "{matrix:?}");
+    }
 }
 
 #[test]
@@ -191,6 +258,19 @@ fn chains_of_broken_frames() {
 fn inspectors_that_do_not_look() {
     sent_back!(inspect: always_clean, "inspect/");
     sent_back!(inspect: legal_is_clean, "inspect/");
+}
+
+#[test]
+fn inspectors_that_leave_out_the_total() {
+    let builder = sent_back!(inspect: no_total, "inspect/total");
+    let mut frame = [0; 16];
+    frame[..4].copy_from_slice(&[1, 2, 3, 4]);
+    let found = builder.inspect(4, 4, &OWN_NUMBERS, &frame);
+    assert_eq!(found, Inspection::Clean);
+
+    let builder = sent_back!(inspect: two_slots_are_balanced, "inspect/total");
+    let found = builder.inspect(4, 2, &OWN_NUMBERS, &frame[..8]);
+    assert_eq!(found, Inspection::Clean);
 }
 
 #[test]

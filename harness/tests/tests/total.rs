@@ -1,0 +1,72 @@
+//! Blocks of every size whose total alone is unbalanced, and the spread of all cells, through C and through Rust.
+
+use calls::{Calls, InC, Inspection, Library, Reference};
+use loads::{load_of_shape, unbalance_total, Block, Call, LoadKind, Random, Shape};
+
+/// The frame that a builder makes of a load that fits.
+fn built(calls: &dyn Calls, call: &Call) -> Vec<u8> {
+    let mut frame = vec![0xa5; call.frame_length];
+    let answer = calls.build(call.ports, call.slots, &call.matrix, &mut frame);
+    answer.expect("the load fits");
+    frame
+}
+
+/// The first, the last and some other blocks of the size.
+fn blocks(size: usize, slots: usize, random: &mut Random) -> Vec<Block> {
+    let ends = [1, slots - size + 1].map(|slot| Block { slot, size });
+    let others = [(); 3].map(|()| Block::of_size(size, slots, random));
+    [ends.as_slice(), &others].concat()
+}
+
+/// Has frames inspected that the builder itself made, and of which the total of one block was unbalanced.
+fn finds_the_block(calls: &dyn Calls) {
+    let mut random = Random::new(2_028);
+    for slots in [2_usize, 32, 1_024] {
+        for size in (1..=slots.trailing_zeros()).map(|k| 1 << k) {
+            for block in blocks(size, slots, &mut random) {
+                let ports = random.pick(&[2, 3, 7, 16]);
+                let shape = Shape { ports, slots };
+                let own = |call: &Call| built(calls, call);
+                let (call, frame) = unbalance_total(shape, block, own, &mut random);
+                let found = calls.inspect(call.ports, call.slots, &call.matrix, &frame);
+                let fault = Inspection::UnbalancedBlock {
+                    slot: block.slot as u64,
+                    size: size as u64,
+                };
+                assert_eq!(found, fault, "{shape:?}");
+            }
+        }
+    }
+}
+
+#[test]
+fn through_the_reference() {
+    finds_the_block(&Reference);
+}
+
+#[test]
+fn through_c() {
+    finds_the_block(&InC::default());
+}
+
+#[test]
+fn through_rust() {
+    finds_the_block(&Library);
+}
+
+/// Sixteen flows of one cell, each at two ports of its own: one cell in each slot.
+#[test]
+fn sixteen_flows_of_one_cell() {
+    let shape = Shape {
+        ports: 16,
+        slots: 16,
+    };
+    let call = load_of_shape(LoadKind::OwnNumber, shape, &mut Random::new(1));
+    for calls in [&Reference as &dyn Calls, &Library, &InC::default()] {
+        let frame = built(calls, &call);
+        for slot in frame.chunks(16) {
+            let cells = slot.iter().filter(|&&byte| byte != 0).count();
+            assert_eq!(cells, 1, "{slot:?}");
+        }
+    }
+}
