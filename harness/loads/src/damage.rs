@@ -98,12 +98,13 @@ impl Block {
     }
 }
 
-/// A frame whose only fault is that the halves of this block differ by more than one cell in all, with its load.
+/// A frame whose first fault is that the halves of this block differ by more than one cell in all, with its load.
 ///
 /// No two flows share a port, and `build` makes their frame. In the block, some of the inputs with an odd number of cells
 /// exchange what they send in its first half with what they send in its second. Every pair, input and output stays balanced in
-/// every block, and so does the total in blocks that are larger or do not overlap this one. The shape has two ports or more
-/// and the block two slots or more; loads are tried until the block has two inputs with an odd number of cells.
+/// every block, and so does the total in blocks that are larger or do not overlap this one; only the total of smaller blocks
+/// within it may be unbalanced besides. The shape has two ports or more and the block two slots or more; loads are tried until
+/// the block has two inputs with an odd number of cells.
 pub fn unbalance_total(
     shape: Shape,
     block: Block,

@@ -2,6 +2,7 @@
 
 use calls::{Calls, InC, Inspection, Library, Reference};
 use loads::{load_of_shape, unbalance_total, Block, Call, LoadKind, Random, Shape};
+use tests::broken;
 
 /// The frame that a builder makes of a load that fits.
 fn built(calls: &dyn Calls, call: &Call) -> Vec<u8> {
@@ -34,6 +35,8 @@ fn finds_the_block(calls: &dyn Calls) {
                     size: size as u64,
                 };
                 assert_eq!(found, fault, "{shape:?}");
+                let found = broken::no_total(call.ports, call.slots, &call.matrix, &frame);
+                assert_eq!(found, Inspection::Clean, "nothing else is wrong");
             }
         }
     }
