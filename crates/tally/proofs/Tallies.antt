@@ -18,11 +18,11 @@ use Rattle.model.specs.Words.{bit, within, upFrom, sumTo}
 use Rattle.model.specs.Loads.{Class, pair, input, output, total, Of}
 use Rattle.model.specs.Frames.{counts, cells, runOf}
 use Rattle.model.proofs.Cases.{byBool, byEq, byLt, within-yes, within-above, within-true, is-yes, is-no}
-use Rattle.model.proofs.Sums.{sum-none, sum-more}
+use Rattle.model.proofs.Sums.{sum-none, sum-more, sum-most, sum-zero, sum-ext}
 use Rattle.model.proofs.Settled.{zero-at}
 use Rattle.model.proofs.Inspected.{position-of}
 use Rattle.model.proofs.Cells.{cells-slot, cells-none, cells-run, run-none, run-length}
-use Rattle.tally.specs.Tally.{place, Vacant, Switch, Readable, Room, Adds, ofByte, partly, ofSlot, numberAt, tallyOf}
+use Rattle.tally.specs.Tally.{place, Vacant, Switch, Readable, Room, Adds, ofByte, partly, cellsOf, ofSlot, numberAt, tallyOf}
 
 -- ---- places
 pub pair-place : {ports i o : ℕ} → Switch ports → i < ports → o < ports → i * ports + o < 256
@@ -42,31 +42,37 @@ raised-at l x y h =
     (λ n. getD-set-other l x y (getD l x 0 + 1) 0 n ∙ (let z = is-no y x n in omega arith))
 
 -- ---- a byte
-idle : (c : Class) (i : ℕ) → counts c i 0 ≡ false
-idle (pair j o) i = byEq i j (λ e. rw (eq-eqb i j e) (ne-eqb 0 (suc o) (omega arith))) (λ n. rw (ne-eqb i j n))
+idle : (c : Class) (i : ℕ) → ofByte i 0 c ≡ 0
+unfolding ofByte
+idle (pair j o) i = byEq i j (λ e. rw (eq-eqb i j e, ne-eqb 0 (suc o) (omega arith))) (λ n. rw (ne-eqb i j n))
 idle (input j) i = byEq i j (λ e. rw (eq-eqb i j e)) (λ n. rw (ne-eqb i j n))
-idle (output o) i = ne-eqb 0 (suc o) (omega arith)
+idle (output o) i = rw (ne-eqb 0 (suc o) (omega arith))
 idle total i = refl
 
-pub adds-idle : (ports i b : ℕ) (old : List ℕ) → Room 65531 old → b ≡ 0 → Adds ports 1 (ofByte i b) old old
-unfolding ofByte
+pub adds-idle : (ports i b : ℕ) (old : List ℕ) → Room 65532 old → b ≡ 0 → Adds ports 1 (ofByte i b) old old
 adds-idle ports i b old l e =
     record {
       size = l .size;
-      each = λ c of. rw e (let z = ap bit (idle c i) in omega arith);
+      each = λ c of. rw e (let z = idle c i in omega arith);
       none = λ x v. refl;
       bound = λ x. omega arith;
     }
 
+pub no-cell : (i b : ℕ) → b ≡ 0 → 0 ≡ bit (counts total i b)
+no-cell i b e = rw e
+
+pub one-cell : (i b : ℕ) → (b ≡ 0 → ⊥) → 1 ≡ bit (counts total i b)
+one-cell i b n = rw (ne-eqb b 0 n)
+
 module _ (ports i o : ℕ) (sw : Switch ports) (hi : i < ports) (ho : o < ports) where
   -- what a cell of (i, o) adds at the place of a class
   adds-at : (c : Class) → Of ports c
-      → bit (eqb (place ports c) (i * ports + o)) + bit (eqb (place ports c) (256 + i)) + bit (eqb (place ports c) (272 + o)) + bit (eqb (place ports c) 288) ≡ bit (counts c i (suc o))
+      → bit (eqb (place ports c) (i * ports + o)) + bit (eqb (place ports c) (256 + i)) + bit (eqb (place ports c) (272 + o)) ≡ ofByte i (suc o) c
+  unfolding ofByte
   adds-at (pair j u) of =
       let p = pair-place sw (of .0) (of .1) in
       let a = is-no (j * ports + u) (256 + i) (omega arith) in
       let b = is-no (j * ports + u) (272 + o) (omega arith) in
-      let t = is-no (j * ports + u) 288 (omega arith) in
       byEq i j
       (λ e. byEq o u
       (λ d. rw (eq-eqb i j e, eq-eqb (suc o) (suc u) (ap suc d)) (let z = is-yes (j * ports + u) (i * ports + o) (omega (arith, ap (λ x. x * ports) e)) in omega arith))
@@ -78,7 +84,6 @@ module _ (ports i o : ℕ) (sw : Switch ports) (hi : i < ports) (ho : o < ports)
       let h = sw .high in
       let a = is-no (256 + j) (i * ports + o) (omega arith) in
       let b = is-no (256 + j) (272 + o) (omega arith) in
-      let t = is-no (256 + j) 288 (omega arith) in
       byEq i j
       (λ e. rw (eq-eqb i j e, ne-eqb (suc o) 0 (omega arith)) (let z = is-yes (256 + j) (256 + i) (omega arith) in omega arith))
       (λ n. rw (ne-eqb i j n) (let z = is-no (256 + j) (256 + i) (λ k. n (omega arith)) in omega arith))
@@ -87,46 +92,40 @@ module _ (ports i o : ℕ) (sw : Switch ports) (hi : i < ports) (ho : o < ports)
       let h = sw .high in
       let a = is-no (272 + u) (i * ports + o) (omega arith) in
       let b = is-no (272 + u) (256 + i) (omega arith) in
-      let t = is-no (272 + u) 288 (omega arith) in
       byEq o u
       (λ e. rw (eq-eqb (suc o) (suc u) (ap suc e)) (let z = is-yes (272 + u) (272 + o) (omega arith) in omega arith))
       (λ n. rw (ne-eqb (suc o) (suc u) (λ k. n (omega arith))) (let z = is-no (272 + u) (272 + o) (λ k. n (omega arith)) in omega arith))
   adds-at total of =
       let p = pair-place sw hi ho in
       let h = sw .high in
-      rw (ne-eqb (suc o) 0 (omega arith))
-      (omega (arith, is-no 288 (i * ports + o) (omega arith), is-no 288 (256 + i) (omega arith), is-no 288 (272 + o) (omega arith), is-yes 288 288 refl))
+      omega (arith, is-no 288 (i * ports + o) (omega arith), is-no 288 (256 + i) (omega arith), is-no 288 (272 + o) (omega arith))
 
   -- at no place more than 1
-  adds-most : (x : ℕ) → bit (eqb x (i * ports + o)) + bit (eqb x (256 + i)) + bit (eqb x (272 + o)) + bit (eqb x 288) ≤ 1
+  adds-most : (x : ℕ) → bit (eqb x (i * ports + o)) + bit (eqb x (256 + i)) + bit (eqb x (272 + o)) ≤ 1
   adds-most x =
       let p = pair-place sw hi ho in
       let h = sw .high in
       byEq x (i * ports + o)
-      (λ e. omega (arith, is-yes x (i * ports + o) e, is-no x (256 + i) (omega arith), is-no x (272 + o) (omega arith), is-no x 288 (omega arith)))
+      (λ e. omega (arith, is-yes x (i * ports + o) e, is-no x (256 + i) (omega arith), is-no x (272 + o) (omega arith)))
       (λ n. byEq x (256 + i)
-      (λ e. omega (arith, is-no x (i * ports + o) n, is-yes x (256 + i) e, is-no x (272 + o) (omega arith), is-no x 288 (omega arith)))
+      (λ e. omega (arith, is-no x (i * ports + o) n, is-yes x (256 + i) e, is-no x (272 + o) (omega arith)))
       (λ m. byEq x (272 + o)
-      (λ e. omega (arith, is-no x (i * ports + o) n, is-no x (256 + i) m, is-yes x (272 + o) e, is-no x 288 (omega arith)))
-      (λ k. byEq x 288
-      (λ e. omega (arith, is-no x (i * ports + o) n, is-no x (256 + i) m, is-no x (272 + o) k, is-yes x 288 e))
-      (λ l. omega (arith, is-no x (i * ports + o) n, is-no x (256 + i) m, is-no x (272 + o) k, is-no x 288 l)))))
+      (λ e. omega (arith, is-no x (i * ports + o) n, is-no x (256 + i) m, is-yes x (272 + o) e))
+      (λ k. omega (arith, is-no x (i * ports + o) n, is-no x (256 + i) m, is-no x (272 + o) k))))
 
   module _ (old : List ℕ) (size : length old ≡ 289) where
     abbrev pub counted : List ℕ
-    counted = raised (raised (raised (raised old (i * ports + o)) (256 + i)) (272 + o)) 288
+    counted = raised (raised (raised old (i * ports + o)) (256 + i)) (272 + o)
 
-    counted-at : (x : ℕ) → getD counted x 0 ≡ getD old x 0 + (bit (eqb x (i * ports + o)) + bit (eqb x (256 + i)) + bit (eqb x (272 + o)) + bit (eqb x 288))
+    counted-at : (x : ℕ) → getD counted x 0 ≡ getD old x 0 + (bit (eqb x (i * ports + o)) + bit (eqb x (256 + i)) + bit (eqb x (272 + o)))
     counted-at x =
         let p = pair-place sw hi ho in
         let h = sw .high in
         let a = raised old (i * ports + o) in
         let b = raised a (256 + i) in
-        let d = raised b (272 + o) in
         let la = length-set old (i * ports + o) (getD old (i * ports + o) 0 + 1) in
         let lb = length-set a (256 + i) (getD a (256 + i) 0 + 1) in
-        let ld = length-set b (272 + o) (getD b (272 + o) 0 + 1) in
-        omega (arith, raised-at old (i * ports + o) x (omega arith), raised-at a (256 + i) x (omega arith), raised-at b (272 + o) x (omega arith), raised-at d 288 x (omega arith))
+        omega (arith, raised-at old (i * ports + o) x (omega arith), raised-at a (256 + i) x (omega arith), raised-at b (272 + o) x (omega arith))
 
     counted-length : length counted ≡ 289
     counted-length = simp length-set size
@@ -136,11 +135,9 @@ module _ (ports i o : ℕ) (sw : Switch ports) (hi : i < ports) (ho : o < ports)
         let a = is-no x (i * ports + o) (v (pair i o) (hi, ho)) in
         let b = is-no x (256 + i) (v (input i) hi) in
         let c = is-no x (272 + o) (v (output o) ho) in
-        let d = is-no x 288 (v total tt) in
         omega (arith, counted-at x)
 
     pub adds-all : Adds ports 1 (ofByte i (suc o)) old counted
-    unfolding ofByte
     adds-all =
         record {
           size = counted-length;
@@ -149,16 +146,15 @@ module _ (ports i o : ℕ) (sw : Switch ports) (hi : i < ports) (ho : o < ports)
           bound = λ x. omega (arith, counted-at x, adds-most x);
         }
 
-pub adds-cell : (ports i b o : ℕ) (old t1 t2 t3 t4 : List ℕ) → Switch ports → i < ports → b ≤ ports → Room 65531 old → (b ≡ 0 → ⊥) → o ≡ b - 1
+pub adds-cell : (ports i b o : ℕ) (old t1 t2 t3 : List ℕ) → Switch ports → i < ports → b ≤ ports → Room 65532 old → (b ≡ 0 → ⊥) → o ≡ b - 1
     → t1 ≡ set old (i * ports + o) (getD old (i * ports + o) 0 + 1)
     → t2 ≡ set t1 (256 + i) (getD t1 (256 + i) 0 + 1)
     → t3 ≡ set t2 (272 + o) (getD t2 (272 + o) 0 + 1)
-    → t4 ≡ set t3 288 (getD t3 288 0 + 1)
-    → Adds ports 1 (ofByte i b) old t4
-adds-cell ports i b o old t1 t2 t3 t4 sw hi hb room n e e1 e2 e3 e4 =
+    → Adds ports 1 (ofByte i b) old t3
+adds-cell ports i b o old t1 t2 t3 sw hi hb room n e e1 e2 e3 =
     let ho : o < ports = omega arith in
     let k : b ≡ suc o = omega arith in
-    rw (e4, e3, e2, e1, k) (adds-all ports i o sw hi ho old (room .size))
+    rw (e3, e2, e1, k) (adds-all ports i o sw hi ho old (room .size))
 
 -- ---- the room that the code asks for
 pub row-fits : {ports i : ℕ} → Switch ports → i < ports → Fits w64 (i * ports)
@@ -179,7 +175,7 @@ output-low {ports} {b} sw h n = omega (arith, sw .high)
 room-within : {n : ℕ} {l : List ℕ} → n ≤ 65534 → Room n l → Room 65534 l
 room-within h r = record { size = r .size; each = λ x. omega (arith, r .each x) }
 
-pub room-less : {l : List ℕ} → Room 65531 l → Room 65534 l
+pub room-less : {l : List ℕ} → Room 65532 l → Room 65534 l
 room-less r = room-within (omega arith) r
 
 room-raised : (n x : ℕ) (l l′ : List ℕ) → l′ ≡ set l x (getD l x 0 + 1) → Room n l → Room (suc n) l′
@@ -193,18 +189,11 @@ room-raised n x l l′ e r =
           (λ h. rw (set-out l x (getD l x 0 + 1) h) (omega (arith, r .each y)));
     })
 
-pub room-one : (x : ℕ) (l l′ : List ℕ) → l′ ≡ set l x (getD l x 0 + 1) → Room 65531 l → Room 65534 l′
-room-one x l l′ e r = room-within (omega arith) (room-raised 65531 x l l′ e r)
+pub room-one : (x : ℕ) (l l′ : List ℕ) → l′ ≡ set l x (getD l x 0 + 1) → Room 65532 l → Room 65534 l′
+room-one x l l′ e r = room-within (omega arith) (room-raised 65532 x l l′ e r)
 
-module _ (x y : ℕ) (l l′ l″ : List ℕ) (f : l″ ≡ set l′ y (getD l′ y 0 + 1)) (e : l′ ≡ set l x (getD l x 0 + 1)) (r : Room 65531 l) where
-  raised-two : Room 65533 l″
-  raised-two = room-raised 65532 y l′ l″ f (room-raised 65531 x l l′ e r)
-
-  pub room-two : Room 65534 l″
-  room-two = room-within (omega arith) raised-two
-
-  pub room-three : (z : ℕ) (l‴ : List ℕ) → l‴ ≡ set l″ z (getD l″ z 0 + 1) → Room 65534 l‴
-  room-three z l‴ g = room-raised 65533 z l″ l‴ g raised-two
+pub room-two : (x y : ℕ) (l l′ l″ : List ℕ) → l″ ≡ set l′ y (getD l′ y 0 + 1) → l′ ≡ set l x (getD l x 0 + 1) → Room 65532 l → Room 65534 l″
+room-two x y l l′ l″ f e r = room-raised 65533 y l′ l″ f (room-raised 65532 x l l′ e r)
 
 -- ---- a slot
 pub slot-start : (ports : ℕ) (slot old : List ℕ) → Room 65000 old → Adds ports 0 (partly slot 0) old old
@@ -225,20 +214,70 @@ slot-on ports i b slot old mid new a e n =
       bound = λ x. omega (arith, a .bound x, n .bound x);
     }
 
-pub slot-end : (ports i : ℕ) (slot old new : List ℕ) → Adds ports i (partly slot i) old new → Readable ports 1 slot → i ≤ length slot → length slot ≤ i → Adds ports ports (ofSlot ports slot) old new
-unfolding partly ofByte ofSlot
-slot-end ports i slot old new a r l g =
-    let s = r .size in
-    let e : i ≡ ports = omega arith in
-    record {
-      size = a .size;
-      each = λ c of. omega (arith, a .each c of, ap (λ z. partly slot z c) e, cells-slot ports c slot (s ∙ omega arith));
-      none = a .none;
-      bound = λ x. omega (arith, a .bound x);
-    }
+-- the cells among the bytes so far
+pub cells-start : (slot : List ℕ) → 0 ≡ cellsOf slot 0
+unfolding cellsOf
+cells-start slot = sym (sum-none (λ i. bit (counts total i (getD slot i 0))))
+
+pub cells-on : (slot : List ℕ) (i b n r : ℕ) → n ≡ cellsOf slot i → b ≡ getD slot i 0 → r ≡ bit (counts total i b) → n + r ≡ cellsOf slot (i + 1)
+unfolding cellsOf
+cells-on slot i b n r e f g =
+    let c : ℕ → ℕ = λ i. bit (counts total i (getD slot i 0)) in
+    omega (arith, ap (λ z. bit (counts total i z)) f, sum-more i c, ap (λ z. sumTo z c) (add-one i))
+
+cells-most : (slot : List ℕ) (n : ℕ) → cellsOf slot n ≤ n
+unfolding cellsOf
+cells-most slot n = let s = sum-most n 1 (λ i. bit (counts total i (getD slot i 0))) (λ i h. byBool (counts total i (getD slot i 0)) (λ e. rw e (omega arith)) (λ e. rw e (omega arith))) in omega arith
+
+pub cells-fit : (ports i n : ℕ) (slot : List ℕ) → Readable ports 1 slot → i < length slot → n ≡ cellsOf slot i → (r : ℕ) → r ≤ 1 → Fits w16 (n + r)
+cells-fit ports i n slot d h e r l = record { fits = (let s = d .size in let w = d .switch .high in omega (arith, cells-most slot i)) }
+
+module _ (ports i n : ℕ) (slot old mid : List ℕ) (a : Adds ports i (partly slot i) old mid) (r : Readable ports 1 slot) (e : n ≡ cellsOf slot i) where
+  total-same : getD mid 288 0 ≡ getD old 288 0
+  unfolding partly ofByte
+  total-same = let z = sum-zero i (λ j. 0) (λ j h. refl) in omega (arith, a .each total tt)
+
+  pub total-fits : Room 65000 old → i ≤ length slot → Fits w16 (getD mid 288 0 + n)
+  total-fits room l =
+      record { fits = (let s = r .size in let w = r .switch .high in omega (arith, total-same, cells-most slot i, room .each 288)) }
+
+  module _ (l : i ≤ length slot) (g : length slot ≤ i) where
+    all : i ≡ ports
+    all = let s = r .size in omega arith
+
+    at-other : (x : ℕ) → x ≢ 288 → getD (set mid 288 (getD mid 288 0 + n)) x 0 ≡ getD mid x 0
+    at-other x d = getD-set-other mid 288 x (getD mid 288 0 + n) 0 d
+
+    at-total : getD (set mid 288 (getD mid 288 0 + n)) 288 0 ≡ getD mid 288 0 + n
+    at-total = getD-set-same mid 288 (getD mid 288 0 + n) 0 (let s = a .size in omega arith)
+
+    slot-cells : (c : Class) → cells c ports slot ≡ sumTo ports (λ j. bit (counts c j (getD slot j 0)))
+    slot-cells c = cells-slot ports c slot (let s = r .size in s ∙ omega arith)
+
+    port-each : (c : Class) → Of ports c → place ports c ≢ 288 → cells c ports slot ≡ partly slot ports c
+        → getD (set mid 288 (getD mid 288 0 + n)) (place ports c) 0 ≡ getD old (place ports c) 0 + cells c ports slot
+    port-each c of d k = omega (arith, at-other (place ports c) d, a .each c of, ap (λ z. partly slot z c) all)
+
+    slot-each : (c : Class) → Of ports c → getD (set mid 288 (getD mid 288 0 + n)) (place ports c) 0 ≡ getD old (place ports c) 0 + ofSlot ports slot c
+    unfolding partly ofByte cellsOf ofSlot
+    slot-each (pair j o) of = port-each (pair j o) of (let l = pair-place (r .switch) (of .0) (of .1) in omega arith) (slot-cells (pair j o))
+    slot-each (input j) of = port-each (input j) of (let h = r .switch .high in omega arith) (slot-cells (input j))
+    slot-each (output o) of = port-each (output o) of (let h = r .switch .high in omega arith) (slot-cells (output o))
+    slot-each total of = omega (arith, at-total, total-same, ap (cellsOf slot) all, slot-cells total)
+
+    pub slot-end : Adds ports ports (ofSlot ports slot) old (set mid 288 (getD mid 288 0 + n))
+    slot-end =
+        record {
+          size = length-set mid 288 (getD mid 288 0 + n) ∙ a .size;
+          each = slot-each;
+          none = λ x v. at-other x (v total tt) ∙ a .none x v;
+          bound = λ x. byEq x 288
+              (λ d. rw d (omega (arith, at-total, total-same, cells-most slot i, all)))
+              (λ d. omega (arith, at-other x d, a .bound x, all));
+        }
 
 -- the room for one byte more
-pub slot-room : (ports i : ℕ) (slot old mid : List ℕ) → Adds ports i (partly slot i) old mid → Room 65000 old → Readable ports 1 slot → i < length slot → Room 65531 mid
+pub slot-room : (ports i : ℕ) (slot old mid : List ℕ) → Adds ports i (partly slot i) old mid → Room 65000 old → Readable ports 1 slot → i < length slot → Room 65532 mid
 slot-room ports i slot old mid a r d h =
     let s = d .size in
     let w = d .switch .high in

@@ -44,12 +44,20 @@ pub record Adds (ports most : ℕ) (more : Class → ℕ) (old new : List ℕ) :
   pub none : (x : ℕ) → Vacant ports x → getD new x 0 ≡ getD old x 0
   pub bound : (x : ℕ) → getD new x 0 ≤ getD old x 0 + most
 
--- What a byte of an input, the first n bytes of a slot, and a slot count for each class.
+-- What a byte of an input, the first n bytes of a slot, and a slot count for each class. The total is counted for a whole
+-- slot at once.
 unfoldable pub ofByte : ℕ → ℕ → Class → ℕ
-ofByte i byte c = bit (counts c i byte)
+ofByte i byte (pair j o) = bit (counts (pair j o) i byte)
+ofByte i byte (input j) = bit (counts (input j) i byte)
+ofByte i byte (output o) = bit (counts (output o) i byte)
+ofByte i byte total = 0
 
 unfoldable pub partly : List ℕ → ℕ → Class → ℕ
 partly slot n c = sumTo n (λ i. ofByte i (getD slot i 0) c)
+
+-- The cells among the first n bytes of a slot.
+unfoldable pub cellsOf : List ℕ → ℕ → ℕ
+cellsOf slot n = sumTo n (λ i. bit (counts total i (getD slot i 0)))
 
 unfoldable pub ofSlot : ℕ → List ℕ → Class → ℕ
 ofSlot ports slot c = cells c ports slot

@@ -1,5 +1,8 @@
-use Rattle.tally.proofs.Tallies.{adds-idle, adds-cell, row-fits, pair-low, pair-fits, input-low, output-low, room-less, room-one, room-two, room-three}
+use mathlib.Core.Path.{sym, ap}
+use native.Mathlib.Omega.{arith}
 use borrow.Author.Needs.{needs}
+use borrow.Author.Tests.{eq-eqb, ne-eqb}
+use Rattle.tally.proofs.Tallies.{adds-idle, adds-cell, no-cell, one-cell, row-fits, pair-low, pair-fits, input-low, output-low, room-less, room-one, room-two}
 use Rattle.tally.proofs.add_byte.Statement.{statement}
 use Rattle.tally.proofs.add_byte.Tie as tie
 
@@ -7,7 +10,7 @@ pub add-byte-spec : {M : Type 1} → statement M
 add-byte-spec =
     tie.close
     (tie.spec
-    (λ c. search (needs, adds-idle))
+    (λ c. (search (needs, adds-idle), search (needs, no-cell), omega arith))
     (λ c. search needs)
     (λ c. search (needs, row-fits))
     (λ c. search (needs, pair-fits))
@@ -16,5 +19,4 @@ add-byte-spec =
     (λ c κs. (search (needs, input-low), search (needs, room-one)))
     (λ c. search needs)
     (λ c κs. (search (needs, output-low), room-two _ _ _ _ _ (c .before .add-one2 .ensures) (c .before .before .before .add-one .ensures) (c .before .before .before .before .before .before .pre .3)))
-    (λ c κs. (search needs, room-three _ _ _ _ _ (c .before .before .before .add-one2 .ensures) (c .before .before .before .before .before .add-one .ensures) (c .before .before .before .before .before .before .before .before .pre .3) _ _ (c .before .add-one3 .ensures)))
-    (λ c. search (needs, adds-cell)))
+    (λ c. (search (needs, adds-cell), search (needs, one-cell), omega arith)))
