@@ -1,0 +1,43 @@
+use borrow.Author.Needs.{needs}
+use Rattle.split.proofs.Settled.{group-start, group-even, group-right, group-turned}
+use Rattle.split.proofs.groups.settle_joined.Statement.{statement}
+use Rattle.split.proofs.groups.settle_joined.Tie as tie
+
+pub settle-joined-spec : {M : Type 1} → statement M
+settle-joined-spec =
+    tie.close
+    (tie.spec
+    (λ c. search needs)
+    (λ c. search needs)
+    (λ c. search needs)
+    (λ c κs. search (needs, group-start))
+    (λ c κs. search needs)
+    (λ c.
+    let second = c .before in
+    let first = second .before .before .before in
+    let start = first .before .before .before in
+    (second .walk2 .ensures .list .size, group-even _ _ (start .pre .2) (start .pre .3) (start .pre .4) (start .pre .0) (start .args .group .now) (start .pre .1) (first .walk .ensures) (second .walk2 .ensures) (c .if1 .taken)))
+    (λ c κs. search needs)
+    (λ c κs. search needs)
+    (λ c.
+    let odd = c .before .before .before in
+    let second = odd .before in
+    let first = second .before .before .before in
+    let start = first .before .before .before in (
+      second .walk2 .ensures .list .size,
+      group-right _ _ (start .pre .2) (start .pre .3) (start .pre .4) (start .pre .0) (start .args .group .now) (start .pre .1) (first .walk .ensures) (second .walk2 .ensures) (odd .if1 .left)
+      (c .before .before .larger-half .ensures) (c .before .if2 .taken) (c .other-half .ensures),
+    ))
+    (λ c κs. search needs)
+    (λ c κs. search needs)
+    (λ c.
+    let turned = c .before in
+    let wrong = turned .before .before .before in
+    let odd = wrong .before .before in
+    let second = odd .before in
+    let first = second .before .before .before in
+    let start = first .before .before .before in (
+      second .walk2 .ensures .list .size,
+      group-turned _ _ (start .pre .2) (start .pre .3) (start .pre .4) (start .pre .0) (start .args .group .now) (start .pre .1) (first .walk .ensures) (second .walk2 .ensures) (odd .if1 .left)
+      (wrong .before .larger-half .ensures) (wrong .if2 .left) (c .other-half2 .ensures) (turned .turn-round .ensures .1),
+    )))
