@@ -6,19 +6,18 @@ use mathlib.Core.List.{List, [], _∷_, _++_}
 use mathlib.Core.Bool.{true, false}
 use native.Mathlib.Omega.{arith}
 use native.Mathlib.Numerals.{add-one}
-use borrow.Author.Tests.{eqb-true, eq-eqb, ne-eqb}
+use borrow.Author.Tests.{eq-eqb, ne-eqb}
 use lib.Dec.{eqb}
 use lib.ListN.{length, getD, set, take, replicate, length-set}
 use lib.Seq.{take-suc, take-suc-set, getD-set-same, set-set}
-use Rattle.model.specs.Words.{if, both}
+use Rattle.model.specs.Words.{if}
 use Rattle.model.specs.Schedule.{favouring, level}
-use Rattle.model.proofs.Cases.{byBool, byEq, byLt, both-true, within-yes, within-below, within-above}
+use Rattle.model.proofs.Cases.{byBool, byEq, byLt, within-yes, within-below, within-above}
 use Rattle.model.proofs.Walks.{zeros-set, zeros-le}
 use Rattle.model.proofs.Shares.{favouring-more, favouring-same, same-shares}
-use Rattle.split.specs.Steps.{Wide, lookup, walked, Listed, Walks, turned, otherHalf, bothWays, groupSettled, largerHalf, Turn, Settles, allSettled, SettledBy}
+use Rattle.split.specs.Steps.{Wide, walked, Listed, Walks, turned, otherHalf, bothWays, groupSettled, largerHalf, Turn, Settles, allSettled, SettledBy}
 use Rattle.split.proofs.Lists.{at-end}
 use Rattle.split.proofs.Turned.{turned-length}
-use Rattle.split.proofs.Walked.{walk-end}
 
 -- ---- whose turn it is
 turn-level : (half : ℕ) (c : List ℕ) → Turn half c → level c ≡ true
@@ -44,62 +43,10 @@ other-two : (h : ℕ) → h ≢ 1 → otherHalf h ≡ 1
 other-two h e = rw (ne-eqb h 1 e)
 
 -- ---- the group of a count
-module _ (i o : List ℕ) (p : ℕ) {q : ℕ} (e : q ≡ lookup i p) where
-  pub single-no : q ≢ p → false ≡ both (eqb (lookup i p) p) (eqb (lookup o p) p)
-  single-no n = rw (← e, ne-eqb q p n)
-
-  pub single-by-output : {r : ℕ} → q ≡ p → r ≡ lookup o p → eqb r p ≡ both (eqb (lookup i p) p) (eqb (lookup o p) p)
-  single-by-output f g = rw (← e, eq-eqb q p f, g)
-
 module _ (i o : List ℕ) {p half : ℕ} {c : List ℕ} (len : Wide c) (t : Turn half c) where
   pub group-off : getD c p 0 ≢ 0 → Settles i o p c half c
   unfolding groupSettled
   group-off z = record { len = len; turn = t; same = rw (ne-eqb (getD c p 0) 0 z) }
-
-  -- a count that is a group by itself
-  module _ (z : getD c p 0 ≡ 0) (p-lt : p < 256) (single : both (eqb (lookup i p) p) (eqb (lookup o p) p) ≡ true) where
-    alone : (h : ℕ) → 1 ≤ h → bothWays i o h p c ≡ set c p h
-    alone h low =
-        let s = both-true (eqb (lookup i p) p) (eqb (lookup o p) p) single in
-        let e = getD-set-same c p h 0 (omega arith) in
-        let stop : getD (set c p h) p 0 ≢ 0 = λ k. omega arith in
-        ap (walked o i p h) (walk-end (length (set c p h)) (lookup i) (lookup o) p h p (set c p h) (sym (eqb-true (lookup i p) p (s .0))) stop)
-        ∙ walk-end (length (set c p h)) (lookup o) (lookup i) p h p (set c p h) (sym (eqb-true (lookup o p) p (s .1))) stop
-
-    first-more : favouring 1 (set c p 1) ≡ favouring 1 c + 1
-    first-more = favouring-more 1 c p 1 (omega arith) z (omega arith) refl
-
-    first-same : favouring 2 (set c p 1) ≡ favouring 2 c
-    first-same = favouring-same 2 c p 1 (omega arith) z (omega arith) (omega arith)
-
-    pub group-single : {v : ℕ} → v ≡ otherHalf half → Settles i o p c v (set c p half)
-    unfolding groupSettled
-    group-single {v} g =
-        let low = t .low in
-        let high = t .high in
-        let ahead = t .ahead in
-        byEq half 1
-        (λ e.
-        let w : v ≡ 2 = g ∙ other-one half e in
-        let u : Turn 2 (set c p 1) = record { low = omega arith; high = omega arith; ahead = omega (arith, first-more, first-same) } in
-        rw (e, w) (record {
-          len = length-set c p 1 ∙ len;
-          turn = u;
-          same = rw (eq-eqb (getD c p 0) 0 z, alone 1 (omega arith), turn-level 2 (set c p 1) u);
-        }))
-        (λ e.
-        let h : half ≡ 2 = omega arith in
-        let w : v ≡ 1 = g ∙ other-two half e in
-        let no : level (set c p 1) ≡ false = within-above (favouring 2 (set c p 1)) (favouring 2 (set c p 1) + 1) (favouring 1 (set c p 1)) (omega (arith, first-more, first-same)) (omega (arith, first-more, first-same)) in
-        rw (h, w) (record {
-          len = length-set c p 2 ∙ len;
-          turn = record {
-            low = omega arith;
-            high = omega arith;
-            ahead = omega (arith, favouring-same 1 c p 2 (omega arith) z (omega arith) (omega arith), favouring-more 2 c p 2 (omega arith) z (omega arith) refl);
-          };
-          same = rw (eq-eqb (getD c p 0) 0 z, alone 1 (omega arith), alone 2 (omega arith), no);
-        }))
 
   module _ (z : getD c p 0 ≡ 0) (p-lt : p < 256) (group : List ℕ) (size : Wide group) where
     at-first : take 1 (set group 0 p) ≡ p ∷ []

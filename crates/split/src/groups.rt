@@ -2,10 +2,8 @@
 use widths::byte;
 ghost use mathlib.Core.Path.{_≡_};
 ghost use Prim.Native.Nat.{_%_, _<_, _≤_};
-ghost use lib.Dec.{eqb};
-ghost use lib.ListN.{getD, take, replicate};
-ghost use Rattle.model.specs.Words.{both};
-ghost use Rattle.split.specs.Steps.{Wide, lookup, otherHalf, turned, Listed, Walks, largerHalf, Turn, Settles, SettledBy};
+ghost use lib.ListN.{take, replicate};
+ghost use Rattle.split.specs.Steps.{Wide, otherHalf, turned, Listed, Walks, largerHalf, Turn, Settles, SettledBy};
 
 // The half that a count does not favour.
 fn other_half(half: u8) -> u8
@@ -70,46 +68,8 @@ fn larger_half(count: usize) -> u8
     if count % 2 == 1 { 1 } else { 2 }
 }
 
-// The count is its own partner on both sides, and so a group by itself.
-fn is_single(p: usize, in_mates: &[u8; 256], out_mates: &[u8; 256]) -> bool
-    requires { ⌜ p < 256 ⌝ }
-    ensures { λ r. ⌜ r ≡ both (eqb (lookup (now («in_mates» .entry)) p) p) (eqb (lookup (now («out_mates» .entry)) p) p) ⌝ }
-{
-    if byte(in_mates[p]) != p {
-        return false;
-    }
-    byte(out_mates[p]) == p
-}
-
-// Settles the group of its first count, which is not settled. The next larger share goes to `turn`; the answer is whose turn
-// it is then.
-fn settle_joined(
-    p: usize,
-    turn: u8,
-    in_mates: &[u8; 256],
-    out_mates: &[u8; 256],
-    group: &mut [u8; 256],
-    favoured: &mut [u8; 256],
-) -> u8
-    requires { ⌜ (p < 256) × Wide (now group) × Wide (now favoured) × Turn turn (now favoured) × (getD (now favoured) p 0 ≡ 0) ⌝ }
-    ensures { λ r. ⌜ Wide (now (group .exit)) × Settles (now («in_mates» .entry)) (now («out_mates» .entry)) p (now (favoured .entry)) r (now (favoured .exit)) ⌝ }
-{
-    favoured[p] = 1;
-    group[0] = p as u8;
-    let by_inputs = walk(p, in_mates, out_mates, 1, group, favoured);
-    let n = walk(p, out_mates, in_mates, by_inputs, group, favoured);
-    if n % 2 == 0 {
-        return turn;
-    }
-    if larger_half(by_inputs) == turn {
-        return other_half(turn);
-    }
-    turn_round(group, n, favoured);
-    other_half(turn)
-}
-
-// The first count that is met of a group is its first in matrix order, for the scan goes in that order. A count that is a group
-// by itself, as most are in a frame with few cells, needs no walk.
+// The first count that is met of a group is its first in matrix order, for the scan goes in that order. The next larger share
+// goes to `turn`; the answer is whose turn it is then.
 fn settle_group(
     p: usize,
     turn: u8,
@@ -124,11 +84,18 @@ fn settle_group(
     if favoured[p] != 0 {
         return turn;
     }
-    if is_single(p, in_mates, out_mates) {
-        favoured[p] = turn;
+    favoured[p] = 1;
+    group[0] = p as u8;
+    let by_inputs = walk(p, in_mates, out_mates, 1, group, favoured);
+    let n = walk(p, out_mates, in_mates, by_inputs, group, favoured);
+    if n % 2 == 0 {
+        return turn;
+    }
+    if larger_half(by_inputs) == turn {
         return other_half(turn);
     }
-    settle_joined(p, turn, in_mates, out_mates, group, favoured)
+    turn_round(group, n, favoured);
+    other_half(turn)
 }
 
 // Only the odd counts are scanned; the first larger share goes to the first half.

@@ -1,6 +1,5 @@
 use borrow.Author.Needs.{needs}
-use mathlib.Core.Path.{sym, _∙_}
-use Rattle.split.proofs.Settled.{group-off, group-single}
+use Rattle.split.proofs.Settled.{group-off, group-start, group-even, group-right, group-turned}
 use Rattle.split.proofs.groups.settle_group.Statement.{statement}
 use Rattle.split.proofs.groups.settle_group.Tie as tie
 
@@ -10,12 +9,42 @@ settle-group-spec =
     (tie.spec
     (λ c. search needs)
     (λ c. search (needs, group-off))
-    (λ c κs. search needs)
     (λ c. search needs)
+    (λ c. search needs)
+    (λ c. search needs)
+    (λ c κs. search (needs, group-start))
     (λ c κs. search needs)
     (λ c.
-    let single = c .before .before in
-    let start = single .before .before .before in
-    (start .pre .1, group-single _ _ (start .pre .2) (start .pre .3) (single .before .if1 .left) (start .pre .0) (sym (single .is-single .ensures) ∙ c .before .if2 .taken) (c .other-half .ensures)))
+    let second = c .before in
+    let first = second .before .before .before in
+    let found = first .before .before .before in
+    let start = found .before .before in (
+      second .walk2 .ensures .list .size,
+      group-even _ _ (start .pre .2) (start .pre .3) (found .if1 .left) (start .pre .0) (start .args .group .now) (start .pre .1) (first .walk .ensures) (second .walk2 .ensures) (c .if2 .taken),
+    ))
     (λ c κs. search needs)
-    (λ c. search needs))
+    (λ c κs. search needs)
+    (λ c.
+    let odd = c .before .before .before in
+    let second = odd .before in
+    let first = second .before .before .before in
+    let found = first .before .before .before in
+    let start = found .before .before in (
+      second .walk2 .ensures .list .size,
+      group-right _ _ (start .pre .2) (start .pre .3) (found .if1 .left) (start .pre .0) (start .args .group .now) (start .pre .1) (first .walk .ensures) (second .walk2 .ensures) (odd .if2 .left)
+          (c .before .before .larger-half .ensures) (c .before .if3 .taken) (c .other-half .ensures),
+    ))
+    (λ c κs. search needs)
+    (λ c κs. search needs)
+    (λ c.
+    let turned = c .before in
+    let wrong = turned .before .before .before in
+    let odd = wrong .before .before in
+    let second = odd .before in
+    let first = second .before .before .before in
+    let found = first .before .before .before in
+    let start = found .before .before in (
+      second .walk2 .ensures .list .size,
+      group-turned _ _ (start .pre .2) (start .pre .3) (found .if1 .left) (start .pre .0) (start .args .group .now) (start .pre .1) (first .walk .ensures) (second .walk2 .ensures) (odd .if2 .left)
+          (wrong .before .larger-half .ensures) (wrong .if3 .left) (c .other-half2 .ensures) (turned .turn-round .ensures .1),
+    )))
