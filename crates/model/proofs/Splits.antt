@@ -1,23 +1,23 @@
 -- One split: the function's halves meet rules 2 to 5, and whatever meets them is the function's halves.
-use Prim.Native.Nat.{ℕ, suc, zero, _+_, _*_, _/_, _%_, _≤_}
+use Prim.Native.Nat.{ℕ, suc, zero, _+_, _/_, _%_, _≤_}
 use mathlib.Core.Path.{_≡_, refl, sym, ap, _∙_, subst}
 use mathlib.Core.Logic.{_≢_, ⊎-elim}
 use mathlib.Core.List.{List, [], _∷_}
 use mathlib.Core.Bool.{Bool, true, false, not}
 use native.Mathlib.Omega.{arith}
-use lib.Dec.{eqb, ltb}
+use lib.Dec.{eqb}
 use lib.ListN.{length, getD}
 use lib.Seq.{ext-getD}
 use borrow.Author.Tests.{eqb-true, eqb-false, eq-eqb, ne-eqb, lt-ltb, le-ltb, ltb-true, ltb-false}
 use Rattle.model.specs.Words.{bit, upFrom, keep, Near, Every}
-use Rattle.model.specs.Rules.{Side, odd, oddsAt, Partners, Joined, Lists, Group, OddGroup, favoursFirst, largerFirst, Split}
+use Rattle.model.specs.Rules.{Side, odd, oddsAt, Partners, Joined, Lists, Group, OddGroup, favoursFirst, Split}
 use Rattle.model.specs.Schedule.{favours, halfBy, halfOf}
 use Rattle.model.proofs.Cases.{byBool, byEq, is-yes, is-no}
 use Rattle.model.proofs.Partners.{every-map, rule-partner, partner-rule}
 use Rattle.model.proofs.Settled.{mate, favours-law}
 use Rattle.model.proofs.Kept.{keep-alike, keep-parts}
 use Rattle.model.proofs.Groups.{Reached, reached-closed, pairings, joined-reached}
-use Rattle.model.proofs.Ties.{lists-every, has-group, even-favours, odd-test, odd-lists, odd-favours}
+use Rattle.model.proofs.Ties.{lists-every, has-group, even-favours, odd-test, odd-lists, odd-share}
 
 -- ---- halves by what each count favours
 pub half-at : (h : ℕ) (m c : List ℕ) (p : ℕ) → h ≢ 0 → length c ≡ length m → getD (halfBy h m c) p 0 ≡ getD m p 0 / 2 + bit (eqb (getD c p 0) h)
@@ -107,8 +107,11 @@ module _ (port : Side → ℕ → ℕ) (m : List ℕ) where
         shared = λ p. shares p .0;
         evenly = λ p. shares p .1;
         opposite = opposite;
-        even-group = λ p group x e. first-is p (x .odd-count) ∙ eq-eqb (colour p) 1 (even-favours port m p group x e);
-        odd-group = λ p group before x e b. ap (λ (l : List ℕ). ltb (length group) (2 * length l)) (firsts-are p group x) ∙ odd-favours port m p group before x e b;
+        even-group = λ p group x e. first-is p (x .odd-count) ∙ eq-eqb (colour p) 1 (even-favours port m p group x (omega arith));
+        odd-group = λ p group before x o b.
+            let n = ap length (firsts-are p group x) in
+            let h = odd-share port m p group before x o b in
+            ((λ e. omega arith), λ e. omega arith);
       }
     where
       opposite : (s : Side) (x p q : ℕ) → Partners (oddsAt (port s) m x) p q → favoursFirst (halfOf port 1 m) (halfOf port 2 m) p ≡ not (favoursFirst (halfOf port 1 m) (halfOf port 2 m) q)
@@ -163,20 +166,16 @@ module _ (port : Side → ℕ → ℕ) (m : List ℕ) where
         let before = keep (odd-test port m) (upFrom 0 p) in
         let f : ℕ → Bool = λ q. eqb (colour q) 1 in
         let lists = odd-lists port m p in
-        let same : largerFirst a b group ≡ ltb (length group) (2 * length (keep f group)) =
-        sp .odd-group p group before x o lists ∙ sym (odd-favours port m p group before x o lists) in
+        let rule = sp .odd-group p group before x o lists in
+        let share = odd-share port m p group before x o lists in
         let turned : keep (favoursFirst a b) group ≡ keep (λ q. not (f q)) group = keep-alike (favoursFirst a b) (λ q. not (f q)) group
         (group-every (λ q. favoursFirst a b q ≡ not (f q)) p group x
         (λ q j. reached-closed (mate port m) p (Agrees not) (x .odd-count, e) (agree-on not (λ y. refl)) q j .1)) in
         let parts = keep-parts f group in
-        one-larger (length group) (length (keep f group)) (length (keep (λ q. not (f q)) group)) parts o
-        (sym (ap (λ (l : List ℕ). ltb (length group) (2 * length l)) turned) ∙ same)
-      where
-        one-larger : (n x y : ℕ) → x + y ≡ n → n % 2 ≡ 1 → ltb n (2 * y) ≡ ltb n (2 * x) → ⊥
-        one-larger n x y e o d =
-            byBool (ltb n (2 * x))
-            (λ k. let g = ltb-true n (2 * x) k in let h = ltb-true n (2 * y) (d ∙ k) in omega arith)
-            (λ k. let g = ltb-false n (2 * x) k in let h = ltb-false n (2 * y) (d ∙ k) in omega arith)
+        let others = ap length turned in
+        byEq (suc (length before) % 2) 1
+        (λ h. let more = rule .0 h in omega arith)
+        (λ h. let less : suc (length before) % 2 ≡ 0 = omega arith in let more = rule .1 less in omega arith)
 
     -- so the first count of a group favours what the function says
     first-agrees : (p : ℕ) (group : List ℕ) → Group port m p group → favoursFirst a b p ≡ eqb (colour p) 1

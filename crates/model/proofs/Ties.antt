@@ -5,9 +5,9 @@ use mathlib.Core.Logic.{_≢_}
 use mathlib.Core.List.{List}
 use mathlib.Core.Bool.{Bool, true, false}
 use native.Mathlib.Omega.{arith}
-use lib.Dec.{eqb, ltb}
+use lib.Dec.{eqb}
 use lib.ListN.{length, getD}
-use borrow.Author.Tests.{eqb-true, eqb-false, eq-eqb, ne-eqb, lt-ltb, le-ltb}
+use borrow.Author.Tests.{eqb-true, eqb-false, eq-eqb, ne-eqb}
 use Rattle.model.specs.Words.{bit, upFrom, keep, sumTo, Every}
 use Rattle.model.specs.Rules.{Side, inputs, outputs, odd, Joined, Lists, Group, OddGroup}
 use Rattle.model.specs.Schedule.{favouring, favours}
@@ -127,9 +127,9 @@ module _ (port : Side → ℕ → ℕ) (m : List ℕ) where
         yes = λ q e. takes-cases m (mate port m) (pairings port m) q
             (λ t.
             let g = members m (mate port m) (pairings port m) q t in
-            record { group = g; taken = taken-group q t; odd-number = sym (parity q g (taken-group q t)) ∙ eqb-true (settledAt q % 2) 1 e })
+            record { group = g; taken = taken-group q t; odd-number = omega (arith, parity q g (taken-group q t), eqb-true (settledAt q % 2) 1 e) })
             (λ _ k. let z = eqb-true (settledAt q % 2) 1 e in absurd (none q k z));
-        no = λ q e x. eqb-false (settledAt q % 2) 1 e (parity q (x .group) (x .taken) ∙ x .odd-number);
+        no = λ q e x. eqb-false (settledAt q % 2) 1 e (omega (arith, parity q (x .group) (x .taken), x .odd-number));
         listed = refl;
       }
     where
@@ -155,13 +155,10 @@ module _ (port : Side → ℕ → ℕ) (m : List ℕ) where
         ∙ ap (λ (k : ℕ). k % 2 + second-half p) (kept-length odd-test p)
         ∙ turns p
 
-    -- the first half has more of the first, third, fifth, .. of them
-    pub odd-favours : ltb (length group) (2 * length (keep (λ q. eqb (getD (favours port m) q 0) 1) group)) ≡ eqb (suc (length before) % 2) 1
-    odd-favours =
+    -- the first half has one count more of the first, third, fifth, .. of them, and the second of the others
+    pub odd-share : 2 * length (keep (λ q. eqb (getD (favours port m) q 0) 1) group) + 1 ≡ length group + 2 * (suc (length before) % 2)
+    odd-share =
         let l = state-level m (mate port m) (pairings port m) (suc p) in
-        let t = turn in
-        let s = size p group x in
-        let f = share p group x in
         byEq (length before % 2) 0
-        (λ e. rw (eq-eqb (suc (length before) % 2) 1 (omega arith)) (lt-ltb (length group) (2 * length (keep (λ q. eqb (getD (favours port m) q 0) 1) group)) (omega arith)))
-        (λ e. rw (ne-eqb (suc (length before) % 2) 1 (omega arith)) (le-ltb (length group) (2 * length (keep (λ q. eqb (getD (favours port m) q 0) 1) group)) (omega arith)))
+        (λ e. let n : suc (length before) % 2 ≡ 1 = omega arith in omega (arith, turn, size p group x, share p group x))
+        (λ e. let n : suc (length before) % 2 ≡ 0 = omega arith in omega (arith, turn, size p group x, share p group x))

@@ -58,9 +58,10 @@ pub record OddGroup (port : Side → ℕ → ℕ) (m : List ℕ) (p : ℕ) : Typ
 abbrev pub favoursFirst : List ℕ → List ℕ → ℕ → Bool
 favoursFirst a b p = ltb (getD b p 0) (getD a p 0)
 
--- The first half has the larger share of a group if more than half of its counts favour it.
-abbrev pub largerFirst : List ℕ → List ℕ → List ℕ → Bool
-largerFirst a b group = ltb (length group) (2 * length (keep (favoursFirst a b) group))
+-- The n-th group with an odd number of counts has so many in all, of which so many favour the first half: these are more than
+-- half of it if n is 1, 3, 5, .., else less.
+abbrev pub LargerShare : ℕ → ℕ → ℕ → Type 0
+LargerShare n all firsts = (n % 2 ≡ 1 → all < 2 * firsts) × (n % 2 ≡ 0 → 2 * firsts < all)
 
 -- The counts m of a block, shared between its halves, a and b, over the port of each position on each side.
 pub record Split (port : Side → ℕ → ℕ) (m a b : List ℕ) : Type 0 where
@@ -73,10 +74,10 @@ pub record Split (port : Side → ℕ → ℕ) (m a b : List ℕ) : Type 0 where
   pub opposite : (s : Side) (x p q : ℕ) → Partners (oddsAt (port s) m x) p q → favoursFirst a b p ≡ not (favoursFirst a b q)
   -- Rule 5, the tie rule: in a group with an even number of counts the first one gives its extra cell to the first half.
   pub even-group : (p : ℕ) (group : List ℕ) → Group port m p group → length group % 2 ≡ 0 → favoursFirst a b p ≡ true
-  -- Of a group with an odd number one half has one count more: the first half if the group is the first, third, fifth, .. of
-  -- such groups in the block, else the second. Its number among them is one more than of those taken before it.
+  -- A group with an odd number gives its larger share to the first half if it is the first, third, fifth, .. of such groups in
+  -- the block, else to the second. Its number among them is one more than of those taken before it.
   pub odd-group : (p : ℕ) (group before : List ℕ) → Group port m p group → length group % 2 ≡ 1 → Lists p (OddGroup port m) before
-      → largerFirst a b group ≡ eqb (suc (length before) % 2) 1
+      → LargerShare (suc (length before)) (length group) (length (keep (favoursFirst a b) group))
 
 -- Rule 6: the counts of a block of one slot are the slot's cells.
 pub record Slot (ports : ℕ) (m bytes : List ℕ) : Type 0 where
