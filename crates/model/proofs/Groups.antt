@@ -17,7 +17,8 @@ use Rattle.model.proofs.Sums.{sum-ext, sum-add}
 use Rattle.model.proofs.Kept.{keep-keep, kept-length}
 use Rattle.model.proofs.Partners.{rule-partner, partner-rule}
 use Rattle.model.proofs.Walks.{Good, Pairing, walk-on, walk-off}
-use Rattle.model.proofs.Shares.{favouring-sum, Level}
+use Rattle.model.proofs.Favouring.{favouring-sum}
+use Rattle.model.proofs.Shares.{Level}
 use Rattle.model.proofs.Settled.{Settled, Keeps, Taken, settle-cases, scan, scan-settled, scan-keeps, scan-done, scan-level, partner-pairing, mate, zero-at}
 
 -- what is reached from p by partners

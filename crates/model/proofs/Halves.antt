@@ -1,10 +1,10 @@
 -- Loads of halves: for each pair, input and output and for the total they sum to the whole and differ by at most 1, and what
 -- fits twice the slots splits into what fits them.
-use Prim.Native.Nat.{ℕ, suc, zero, _+_, _*_, _/_, _%_, _≤_, _<_}
+use Prim.Native.Nat.{ℕ, _+_, _*_, _/_, _%_, _≤_, _<_}
 use mathlib.Core.Path.{_≡_, sym, ap, _∙_}
 use mathlib.Core.Logic.{_≢_}
 use mathlib.Core.List.{List, [], _∷_}
-use mathlib.Core.Bool.{Bool, true, false, not}
+use mathlib.Core.Bool.{Bool, true, not}
 use native.Mathlib.Omega.{arith}
 use native.Mathlib.Nat.{mod-lt, div-lt-iff-lt-mul}
 use lib.Arith.{digits-div, digits-mod}
@@ -19,7 +19,7 @@ use Rattle.model.proofs.Cases.{byBool}
 use Rattle.model.proofs.Sums.{sum-ext, sum-add, sum-zero, sum-one, sum-rows}
 use Rattle.model.proofs.Kept.{sumIf, sumOver, kept-sum}
 use Rattle.model.proofs.Partners.{every-map, AtPort, odds-every}
-use Rattle.model.proofs.Shares.{favouring-sum}
+use Rattle.model.proofs.Favouring.{favouring-sum}
 use Rattle.model.proofs.Settled.{favours-law, favours-level}
 use Rattle.model.proofs.Splits.{half-at, more, less, alike, only-split}
 

@@ -5,6 +5,7 @@ pub mod Kept
 pub mod Searches
 pub mod Levels
 pub mod Partners
+pub mod Favouring
 pub mod Walks
 pub mod Shares
 pub mod Settled

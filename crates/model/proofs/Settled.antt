@@ -1,6 +1,6 @@
 -- Settling: after the scan every odd count is settled, no even one, and partners favour opposite halves.
 use Prim.Native.Nat.{ℕ, suc, zero, _+_, _≤_, _<_}
-use mathlib.Core.Path.{_≡_, refl, sym, ap, _∙_, subst}
+use mathlib.Core.Path.{_≡_, refl, sym, ap, _∙_}
 use mathlib.Core.Logic.{_≢_}
 use mathlib.Core.List.{List}
 use mathlib.Core.Bool.{true, false, true≢false}
@@ -12,9 +12,10 @@ use borrow.Author.Tests.{eqb-true, eq-eqb}
 use Rattle.model.specs.Words.{if, both, upFrom}
 use Rattle.model.specs.Rules.{Side, inputs, outputs, odd}
 use Rattle.model.specs.Schedule.{partner, walk, groupOf, favouring, level, settleAt, settle, favours}
-use Rattle.model.proofs.Cases.{byBool, byEq, both-true, both-false, is-no, within-yes, within-true}
+use Rattle.model.proofs.Cases.{byBool, byEq, both-true, both-false, within-yes, within-true}
 use Rattle.model.proofs.Partners.{odd-lt, partner-at, partner-twice}
-use Rattle.model.proofs.Walks.{Good, Pairing, Fine, Walked, zeros-lt, grow, grow-fine, walk-keeps, walk-law}
+use Rattle.model.proofs.Favouring.{none-favour, unsettled-less}
+use Rattle.model.proofs.Walks.{Good, Pairing, Fine, Walked, grow, grow-fine, walk-keeps, walk-law}
 use Rattle.model.proofs.Shares.{Shared, group-shares, Level, EvenMore, level-two, odd-two}
 
 -- what is settled is odd, and each settled count's partner is settled with the other half
@@ -45,10 +46,6 @@ start-settled m i o =
       outs = λ q s. absurd (s (zero-at (length m) q));
     }
 
-pub none-favour : (h n : ℕ) → h ≢ 0 → favouring h (replicate n 0) ≡ 0
-none-favour h zero n = refl
-none-favour h (suc k) n = omega (arith, none-favour h k n, is-no 0 h (λ e. n (sym e)))
-
 module _ (m : List ℕ) (i o : ℕ → ℕ) (pi : Pairing (odd m) i) (po : Pairing (odd m) o) where
   -- from an odd count p, not settled
   module _ (h : ℕ) (low : 1 ≤ h) (high : h ≤ 2) (p : ℕ) (c : List ℕ) (od : odd m p ≡ true) (z : getD c p 0 ≡ 0) (st : Settled m i o c) where
@@ -69,7 +66,7 @@ module _ (m : List ℕ) (i o : ℕ → ℕ) (pi : Pairing (odd m) i) (po : Pairi
           at-x = λ h. absurd (omega arith);
           at-y = λ h. e;
         })
-        (omega (arith, zeros-lt (set c p h) p (omega arith), length-set c p h, st .fine .len))
+        (omega (arith, unsettled-less (set c p h) p (omega arith), length-set c p h, st .fine .len))
 
     start-in : getD (walk (length m) i o p h (set c p h)) p 0 ≡ h
     start-in = let e = start in walk-keeps (length m) i o p h (set c p h) p (omega arith) ∙ e
@@ -90,7 +87,7 @@ module _ (m : List ℕ) (i o : ℕ → ℕ) (pi : Pairing (odd m) i) (po : Pairi
           at-x = λ h. absurd (omega arith);
           at-y = λ h. absurd (omega arith);
         })
-        (omega (arith, zeros-lt c2 p (omega arith), w .fine .len))
+        (omega (arith, unsettled-less c2 p (omega arith), w .fine .len))
 
     pub group-settled : Settled m i o (groupOf i o m h p c)
     group-settled =

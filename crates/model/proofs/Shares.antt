@@ -2,35 +2,15 @@
 use Prim.Native.Nat.{ℕ, suc, zero, _+_, _*_, _-_, _/_, _%_, _≤_, _<_}
 use mathlib.Core.Path.{_≡_, refl, sym, ap, _∙_}
 use mathlib.Core.Logic.{_≢_}
-use mathlib.Core.List.{List, [], _∷_}
+use mathlib.Core.List.{List}
 use mathlib.Core.Bool.{Bool, true}
 use native.Mathlib.Omega.{arith}
-use lib.Dec.{eqb}
 use lib.ListN.{length, getD, set, length-set}
 use lib.Seq.{getD-set-same, getD-set-other}
-use Rattle.model.specs.Words.{bit, sumTo}
 use Rattle.model.specs.Schedule.{walk, groupOf, favouring}
-use Rattle.model.proofs.Cases.{byEq, byLt, Within, is-yes, is-no}
-use Rattle.model.proofs.Sums.{sum-none, sum-shift}
+use Rattle.model.proofs.Cases.{byEq, byLt, Within}
+use Rattle.model.proofs.Favouring.{favouring-more, favouring-same}
 use Rattle.model.proofs.Walks.{Pairing, walk-on, walk-off, walk-length}
-
--- ---- how many counts favour a half
-pub favouring-sum : (h : ℕ) (c : List ℕ) → favouring h c ≡ sumTo (length c) (λ q. bit (eqb (getD c q 0) h))
-favouring-sum h [] = sym (sum-none _)
-favouring-sum h (x ∷ c) = omega (arith, favouring-sum h c, sum-shift (length c) (λ q. bit (eqb (getD (x ∷ c) q 0) h)))
-
-favouring-set : (h : ℕ) (c : List ℕ) (q v : ℕ) → q < length c → getD c q 0 ≡ 0 → h ≢ 0 → favouring h (set c q v) ≡ bit (eqb v h) + favouring h c
-favouring-set h [] q v l z n = absurd (omega arith)
-favouring-set h (x ∷ c) zero v l z n = omega (arith, is-no x h (λ e. n (sym e ∙ z)))
-favouring-set h (x ∷ c) (suc q) v l z n = omega (arith, favouring-set h c q v (omega arith) z n)
-
--- of a count newly settled: one more for its half, none for another
-module _ (h : ℕ) (c : List ℕ) (q v : ℕ) (l : q < length c) (z : getD c q 0 ≡ 0) (n : h ≢ 0) where
-  pub favouring-more : v ≡ h → favouring h (set c q v) ≡ favouring h c + 1
-  favouring-more e = omega (arith, favouring-set h c q v l z n, is-yes v h e)
-
-  pub favouring-same : v ≢ h → favouring h (set c q v) ≡ favouring h c
-  favouring-same e = omega (arith, favouring-set h c q v l z n, is-no v h e)
 
 -- ---- the same counts are settled
 pub record Alike (c d : List ℕ) : Type 0 where

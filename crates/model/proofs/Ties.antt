@@ -3,7 +3,7 @@ use Prim.Native.Nat.{ℕ, suc, zero, _+_, _*_, _%_, _≤_, _<_}
 use mathlib.Core.Path.{_≡_, refl, sym, ap, _∙_}
 use mathlib.Core.Logic.{_≢_}
 use mathlib.Core.List.{List}
-use mathlib.Core.Bool.{Bool, true, false}
+use mathlib.Core.Bool.{Bool, true}
 use native.Mathlib.Omega.{arith}
 use lib.Dec.{eqb}
 use lib.ListN.{length, getD}
@@ -11,12 +11,12 @@ use borrow.Author.Tests.{eqb-true, eqb-false, eq-eqb, ne-eqb}
 use Rattle.model.specs.Words.{bit, upFrom, keep, sumTo, Every}
 use Rattle.model.specs.Rules.{Side, inputs, outputs, odd, Joined, Lists, Group, OddGroup}
 use Rattle.model.specs.Schedule.{favouring, favours}
-use Rattle.model.proofs.Cases.{byBool, byEq, is-yes, is-no}
+use Rattle.model.proofs.Cases.{byBool, byEq}
 use Rattle.model.proofs.Sums.{sum-none, sum-more}
 use Rattle.model.proofs.Kept.{keep-same, kept-length}
 use Rattle.model.proofs.Partners.{odd-lt, every-map, keep-every}
-use Rattle.model.proofs.Shares.{Level, EvenMore}
-use Rattle.model.proofs.Settled.{Keeps, Taken, mate, none-favour, group-first, favours-scan, favours-law}
+use Rattle.model.proofs.Favouring.{none-favour}
+use Rattle.model.proofs.Settled.{Keeps, mate, group-first, favours-scan, favours-law}
 use Rattle.model.proofs.Groups.{Reached, reached-joined, joined-reached, pairings, state, state-settled, state-keeps, state-level, Takes, takes-cases, takes-first, taken-before, first-takes, member, member-yes, member-no, members, members-size, members-share}
 
 -- ---- lists of numbers of which something holds

@@ -2,40 +2,15 @@
 use Prim.Native.Nat.{ℕ, suc, zero, _+_, _-_, _≤_, _<_}
 use mathlib.Core.Path.{_≡_, refl, sym, ap, _∙_, subst}
 use mathlib.Core.Logic.{_≢_}
-use mathlib.Core.List.{List, [], _∷_}
+use mathlib.Core.List.{List}
 use mathlib.Core.Bool.{Bool, true}
 use native.Mathlib.Omega.{arith}
 use lib.ListN.{length, getD, set, length-set}
 use lib.Seq.{getD-set-same, getD-set-other}
 use borrow.Author.Tests.{eq-eqb, ne-eqb}
-use Rattle.model.specs.Schedule.{walk}
+use Rattle.model.specs.Schedule.{walk, favouring}
 use Rattle.model.proofs.Cases.{byEq}
-
--- ---- fuel: the counts not settled
-abbrev pub zeros : List ℕ → ℕ
-zeros [] = 0
-zeros (zero ∷ l) = suc (zeros l)
-zeros (suc x ∷ l) = zeros l
-
-pub zeros-le : (c : List ℕ) → zeros c ≤ length c
-zeros-le [] = omega arith
-zeros-le (zero ∷ l) = let r = zeros-le l in omega arith
-zeros-le (suc x ∷ l) = let r = zeros-le l in omega arith
-
-pub zeros-lt : (c : List ℕ) (q : ℕ) → getD c q 0 ≢ 0 → zeros c < length c
-zeros-lt [] q n = absurd (n refl)
-zeros-lt (zero ∷ l) zero n = absurd (n refl)
-zeros-lt (suc x ∷ l) zero n = let r = zeros-le l in omega arith
-zeros-lt (zero ∷ l) (suc q) n = let r = zeros-lt l q n in omega arith
-zeros-lt (suc x ∷ l) (suc q) n = let r = zeros-lt l q n in omega arith
-
-pub zeros-set : (c : List ℕ) (q v : ℕ) → q < length c → getD c q 0 ≡ 0 → v ≢ 0 → suc (zeros (set c q v)) ≡ zeros c
-zeros-set [] q v h e n = absurd (omega arith)
-zeros-set (x ∷ l) zero zero h e n = absurd (n refl)
-zeros-set (zero ∷ l) zero (suc v) h e n = refl
-zeros-set (suc x ∷ l) zero (suc v) h e n = absurd (omega arith)
-zeros-set (zero ∷ l) (suc q) v h e n = ap suc (zeros-set l q v (omega arith) e n)
-zeros-set (suc x ∷ l) (suc q) v h e n = zeros-set l q v (omega arith) e n
+use Rattle.model.proofs.Favouring.{settled-less}
 
 -- ---- what a walk keeps
 abbrev pub Good : (ℕ → ℕ) → List ℕ → ℕ → Type 0
@@ -177,7 +152,7 @@ module _ (n : ℕ) (od : ℕ → Bool) (od-lt : (p : ℕ) → od p ≡ true → 
       at-new : Good go c′ q
       at-new s m = let a = ap (λ (t : ℕ). getD c′ t 0) (pg .twice p) in omega (arith, same, old)
 
-  pub walk-law : (k : ℕ) (go back : ℕ → ℕ) (p h x y : ℕ) (c : List ℕ) → Pairing od go → Pairing od back → Walking n od go back p h x y c → zeros c < k
+  pub walk-law : (k : ℕ) (go back : ℕ → ℕ) (p h x y : ℕ) (c : List ℕ) → Pairing od go → Pairing od back → Walking n od go back p h x y c → favouring 0 c < k
       → Walked n od go back x y (walk k go back p h c)
   walk-law zero go back p h x y c pg pb w z = absurd (omega arith)
   walk-law (suc k) go back p h x y c pg pb w z =
@@ -185,7 +160,7 @@ module _ (n : ℕ) (od : ℕ → Bool) (od-lt : (p : ℕ) → od p ≡ true → 
       (λ e.
       let w′ = walk-step go back p h x y c pg w e in
       let l = od-lt (go p) (pg .odds p (w .fine .odds p (omega arith))) in
-      let f = zeros-set c (go p) (3 - h) (omega arith) e (omega arith) in
+      let f = settled-less c (go p) (3 - h) (omega arith) e (omega arith) in
       let r = walk-law k back go (go p) (3 - h) y x (set c (go p) (3 - h)) pb pg w′ (omega arith) in
       rw (walk-on k go back p h c e) (record { fine = r .fine; goes = r .backs; backs = r .goes }))
       (λ e. rw (walk-off k go back p h c e) (walk-stop go back p h x y c pg w e))

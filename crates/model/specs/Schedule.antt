@@ -28,7 +28,7 @@ walk (suc n) go back p h c =
 abbrev pub groupOf : (ℕ → ℕ) → (ℕ → ℕ) → List ℕ → ℕ → ℕ → List ℕ → List ℕ
 groupOf i o m h p c = walk (length m) o i p h (walk (length m) i o p h (set c p h))
 
--- How many counts favour half h.
+-- How many counts favour half h; with 0, how many are not settled.
 abbrev pub favouring : ℕ → List ℕ → ℕ
 favouring h [] = 0
 favouring h (x ∷ c) = bit (eqb x h) + favouring h c

@@ -15,8 +15,9 @@ use Rattle.model.specs.Schedule.{partnerIn, partner, walk, groupOf, favouring, 
 use Rattle.model.proofs.Cases.{byBool, byEq, byLt}
 use Rattle.model.proofs.Partners.{odd-lt, every-map, keep-every}
 use Rattle.model.proofs.Kept.{keep-same, keep-keep}
-use Rattle.model.proofs.Walks.{zeros, zeros-set, zeros-le, walk-on, walk-off, walk-length}
-use Rattle.model.proofs.Settled.{partner-pairing, favours-law, none-favour}
+use Rattle.model.proofs.Favouring.{none-favour, settled-less, unsettled-most}
+use Rattle.model.proofs.Walks.{walk-on, walk-off, walk-length}
+use Rattle.model.proofs.Settled.{partner-pairing, favours-law}
 use Rattle.model.proofs.Splits.{half-length}
 use Rattle.split.specs.Steps.{Wide, lookup, tabled, Sides, Tables, oddsBelow, portIn, thoseAt, mateAmong, Linked, walked, bothWays, groupSettled, allSettled, SettledBy, halvedBy, halved}
 use Rattle.split.proofs.Lists.{every-kept}
@@ -25,8 +26,8 @@ use Rattle.split.proofs.Walked.{walk-end}
 use Rattle.split.proofs.Linked.{Mated, none-at}
 
 -- ---- walks
-none-zero : (c : List ℕ) (q : ℕ) → zeros c ≤ 0 → q < length c → getD c q 0 ≢ 0
-none-zero c q z h e = let a = zeros-set c q 1 h e (omega arith) in omega arith
+none-zero : (c : List ℕ) (q : ℕ) → favouring 0 c ≤ 0 → q < length c → getD c q 0 ≢ 0
+none-zero c q z h e = let a = settled-less c q 1 h e (omega arith) in omega arith
 
 module _ (n : ℕ) (od : ℕ → Bool) (od-lt : (p : ℕ) → od p ≡ true → p < n) where
   -- f does as the pairing g where od holds
@@ -35,7 +36,7 @@ module _ (n : ℕ) (od : ℕ → Bool) (od-lt : (p : ℕ) → od p ≡ true → 
 
   -- a walk among the first n of a longer list, with fuel for all that is not settled
   walk-take : (go back go′ back′ : ℕ → ℕ) → Does go go′ → Does back back′ → (j k p h : ℕ) (c : List ℕ) → n ≤ length c
-      → od p ≡ true → 1 ≤ h → h ≤ 2 → zeros c ≤ j → zeros (take n c) ≤ k
+      → od p ≡ true → 1 ≤ h → h ≤ 2 → favouring 0 c ≤ j → favouring 0 (take n c) ≤ k
       → take n (walk j go back p h c) ≡ walk k go′ back′ p h (take n c)
   unfolding walk
   walk-take go back go′ back′ dg db zero k p h c l o low high zj zk =
@@ -57,10 +58,10 @@ module _ (n : ℕ) (od : ℕ → Bool) (od-lt : (p : ℕ) → od p ≡ true → 
       byEq (getD c (go′ p) 0) 0
       (λ e.
       let e′ : getD c (go p) 0 ≡ 0 = rw f e in
-      let z1 = zeros-set c (go′ p) (3 - h) (omega arith) e (omega arith) in
-      let z2 = zeros-set (take n c) (go′ p) (3 - h) (omega arith) (g ∙ e) (omega arith) in
+      let z1 = settled-less c (go′ p) (3 - h) (omega arith) e (omega arith) in
+      let z2 = settled-less (take n c) (go′ p) (3 - h) (omega arith) (g ∙ e) (omega arith) in
       let s = take-set-lt n c (go′ p) (3 - h) q-lt in
-      let zk′ : zeros (take n (set c (go′ p) (3 - h))) ≤ k = rw s (omega arith) in
+      let zk′ : favouring 0 (take n (set c (go′ p) (3 - h))) ≤ k = rw s (omega arith) in
       ap (take n) (walk-on j go back p h c e′ ∙ ap (λ (q : ℕ). walk j back go q (3 - h) (set c q (3 - h))) f)
       ∙ walk-take back go back′ go′ db dg j k (go′ p) (3 - h) (set c (go′ p) (3 - h)) (rw (length-set c (go′ p) (3 - h)) l) (dg p o .1) (omega arith) (omega arith) (omega arith) zk′
       ∙ ap (λ (d : List ℕ). walk k back′ go′ (go′ p) (3 - h) d) s
@@ -73,7 +74,7 @@ module _ (n : ℕ) (od : ℕ → Bool) (od-lt : (p : ℕ) → od p ≡ true → 
       → (p h : ℕ) (c : List ℕ) → n ≤ length c → od p ≡ true → 1 ≤ h → h ≤ 2
       → take n (walked go back p h c) ≡ walk n go′ back′ p h (take n c)
   walked-take go back go′ back′ dg db p h c l o low high =
-      walk-take (lookup go) (lookup back) go′ back′ dg db (length c) n p h c l o low high (zeros-le c) (omega (arith, zeros-le (take n c), length-take-le n c l))
+      walk-take (lookup go) (lookup back) go′ back′ dg db (length c) n p h c l o low high (unsettled-most c) (omega (arith, unsettled-most (take n c), length-take-le n c l))
 
   -- and nothing behind them is touched
   walk-drop : (go back go′ back′ : ℕ → ℕ) → Does go go′ → Does back back′ → (j p h : ℕ) (c : List ℕ) → od p ≡ true → drop n (walk j go back p h c) ≡ drop n c

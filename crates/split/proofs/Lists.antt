@@ -5,7 +5,7 @@ use mathlib.Core.List.{List, [], _∷_, _++_}
 use mathlib.Core.Bool.{Bool, true}
 use native.Mathlib.Omega.{arith}
 use lib.ListN.{length, getD, take}
-use Rattle.model.specs.Words.{if, both, upFrom, keep, Every}
+use Rattle.model.specs.Words.{if, upFrom, keep, Every}
 use Rattle.model.proofs.Cases.{byBool, byEq}
 
 -- what holds after i turns holds after n, where the loop was left at n

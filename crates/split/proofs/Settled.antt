@@ -7,14 +7,12 @@ use mathlib.Core.Bool.{true, false}
 use native.Mathlib.Omega.{arith}
 use native.Mathlib.Numerals.{add-one}
 use borrow.Author.Tests.{eq-eqb, ne-eqb}
-use lib.Dec.{eqb}
 use lib.ListN.{length, getD, set, take, replicate, length-set}
 use lib.Seq.{take-suc, take-suc-set, getD-set-same, set-set}
-use Rattle.model.specs.Words.{if}
 use Rattle.model.specs.Schedule.{favouring, level}
-use Rattle.model.proofs.Cases.{byBool, byEq, byLt, within-yes, within-below, within-above}
-use Rattle.model.proofs.Walks.{zeros-set, zeros-le}
-use Rattle.model.proofs.Shares.{favouring-more, favouring-same, same-shares}
+use Rattle.model.proofs.Cases.{byEq, within-yes, within-below, within-above}
+use Rattle.model.proofs.Favouring.{settled-less, unsettled-most, favouring-more, favouring-same}
+use Rattle.model.proofs.Shares.{same-shares}
 use Rattle.split.specs.Steps.{Wide, walked, Listed, Walks, turned, otherHalf, bothWays, groupSettled, largerHalf, Turn, Settles, allSettled, SettledBy}
 use Rattle.split.proofs.Lists.{at-end}
 use Rattle.split.proofs.Turned.{turned-length}
@@ -57,7 +55,7 @@ module _ (i o : List ℕ) {p half : ℕ} {c : List ℕ} (len : Wide c) (t : Turn
         record {
           size = length-set group 0 p ∙ size;
           len = length-set c p 1 ∙ len;
-          room = let a = zeros-set c p 1 (omega arith) z (omega arith) in let b = zeros-le c in omega arith;
+          room = let a = settled-less c p 1 (omega arith) z (omega arith) in let b = unsettled-most c in omega arith;
           settled = rw at-first ((λ e. let a = getD-set-same c p 1 0 (omega arith) in omega arith), tt);
         }
 

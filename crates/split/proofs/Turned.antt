@@ -1,5 +1,5 @@
 -- Counts that are listed as they are settled, and turned round.
-use Prim.Native.Nat.{ℕ, suc, zero, _+_, _≤_, _<_}
+use Prim.Native.Nat.{ℕ, _+_, _≤_, _<_}
 use mathlib.Core.Path.{_≡_, refl, sym, ap, _∙_}
 use mathlib.Core.Logic.{_≢_}
 use mathlib.Core.List.{List, [], _∷_, _++_}
@@ -8,10 +8,10 @@ use native.Mathlib.Numerals.{add-one}
 use lib.Dec.{eqb}
 use lib.ListN.{length, getD, set, take, length-set, List·getD-eq-default}
 use lib.Seq.{take-suc, take-suc-set, getD-set-same, getD-set-other, set-set, set-comm}
-use Rattle.model.specs.Words.{if, Every}
+use Rattle.model.specs.Words.{Every}
 use Rattle.model.proofs.Cases.{byBool, byEq, byLt}
 use Rattle.model.proofs.Partners.{every-map}
-use Rattle.model.proofs.Walks.{zeros, zeros-set}
+use Rattle.model.proofs.Favouring.{settled-less}
 use Rattle.split.specs.Steps.{Wide, otherHalf, turned, Listed}
 use Rattle.split.proofs.Lists.{at-end, every-snoc}
 
@@ -66,7 +66,7 @@ module _ {n : ℕ} {group c : List ℕ} (g : Listed n group c) (q : ℕ) where
 
     module _ (q-lt : q < 256) where
       pub listed-room : n < 256
-      listed-room = let a = zeros-set c q 1 (omega (arith, g .len)) z (omega arith) in omega (arith, g .room)
+      listed-room = let a = settled-less c q 1 (omega (arith, g .len)) z (omega arith) in omega (arith, g .room)
 
       more : take (n + 1) (set group n q) ≡ take n group ++ (q ∷ [])
       more = rw add-one (take-suc-set group n q (omega (arith, g .size, listed-room)))
@@ -76,7 +76,7 @@ module _ {n : ℕ} {group c : List ℕ} (g : Listed n group c) (q : ℕ) where
           record {
             size = length-set group n q ∙ g .size;
             len = length-set c q v ∙ g .len;
-            room = omega (arith, zeros-set c q v (omega (arith, g .len)) z m, g .room);
+            room = omega (arith, settled-less c q v (omega (arith, g .len)) z m, g .room);
             settled = rw more
                 (every-snoc (λ r. getD (set c q v) r 0 ≢ 0) (take n group) q
                 (every-map (λ r. getD c r 0 ≢ 0) (λ r. getD (set c q v) r 0 ≢ 0) (λ r s. set-settled c q v r m s) (take n group) (g .settled))

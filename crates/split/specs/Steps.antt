@@ -8,7 +8,6 @@ use lib.ListN.{length, getD, set, take, drop}
 use Rattle.model.specs.Words.{if, keep, upFrom, Every}
 use Rattle.model.specs.Rules.{Side, inputs, outputs, portOf, odd}
 use Rattle.model.specs.Schedule.{partnerIn, walk, favouring, level, halfBy, halfOf}
-use Rattle.model.proofs.Walks.{zeros}
 
 -- ---- positions
 -- A list has room for the positions of the largest matrix.
@@ -85,7 +84,7 @@ turned (q ∷ l) c = turned l (set c q (otherHalf (getD c q 0)))
 pub record Listed (n : ℕ) (group c : List ℕ) : Type 0 where
   pub size : Wide group
   pub len : Wide c
-  pub room : n + zeros c ≤ 256
+  pub room : n + favouring 0 c ≤ 256
   pub settled : Every (λ q. getD c q 0 ≢ 0) (take n group)
 
 -- A walk from a count that favours the first half lists what it settles: c is what is left with n counts listed; and with

@@ -18,7 +18,7 @@ use Rattle.model.specs.Words.{bit, within, upFrom, sumTo}
 use Rattle.model.specs.Loads.{Class, pair, input, output, total, Of}
 use Rattle.model.specs.Frames.{counts, cells, runOf}
 use Rattle.model.proofs.Cases.{byBool, byEq, byLt, within-yes, within-above, within-true, is-yes, is-no}
-use Rattle.model.proofs.Sums.{sum-none, sum-more, sum-most, sum-zero, sum-ext}
+use Rattle.model.proofs.Sums.{sum-none, sum-more, sum-most, sum-zero}
 use Rattle.model.proofs.Settled.{zero-at}
 use Rattle.model.proofs.Inspected.{position-of}
 use Rattle.model.proofs.Cells.{cells-slot, cells-none, cells-run, run-none, run-length}

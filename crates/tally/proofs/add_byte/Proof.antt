@@ -1,7 +1,5 @@
-use mathlib.Core.Path.{sym, ap}
 use native.Mathlib.Omega.{arith}
 use borrow.Author.Needs.{needs}
-use borrow.Author.Tests.{eq-eqb, ne-eqb}
 use Rattle.tally.proofs.Tallies.{adds-idle, adds-cell, no-cell, one-cell, row-fits, pair-low, pair-fits, input-low, output-low, room-less, room-one, room-two}
 use Rattle.tally.proofs.add_byte.Statement.{statement}
 use Rattle.tally.proofs.add_byte.Tie as tie

@@ -1,4 +1,3 @@
-use mathlib.Core.Path.{sym}
 use borrow.Author.Tests.{eq-eqb, ne-eqb}
 use Rattle.split.proofs.groups.larger_half.Statement.{statement}
 use Rattle.split.proofs.groups.larger_half.Tie as tie

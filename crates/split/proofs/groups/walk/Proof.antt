@@ -1,5 +1,5 @@
 use borrow.Author.Needs.{needs}
-use Rattle.model.proofs.Walks.{zeros}
+use Rattle.model.specs.Schedule.{favouring}
 use Rattle.split.proofs.Walked.{Walking, walking-start, walking-stop, walking-room, walking-stop-2, walking-room-2, walking-on, walking-less}
 use Rattle.split.proofs.groups.walk.Statement.{statement}
 use Rattle.split.proofs.groups.walk.Tie as tie
@@ -8,7 +8,7 @@ abbrev Inv-loop : tie.InvT-loop
 Inv-loop start near far count group₀ favoured₀ n₀ p₀ group favoured n p = Walking near far start count group₀ favoured₀ p n group favoured
 
 abbrev μ-loop : tie.MeasureT-loop
-μ-loop start near far count group₀ favoured₀ n₀ p₀ group favoured n p = zeros favoured
+μ-loop start near far count group₀ favoured₀ n₀ p₀ group favoured n p = favouring 0 favoured
 
 pub walk-spec : {M : Type 1} → statement M
 walk-spec =
