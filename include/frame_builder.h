@@ -39,7 +39,7 @@
 #include <stdint.h>
 
 /* The version of the project. It stands in this line alone; whatever else says the version reads it from here. */
-#define FRAME_BUILDER_VERSION "2.0.0"
+#define FRAME_BUILDER_VERSION "2.1.0"
 
 /* Limits. */
 #define FRAME_BUILDER_MAX_PORTS 16

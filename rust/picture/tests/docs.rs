@@ -27,6 +27,18 @@ fn table_7() {
     hold("table7", "flow 4 4", "table7-flow");
 }
 
+/// Sixteen one-cell flows: as the tie rule has them, and as the one before it did, which put all of them into slot 1.
+#[test]
+fn one_cell_flows() {
+    hold("sixteen", "frame", "sixteen-after");
+    let cells: String = (1..=16).map(|port| format!(" ({port} {port})")).collect();
+    let idle: String = (2..=16).map(|slot| format!("(slot {slot})\n")).collect();
+    let before = format!("(frame (ports 16) (slots 16))\n(slot 1{cells})\n{idle}");
+    let drawn = draw(&Request::Frame, before.as_bytes()).unwrap();
+    let held = fs::read_to_string(from_top("docs/sixteen-before.svg")).unwrap();
+    assert!(drawn == held, "docs/sixteen-before.svg is out of date");
+}
+
 #[test]
 fn a_full_switch() {
     hold("full", "frame", "full-frame");
