@@ -7,10 +7,10 @@ use reference::wire::{Course, Frame, Whose};
 use crate::build_case::{build_and_compare, lend_bytes, wire_frame};
 use crate::hits::Hits;
 use crate::queue_case::check_queue;
-use crate::share_case::{check_share, class_of, expect_chain, random_class};
+use crate::share_case::{check_every_share, check_share, class_of, expect_chain, random_class};
 use crate::verdict::Verdict;
 
-/// The pairs, inputs and outputs that are looked at on a chain, besides the total.
+/// The pairs, inputs and outputs whose queues and other runs are looked at on a chain, besides those of the total.
 const CLASSES: usize = 8;
 
 loads::kinds! {
@@ -47,6 +47,7 @@ pub fn check_chain(
         chain.extend(std::iter::repeat_n(frame, times));
     }
     expect_chain(&chain)?;
+    check_every_share(&chain, shape.ports as u64)?;
     for whose in counted_on_chain(shape, flow, random) {
         let course = Course::of(&chain, whose);
         check_share(&course, whose, random, hits)?;
