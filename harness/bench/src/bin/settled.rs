@@ -1,4 +1,5 @@
-//! Builds some full loads of 16 × 2^K and prints how many odd counts they settled, for a count of instructions a settled count.
+//! Builds some loads of 16 × 2^K, every port loaded with CELLS, and prints how many odd counts they settled, for a count of
+//! instructions a settled count.
 
 #![forbid(unsafe_code)]
 
@@ -33,13 +34,28 @@ fn settled(block: &[u8]) -> usize {
     odd_pairs(block) + settled(first) + settled(second)
 }
 
+/// K and CELLS; CELLS fills the frame where it is left out.
+fn read_arguments(words: &[String]) -> Option<(usize, usize)> {
+    let (level, cells) = match words {
+        [level] => (level, None),
+        [level, cells] => (level, Some(cells)),
+        _ => return None,
+    };
+    let level = level.parse().ok().filter(|&level: &u32| level <= 10)?;
+    let slots = 1 << level;
+    let cells = match cells {
+        Some(word) => word.parse().ok().filter(|&cells| cells <= slots)?,
+        None => slots,
+    };
+    Some((slots, cells))
+}
+
 fn main() -> ExitCode {
-    let level = std::env::args().nth(1).and_then(|word| word.parse().ok());
-    let Some(level) = level.filter(|&level: &u32| level <= 10) else {
-        eprintln!("settled K, with K from 0 to 10");
+    let words: Vec<String> = std::env::args().skip(1).collect();
+    let Some((slots, cells)) = read_arguments(&words) else {
+        eprintln!("settled K [CELLS], with K from 0 to 10 and CELLS from 0 to 2^K");
         return ExitCode::from(2);
     };
-    let slots = 1 << level;
     let shape = Shape {
         ports: PORTS,
         slots,
@@ -47,10 +63,10 @@ fn main() -> ExitCode {
     let mut random = Random::new(2_026);
     let mut total = 0;
     for _ in 0..LOADS {
-        let call = full_load(shape, slots, &mut random);
+        let call = full_load(shape, cells, &mut random);
         let mut frame = vec![0; PORTS * slots];
         let answer = Library.build(call.ports, call.slots, &call.matrix, &mut frame);
-        assert!(answer.is_ok(), "a full load fits");
+        assert!(answer.is_ok(), "the load fits");
         total += settled(&frame);
     }
     println!("{total}");
