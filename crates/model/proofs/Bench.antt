@@ -13,6 +13,7 @@ use Rattle.model.specs.Frames.{cells, runOf}
 use Rattle.model.specs.Refusals.{admitted}
 use Rattle.model.specs.Schedule.{walk, settleAt, favours, slotOf, frameOf}
 use Rattle.model.specs.Build.{buildChecks, built, left}
+use Rattle.model.specs.Inspect.{tooLarge, twiceIn, usedTwice, wrongCount, unbalanced, unbalancedNumber, unbalancedAt, inspected}
 use Rattle.model.specs.Service.{viewChecks, viewNumber, viewStart, viewSize, viewed, repeated, lead, Reply, countChecks, service}
 use Rattle.model.specs.Wire.{Carried, none, chain, wire, share, Accurate}
 use Rattle.model.specs.Sheet.{text, digits, portsLine, slotsLine, pairLine, lines, numbersFrom, readPairs, loads, readSheet, printSlots, response}
@@ -147,6 +148,10 @@ views slot says =
 counts : Who → ℕ → ℕ → ℕ → ℕ → ℕ → Case
 counts who start len had ahead behind = counting (service 2 2 (2 ∷ 0 ∷ 2 ∷ 1 ∷ []) who start len) (0 ∷ had ∷ []) ahead behind
 
+-- Inspect of a frame of two slots for one cell from each of two ports to its own number.
+inspects : List ℕ → List ℕ → Case
+inspects bytes says = record { gives = inspected 2 2 (1 ∷ 0 ∷ 0 ∷ 1 ∷ []) bytes; says = says }
+
 pub others : List Case
 others =
     -- each refusal of a sheet, by its printed line
@@ -180,8 +185,11 @@ others =
     ∷ counts (Input 2) 2 1 1 1 0
     ∷ counts (Output 1) 2 5 3 1 0
     ∷ counts (Output 2) 2 0 0 0 0
+    -- one cell in each slot, and both in the first: its halves differ by two cells in total, and by one for every pair and port
+    ∷ inspects (1 ∷ 0 ∷ 0 ∷ 2 ∷ []) (0 ∷ [])
+    ∷ inspects (1 ∷ 2 ∷ 0 ∷ 0 ∷ []) (104 ∷ 1 ∷ 2 ∷ [])
     ∷ []
 
 pub others-answered : map (λ c. c .gives) others ≡ map (λ c. c .says) others
-unfolding others answers views counting counts digits portsLine slotsLine pairLine lines numbersFrom readPairs readSheet printSlots response sumTo load cells runOf countChecks service repeated lead viewChecks walk settleAt favours slotOf frameOf
+unfolding others answers views counting counts inspects inspected tooLarge twiceIn usedTwice wrongCount unbalanced unbalancedNumber unbalancedAt digits portsLine slotsLine pairLine lines numbersFrom readPairs readSheet printSlots response sumTo load cells runOf countChecks service repeated lead viewChecks walk settleAt favours slotOf frameOf
 others-answered = refl
