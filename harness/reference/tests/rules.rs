@@ -93,12 +93,12 @@ impl Split {
         groups
     }
 
-    /// Rule 5; an odd group is so manieth of them.
-    fn hold_group(&self, members: &[usize], odd_groups: usize) {
+    /// Rule 5; a group with an odd number of counts has this number among such groups.
+    fn hold_group(&self, members: &[usize], number: usize) {
         if members.len() % 2 == 1 {
             let favouring = members.iter().filter(|&&place| self.favours_first(place));
             let larger_first = 2 * favouring.count() > members.len();
-            assert_eq!(larger_first, odd_groups % 2 == 1, "rule 5, an odd group");
+            assert_eq!(larger_first, number % 2 == 1, "rule 5, an odd group");
         } else {
             assert!(self.favours_first(members[0]), "rule 5, an even group");
         }
