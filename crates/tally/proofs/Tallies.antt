@@ -237,9 +237,9 @@ module _ (ports i n : ℕ) (slot old mid : List ℕ) (a : Adds ports i (partly s
   unfolding partly ofByte
   total-same = let z = sum-zero i (λ j. 0) (λ j h. refl) in omega (arith, a .each total tt)
 
-  pub total-fits : Room 65000 old → i ≤ length slot → Fits w16 (getD mid 288 0 + n)
-  total-fits room l =
-      record { fits = (let s = r .size in let w = r .switch .high in omega (arith, total-same, cells-most slot i, room .each 288)) }
+  pub total-fits : Room 65000 old → i ≤ length slot → (x : ℕ) → Fits w16 (getD mid x 0 + n)
+  total-fits room l x =
+      record { fits = (let s = r .size in let w = r .switch .high in omega (arith, a .bound x, cells-most slot i, room .each x)) }
 
   module _ (l : i ≤ length slot) (g : length slot ≤ i) where
     all : i ≡ ports

@@ -1,6 +1,8 @@
+use Prim.Native.Nat.{_<_}
 use Rattle.tally.proofs.Tallies.{tally-size}
 use Rattle.balance.proofs.Blocks.{square-fits, square-most, pair-far, input-far, output-far, total-far, none-far}
 use borrow.Author.Needs.{needs}
+use native.Mathlib.Omega.{arith}
 use Rattle.balance.proofs.unbalanced_at.Statement.{statement}
 use Rattle.balance.proofs.unbalanced_at.Tie as tie
 
@@ -21,7 +23,7 @@ unbalanced-at-spec =
     (λ c. search needs)
     (λ c. search (needs, output-far))
     (λ c κs. (search needs, search (needs, tally-size), search (needs, tally-size)))
-    (λ c. search (needs, total-far))
+    (λ c. let found : c .before .first-far4 .result < 289 = omega (arith, c .if4 .taken) in search (needs, total-far))
     (λ c.
     let outputs = c .before .before .before .before in
     let inputs = outputs .before .before .before .before in

@@ -1,4 +1,5 @@
 use borrow.Author.Needs.{needs}
+use native.Mathlib.Omega.{arith}
 use Rattle.split.proofs.Settled.{group-off, group-start, group-even, group-right, group-turned}
 use Rattle.split.proofs.groups.settle_group.Statement.{statement}
 use Rattle.split.proofs.groups.settle_group.Tie as tie
@@ -20,7 +21,7 @@ settle-group-spec =
     let found = first .before .before .before in
     let start = found .before .before in (
       second .walk2 .ensures .list .size,
-      group-even _ _ (start .pre .2) (start .pre .3) (found .if1 .left) (start .pre .0) (start .args .group .now) (start .pre .1) (first .walk .ensures) (second .walk2 .ensures) (c .if2 .taken),
+      group-even _ _ (start .pre .2) (start .pre .3) (found .if1 .left) (start .pre .0) (start .args .group .now) (start .pre .1) (first .walk .ensures) (second .walk2 .ensures) (omega (arith, c .if2 .taken)),
     ))
     (λ c κs. search needs)
     (λ c κs. search needs)
