@@ -57,7 +57,7 @@ pub extern "C" fn frame_builder_build(
     ensures { λ r. ⌜ Three (built ports slots (now (matrix .entry)) (now (frame .entry))) r (now (first .exit)) (now (second .exit)) ⌝ }
     ensures { λ _. ⌜ now (frame .exit) ≡ left ports slots (now (matrix .entry)) (now (frame .entry)) ⌝ }
 {
-    let n = numbers::of_answer(schedule::build(ports, slots, matrix, frame));
+    let n = numbers::of_built(schedule::build(ports, slots, matrix, frame));
     *first = n.first;
     *second = n.second;
     n.number

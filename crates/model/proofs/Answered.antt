@@ -1,6 +1,6 @@
 -- Each call's definition answers by its cases.
 use Prim.Native.Nat.{ℕ, suc, _-_, _*_, _≤_, _<_}
-use mathlib.Core.Path.{_≡_, sym, ap, ap₂, _∙_}
+use mathlib.Core.Path.{_≡_, refl, sym, ap, ap₂, _∙_}
 use mathlib.Core.List.{List, [], _∷_}
 use mathlib.Core.Bool.{true, false}
 use native.Mathlib.Omega.{arith}
@@ -12,6 +12,7 @@ use Rattle.model.specs.Loads.{Class, pair, output, input}
 use Rattle.model.specs.Frames.{cells}
 use Rattle.model.specs.Refusals.{Check, report, clear, bad-ports, bad-slots, bad-matrix, bad-frame, bad-slot, admitted}
 use Rattle.model.specs.Schedule.{frameOf}
+use Rattle.model.specs.Work.{work}
 use Rattle.model.specs.Build.{left, buildChecks, built}
 use Rattle.model.specs.Inspect.{byteTooLarge, outputTwice, pairCount, unbalancedBlock, inspected}
 use Rattle.model.specs.Service.{viewChecks, viewNumber, viewStart, viewSize, viewed, classOf, bad-who, bad-length, repeated, lead, Reply, countChecks, service}
@@ -142,17 +143,19 @@ module _ (ports slots : ℕ) (m buffer : List ℕ) where
   kept {n} {values} h e =
       ap₂ (λ (a b : List ℕ). (a, b)) (sym e)
       (sym (build-keeps ports slots m buffer
-      (clear-some (buildChecks ports slots m buffer) (λ z. let y = ap (λ (l : List ℕ). getD l 0 0) e in omega arith))))
+      (clear-some (buildChecks ports slots m buffer) (0 ∷ work ports slots (left ports slots m buffer) ∷ []) refl (λ z. let y = ap (λ (l : List ℕ). getD l 0 0) e in omega arith))))
 
   -- what a case says is Build's answer and what it leaves
   build-only : (given : List ℕ × List ℕ) → Builds ports slots m buffer given → given ≡ build
   unfolding buildChecks
-  build-only given (refused r) = kept (frame-low r) (frame-reported ports slots m (overloads ports slots m) (0 ∷ []) buffer r)
+  build-only given (refused r) = kept (frame-low r) (frame-reported ports slots m (overloads ports slots m) (0 ∷ work ports slots (left ports slots m buffer) ∷ []) buffer r)
   build-only given (input-5 w e x o) = kept (omega arith) (build-answers ports slots m w buffer e .input-over x o)
   build-only given (output-6 w e l x o) = kept (omega arith) (build-answers ports slots m w buffer e .output-over l x o)
   build-only given (accepted a bytes s) =
-      ap₂ (λ (x y : List ℕ). (x, y)) (sym (build-answers ports slots m (a .well) buffer (a .size) .accepts (a .fits)))
-      (only-frame ports (a .well .power .k) m bytes s ∙ rw (accepts-yes ports slots m buffer a, power-level (a .well .power)))
+      let leaves : bytes ≡ left ports slots m buffer = only-frame ports (a .well .power .k) m bytes s ∙ rw (accepts-yes ports slots m buffer a, power-level (a .well .power)) in
+      ap₂ (λ (x y : List ℕ). (x, y))
+      (ap (λ (l : List ℕ). 0 ∷ work ports slots l ∷ []) leaves ∙ sym (build-answers ports slots m (a .well) buffer (a .size) .accepts (a .fits)))
+      leaves
 
   pub build-exactly : Exactly (Builds ports slots m buffer) build
   build-exactly =
@@ -190,11 +193,11 @@ module _ (ports slots : ℕ) (bytes : List ℕ) (slot : ℕ) where
   unfolding viewChecks
   view-only given (refused r) =
       let e = ap (λ (l : List ℕ). getD l 0 0) (slot-reported ports slots bytes slot [] (0 ∷ []) r) in
-      let c : clear (viewChecks ports slots bytes slot) ≡ false = clear-some (slotChecks ports slots bytes slot []) (λ z. let h = slot-low r in omega arith) in
+      let c : clear (viewChecks ports slots bytes slot) ≡ false = clear-some (slotChecks ports slots bytes slot []) (0 ∷ []) refl (λ z. let h = slot-low r in omega arith) in
       rw (c, e)
   view-only given (seen s f) =
       let e = ap (λ (l : List ℕ). getD l 0 0) (slot-clear ports slots bytes slot f [] (0 ∷ [])) in
-      let c : clear (viewChecks ports slots bytes slot) ≡ true = clear-none (slotChecks ports slots bytes slot []) (omega arith, (omega arith, (omega arith, (omega arith, tt)))) e in
+      let c : clear (viewChecks ports slots bytes slot) ≡ true = clear-none (slotChecks ports slots bytes slot []) (0 ∷ []) (omega arith, (omega arith, (omega arith, (omega arith, tt)))) e in
       let h : slot - 1 ≡ s = (let n = f .number in omega arith) in
       let start : viewStart ports slots bytes slot ≡ s * ports = rw c (omega (arith, ap (λ x. x * ports) h)) in
       let size : viewSize ports slots bytes slot ≡ ports = rw c in

@@ -11,7 +11,8 @@ use Rattle.model.specs.Loads.{Class, pair, output, Of, load, input, Fits
 use Rattle.model.specs.Frames.{cells, runOf, Legal, Block, Balanced}
 use Rattle.model.specs.Refusals.{admitted, refusal, answered}
 use Rattle.model.specs.Rules.{Scheduled}
-use Rattle.model.specs.Build.{left, built}
+use Rattle.model.specs.Work.{work}
+use Rattle.model.specs.Build.{left, outcome, built}
 use Rattle.model.specs.Inspect.{inspected, finding}
 use Rattle.model.specs.Service.{viewNumber, viewStart, viewSize, viewed, repeated, Reply, served, service}
 use Rattle.model.specs.Sheet.{text, portsLine, slotsLine, pairLine, Asked, loads, printFrame, printRefusal, response}
@@ -20,6 +21,7 @@ use Rattle.model.specs.declared.Refusal.{Refusal}
 use Rattle.model.specs.declared.Refusal.the-variants.{Ports, Slots, MatrixLength, FrameLength, InputLoad, OutputLoad, LineForm, LinePort, LinePair, SheetLength, SlotNumber, PortNumber, RunLength}
 use Rattle.model.specs.declared.Answer.the-variants as answer
 use Rattle.model.specs.declared.Answer.the-variants.{Accepted}
+use Rattle.model.specs.declared.Built.the-variants as building
 use Rattle.model.specs.declared.Inspection.the-variants as inspection
 use Rattle.model.specs.declared.Inspection.the-variants.{Clean, ByteTooLarge, OutputTwice, PairCount, UnbalancedBlock}
 use Rattle.model.specs.declared.Who.{Who}
@@ -80,14 +82,16 @@ pub data Admits (ports slots : ℕ) (m : List ℕ) : List ℕ → Type 0 where
   accepted : WellFormed ports slots m → Fits ports slots m → Admits ports slots m (0 ∷ [])
 
 -- ---- Build
--- The same with 4, each refusal with the bytes that were lent; or accepted, with the bytes that meet the rules.
+-- The same with 4, each refusal with the bytes that were lent; or accepted, which is 0 and the odd counts settled, with the bytes that
+-- meet the rules.
 pub data Builds (ports slots : ℕ) (m buffer : List ℕ) : List ℕ × List ℕ → Type 0 where
   refused : {n : ℕ} → FrameRefused ports slots m buffer n → Builds ports slots m buffer (n ∷ [], buffer)
   input-5 : WellFormed ports slots m → length buffer ≡ slots * ports → (x : ℕ) → Over input ports slots m x
       → Builds ports slots m buffer (5 ∷ suc x ∷ load (input x) ports m ∷ [], buffer)
   output-6 : WellFormed ports slots m → length buffer ≡ slots * ports → Light input ports slots m → (x : ℕ) → Over output ports slots m x
       → Builds ports slots m buffer (6 ∷ suc x ∷ load (output x) ports m ∷ [], buffer)
-  accepted : (a : Accepts ports slots m buffer) (bytes : List ℕ) → Scheduled ports (a .well .power .k) m bytes → Builds ports slots m buffer (0 ∷ [], bytes)
+  accepted : (a : Accepts ports slots m buffer) (bytes : List ℕ) → Scheduled ports (a .well .power .k) m bytes
+      → Builds ports slots m buffer (0 ∷ work ports slots bytes ∷ [], bytes)
 
 -- ---- Inspect
 -- A fact holds at each of rows × width places.
@@ -242,8 +246,10 @@ pub fault-numbers : (slot port size : ℕ)
     ≡ (0 ∷ []) ∷ (101 ∷ slot ∷ port ∷ []) ∷ (102 ∷ slot ∷ port ∷ []) ∷ (103 ∷ slot ∷ port ∷ []) ∷ (104 ∷ slot ∷ size ∷ []) ∷ []
 fault-numbers slot port size = refl
 
--- Acceptance is 0, a count 0 and its cells with its lead, and a refusal has its number in each answer, and no lead.
-pub answer-numbers : (r : Refusal) (c : Count)
+-- Acceptance is 0, Build's 0 and the odd counts settled, a count 0 and its cells with its lead, and a refusal has its number in each
+-- answer, and no lead.
+pub answer-numbers : (r : Refusal) (settled : ℕ) (c : Count)
     → (answered Accepted ≡ 0 ∷ []) × (answered (answer.Refused r) ≡ refusal r) × (finding (inspection.Refused r) ≡ refusal r)
+    × (outcome (building.Accepted settled) ≡ 0 ∷ settled ∷ []) × (outcome (building.Refused r) ≡ refusal r)
     × (served (Counted c) ≡ record { numbers = 0 ∷ c .cells ∷ []; ahead = c .lead }) × (served (served-as.Refused r) ≡ record { numbers = refusal r; ahead = pos 0 })
-answer-numbers r c = (refl, refl, refl, refl, refl)
+answer-numbers r settled c = (refl, refl, refl, refl, refl, refl, refl)

@@ -12,6 +12,7 @@ use Rattle.model.specs.Loads.{pair, load}
 use Rattle.model.specs.Frames.{cells, runOf}
 use Rattle.model.specs.Refusals.{admitted}
 use Rattle.model.specs.Schedule.{walk, settleAt, favours, slotOf, frameOf}
+use Rattle.model.specs.Work.{work}
 use Rattle.model.specs.Build.{buildChecks, built, left}
 use Rattle.model.specs.Inspect.{tooLarge, twiceIn, usedTwice, wrongCount, unbalanced, unbalancedNumber, unbalancedAt, inspected}
 use Rattle.model.specs.Service.{viewChecks, viewNumber, viewStart, viewSize, viewed, repeated, lead, Reply, countChecks, service}
@@ -25,11 +26,11 @@ pub record Case : Type 0 where
   pub gives : List ℕ
   pub says : List ℕ
 
--- A load that is accepted, and the frame that stands in the buffer after.
-frame : ℕ → ℕ → List ℕ → List ℕ → Case
-frame ports slots matrix bytes =
+-- A load that is accepted, the odd counts settled, and the frame that stands in the buffer after.
+frame : ℕ → ℕ → List ℕ → ℕ → List ℕ → Case
+frame ports slots matrix settled bytes =
     let buffer : List ℕ = replicate (slots * ports) 77 in
-    record { gives = built ports slots matrix buffer ++ left ports slots matrix buffer; says = 0 ∷ bytes }
+    record { gives = built ports slots matrix buffer ++ left ports slots matrix buffer; says = 0 ∷ settled ∷ bytes }
 
 -- A load that is refused, by Admit and by Build, and the buffer as it was.
 turnedAway : ℕ → ℕ → List ℕ → List ℕ → Case
@@ -85,11 +86,11 @@ printed =
 
 pub cases : List Case
 cases =
-    frame 1 1 (1 ∷ []) (1 ∷ [])
-    ∷ frame 1 4 (3 ∷ []) (1 ∷ 1 ∷ 1 ∷ 0 ∷ [])
-    ∷ frame 2 2 (1 ∷ 1 ∷ 1 ∷ 1 ∷ []) crossed
-    ∷ frame 4 4 own ownFrame
-    ∷ frame 4 4 table7 table7Frame
+    frame 1 1 (1 ∷ []) 0 (1 ∷ [])
+    ∷ frame 1 4 (3 ∷ []) 2 (1 ∷ 1 ∷ 1 ∷ 0 ∷ [])
+    ∷ frame 2 2 (1 ∷ 1 ∷ 1 ∷ 1 ∷ []) 4 crossed
+    ∷ frame 4 4 own 8 ownFrame
+    ∷ frame 4 4 table7 10 table7Frame
     ∷ record { gives = response sheet; says = printed }
     ∷ turnedAway 2 4 (3 ∷ 2 ∷ 0 ∷ 0 ∷ []) (5 ∷ 1 ∷ 5 ∷ [])
     ∷ record { gives = admitted 2 4 (2 ∷ 2 ∷ 0 ∷ 0 ∷ []); says = 0 ∷ [] }
@@ -123,7 +124,7 @@ unfolding printed digits printSlots response
 sheet-printed = rw (sheet-asks, table7-framed)
 
 pub bench : map (λ c. c .gives) cases ≡ map (λ c. c .says) cases
-unfolding cases frame turnedAway counting sumTo load cells runOf admitted buildChecks countChecks service repeated lead chain wire share
+unfolding cases frame turnedAway counting sumTo load cells runOf work admitted buildChecks countChecks service repeated lead chain wire share
 bench = rw (small-framed .0, small-framed .1, small-framed .2, own-framed, table7-framed, sheet-printed)
 
 -- the bound of that run for k = 2 is 5/3, which is 20 over 3 × 2 ^ k: 24 for the cells is within 20 of 12 for the share

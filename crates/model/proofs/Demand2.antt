@@ -12,6 +12,7 @@ use Rattle.model.specs.Frames.{Legal, Balanced}
 use Rattle.model.specs.Refusals.{Check, report, clear, accepted, bad-ports, bad-slots, bad-matrix, bad-frame, overload, levels, admitted}
 use Rattle.model.specs.Rules.{Scheduled}
 use Rattle.model.specs.Schedule.{frameOf}
+use Rattle.model.specs.Work.{work}
 use Rattle.model.specs.Build.{buildChecks, built, buildAccepts, left}
 use Rattle.model.proofs.Cases.{Within, both-true}
 use Rattle.model.proofs.Levels.{Power, levels-power, power-known}
@@ -25,11 +26,11 @@ pub record WellFormed (ports slots : ℕ) (m : List ℕ) : Type 0 where
   pub power : Power slots
   pub square : length m ≡ ports * ports
 
--- What Admit, and Build lent a frame of the right size, answer to a well-formed load.
-pub record OverloadAnswers (ports slots : ℕ) (m given : List ℕ) : Type 0 where
+-- What Admit, and Build lent a frame of the right size, answer to a well-formed load, where acceptance is `taken`.
+pub record OverloadAnswers (ports slots : ℕ) (m taken given : List ℕ) : Type 0 where
   -- accepted exactly where it fits
-  pub accepts : Fits ports slots m → given ≡ accepted
-  pub fits : given ≡ accepted → Fits ports slots m
+  pub accepts : Fits ports slots m → given ≡ taken
+  pub fits : getD given 0 0 ≡ 0 → Fits ports slots m
   -- 5 with the lowest input that is asked for more, and its load
   pub input-over : (x : ℕ) → Over input ports slots m x → given ≡ 5 ∷ suc x ∷ load (input x) ports m ∷ []
   -- 6, where no input is, with the lowest output that is asked for more, and its load
@@ -56,20 +57,16 @@ module _ (ports slots : ℕ) (m : List ℕ) where
       rw (overload-tells 5 input ports slots m .met (λ x h. fits x h .0), overload-tells 6 output ports slots m .met (λ x h. fits x h .1))
 
   -- 5, then 6, answer as they should
-  overload-answers : OverloadAnswers ports slots m (report (overloads ports slots m) accepted)
-  overload-answers =
+  overload-answers : (taken : List ℕ) → OverloadAnswers ports slots m taken (report (overloads ports slots m) taken)
+  overload-answers taken =
       record {
-        accepts = λ fits. report-clear (overloads ports slots m) accepted (fits-clear fits);
-        fits = both-fit;
-        input-over = λ x o. report-found (overload 5 input ports slots m) (overload 6 output ports slots m ∷ []) accepted (over-reported 5 input ports slots m x o);
+        accepts = λ fits. report-clear (overloads ports slots m) taken (fits-clear fits);
+        fits = λ e. clear-fits (clear-none (overloads ports slots m) taken (omega arith, (omega arith, tt)) e);
+        input-over = λ x o. report-found (overload 5 input ports slots m) (overload 6 output ports slots m ∷ []) taken (over-reported 5 input ports slots m x o);
         output-over = λ none x o.
-            report-on (overload 5 input ports slots m) (overload 6 output ports slots m ∷ []) accepted (overload-tells 5 input ports slots m .met none)
-            ∙ report-found (overload 6 output ports slots m) [] accepted (over-reported 6 output ports slots m x o);
+            report-on (overload 5 input ports slots m) (overload 6 output ports slots m ∷ []) taken (overload-tells 5 input ports slots m .met none)
+            ∙ report-found (overload 6 output ports slots m) [] taken (over-reported 6 output ports slots m x o);
       }
-    where
-      both-fit : report (overloads ports slots m) accepted ≡ accepted → Fits ports slots m
-      both-fit e =
-          clear-fits (clear-none (overloads ports slots m) (omega arith, (omega arith, tt)) (ap (λ (l : List ℕ). getD l 0 0) e))
 
   module _ (w : WellFormed ports slots m) where
     -- 1, 2 and 3 are past
@@ -83,14 +80,17 @@ module _ (ports slots : ℕ) (m : List ℕ) where
         past-load (bad-frame ports slots bytes ∷ cs) asked ∙ report-on (bad-frame ports slots bytes) cs asked (frame-tells ports slots bytes .met e)
 
     -- Admit's answer
-    pub admit-answers : OverloadAnswers ports slots m (admitted ports slots m)
+    pub admit-answers : OverloadAnswers ports slots m accepted (admitted ports slots m)
     unfolding admitted
-    admit-answers = subst (OverloadAnswers ports slots m) (sym (past-load (overloads ports slots m) accepted)) overload-answers
+    admit-answers = subst (OverloadAnswers ports slots m accepted) (sym (past-load (overloads ports slots m) accepted)) (overload-answers accepted)
 
     -- Build's answer
-    pub build-answers : (buffer : List ℕ) → length buffer ≡ slots * ports → OverloadAnswers ports slots m (built ports slots m buffer)
+    pub build-answers : (buffer : List ℕ) → length buffer ≡ slots * ports
+        → OverloadAnswers ports slots m (0 ∷ work ports slots (left ports slots m buffer) ∷ []) (built ports slots m buffer)
     unfolding buildChecks
-    build-answers buffer e = subst (OverloadAnswers ports slots m) (sym (past-frame buffer e (overloads ports slots m) accepted)) overload-answers
+    build-answers buffer e =
+        let taken : List ℕ = 0 ∷ work ports slots (left ports slots m buffer) ∷ [] in
+        subst (OverloadAnswers ports slots m taken) (sym (past-frame buffer e (overloads ports slots m) taken)) (overload-answers taken)
 
 -- the rules' frame of a well-formed load that fits
 pub well-frame : (ports slots : ℕ) (m : List ℕ) (w : WellFormed ports slots m) → Fits ports slots m → Scheduled ports (w .power .k) m (frameOf ports (w .power .k) m)

@@ -9,6 +9,7 @@ use lib.Dec.{eqb}
 use lib.Pow.{pow-pos, pow-add, shl-shr}
 use borrow.Author.Tests.{eqb-true, eq-eqb, ne-eqb}
 use Rattle.model.specs.Refusals.{levels}
+use Rattle.model.proofs.Cases.{byLt}
 use Rattle.model.proofs.Searches.{first-high, first-found, first-is}
 
 -- powers of two rise
@@ -18,6 +19,11 @@ pow-less j k h =
     let b = two-pow-succ j in
     let c = pow-pos j in
     omega arith
+
+pub pow-only : (j k : ℕ) → 2 ^ j ≡ 2 ^ k → j ≡ k
+pow-only j k e =
+    byLt j k (λ h. absurd (let p = pow-less j k h in omega arith))
+    (λ h. byLt k j (λ l. absurd (let p = pow-less k j l in omega arith)) (λ l. omega arith))
 
 pub levels-most : (slots : ℕ) → levels slots ≤ 11
 levels-most slots = omega (arith, first-high (λ k. eqb slots (2 ^ k)) 11 0)
@@ -42,6 +48,9 @@ levels-of k h =
 -- a power of two is no other number, and its k is its level
 pub power-level : {slots : ℕ} (p : Power slots) → levels slots ≡ p .k
 power-level p = ap levels (p .is) ∙ levels-of (p .k) (p .most)
+
+pub level-is : {slots k : ℕ} → Power slots → slots ≡ 2 ^ k → levels slots ≡ k
+level-is {slots} {k} p e = power-level p ∙ pow-only (p .k) k (sym (p .is) ∙ e)
 
 pub power-known : {slots : ℕ} → Power slots → levels slots ≢ 11
 power-known p e = let l = power-level p in let m = p .most in omega arith

@@ -22,6 +22,7 @@ pub mod Reports
 pub mod Replies
 pub mod Overloads
 pub mod Demand2
+pub mod Work
 pub mod Accuracy
 pub mod Demand3
 pub mod Tight

@@ -63,15 +63,15 @@ refusal-number RunLength = omega arith
 abbrev pub Refuses : Check → Type 0
 Refuses c = getD (c .1) 0 0 ≢ 0
 
--- what is reported of such checks has the number 0 where none holds, and only there
-pub clear-none : (cs : List Check) → Every Refuses cs → getD (report cs accepted) 0 0 ≡ 0 → clear cs ≡ true
-clear-none [] r = λ e. refl
-clear-none (c ∷ cs) r =
-    byBool (c .0) (λ b. rw b (λ e. absurd (r .0 e))) (λ b. rw b (λ e. clear-none cs (r .1) e))
+-- what is reported of such checks has the number 0, as what is asked for has, where none holds, and only there
+pub clear-none : (cs : List Check) (asked : List ℕ) → Every Refuses cs → getD (report cs asked) 0 0 ≡ 0 → clear cs ≡ true
+clear-none [] asked r = λ e. refl
+clear-none (c ∷ cs) asked r =
+    byBool (c .0) (λ b. rw b (λ e. absurd (r .0 e))) (λ b. rw b (λ e. clear-none cs asked (r .1) e))
 
-pub clear-some : (cs : List Check) → getD (report cs accepted) 0 0 ≢ 0 → clear cs ≡ false
-clear-some [] = λ n. absurd (n refl)
-clear-some (c ∷ cs) = byBool (c .0) (λ b. rw b (λ n. refl)) (λ b. rw b (λ n. clear-some cs n))
+pub clear-some : (cs : List Check) (asked : List ℕ) → getD asked 0 0 ≡ 0 → getD (report cs asked) 0 0 ≢ 0 → clear cs ≡ false
+clear-some [] asked z = λ n. absurd (n z)
+clear-some (c ∷ cs) asked z = byBool (c .0) (λ b. rw b (λ n. refl)) (λ b. rw b (λ n. clear-some cs asked z n))
 
 -- ---- conditions in words
 -- A check tells a fact: it holds exactly where that is not so.

@@ -155,7 +155,7 @@ reads-well r = asked-well r
 -- what is reported of some conditions is what the sheet is refused for
 unless-refused : (cs : List Check) (read : Asked) {n : ℕ} {values : List ℕ} → 0 < n → ((other : List ℕ) → report cs other ≡ n ∷ values)
     → asked.unless cs read ≡ asked.refused (n ∷ values)
-unless-refused cs read {n} {values} h e = rw (clear-some cs (λ z. let y = ap (λ (l : List ℕ). getD l 0 0) (e (0 ∷ [])) in omega arith), e [])
+unless-refused cs read {n} {values} h e = rw (clear-some cs (0 ∷ []) refl (λ z. let y = ap (λ (l : List ℕ). getD l 0 0) (e (0 ∷ [])) in omega arith), e [])
 
 module _ (ports slots : ℕ) (m : List ℕ) where
   overload-asked : {n : ℕ} {values : List ℕ} → 0 < n → ((other : List ℕ) → report (overloads ports slots m) other ≡ n ∷ values)

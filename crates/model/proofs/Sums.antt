@@ -41,6 +41,16 @@ unfolding sumTo
 sum-le zero f g h = omega arith
 sum-le (suc n) f g h = omega (arith, sum-le n f g (λ t l. h t (omega arith)), h n (omega arith))
 
+pub sum-times : (n m : ℕ) (f : ℕ → ℕ) → sumTo n (λ t. m * f t) ≡ m * sumTo n f
+unfolding sumTo
+sum-times zero m f = omega arith
+sum-times (suc n) m f = omega (arith, sum-times n m f)
+
+pub sum-ones : (n : ℕ) → sumTo n (λ t. 1) ≡ n
+unfolding sumTo
+sum-ones zero = refl
+sum-ones (suc n) = omega (arith, sum-ones n)
+
 -- a sum of terms that are at most m
 pub sum-most : (n m : ℕ) (f : ℕ → ℕ) → ((t : ℕ) → t < n → f t ≤ m) → sumTo n f ≤ n * m
 unfolding sumTo

@@ -6,6 +6,7 @@ pub mod Frames
 pub mod Refusals
 pub mod Rules
 pub mod Schedule
+pub mod Work
 pub mod Build
 pub mod Inspect
 pub mod Service

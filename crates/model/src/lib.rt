@@ -17,9 +17,15 @@ pub enum Refusal {
     RunLength,
 }
 
-// What Admit and Build answer.
+// What Admit answers.
 pub enum Answer {
     Accepted,
+    Refused(Refusal),
+}
+
+// What Build answers: with the frame, how many odd counts were settled for it.
+pub enum Built {
+    Accepted { settled: usize },
     Refused(Refusal),
 }
 

@@ -1,10 +1,12 @@
 // Document 01's number of each answer, and the values that it carries.
 ghost use mathlib.Core.Path.{_≡_};
 ghost use Rattle.model.specs.Refusals.{refusal, answered};
+ghost use Rattle.model.specs.Build.{outcome};
 ghost use Rattle.model.specs.Inspect.{finding};
 ghost use Rattle.model.specs.Service.{served};
 ghost use Rattle.numbers.specs.Numbers.{Three, Replied};
 use model::Answer;
+use model::Built;
 use model::Inspection;
 use model::Refusal;
 use model::Service;
@@ -55,13 +57,23 @@ pub fn of_refusal(refused: Refusal) -> Numbers
     }
 }
 
-// What Admit and Build answer, as numbers.
+// What Admit answers, as numbers.
 pub fn of_answer(answer: Answer) -> Numbers
     ensures { λ r. ⌜ Three (answered answer) (r .number) (r .first) (r .second) ⌝ }
 {
     match answer {
         Answer::Accepted => three(0, 0, 0),
         Answer::Refused(refusal) => of_refusal(refusal),
+    }
+}
+
+// What Build answers, as numbers.
+pub fn of_built(built: Built) -> Numbers
+    ensures { λ r. ⌜ Three (outcome built) (r .number) (r .first) (r .second) ⌝ }
+{
+    match built {
+        Built::Accepted { settled } => three(0, settled, 0),
+        Built::Refused(refusal) => of_refusal(refusal),
     }
 }
 

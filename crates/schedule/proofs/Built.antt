@@ -1,6 +1,6 @@
 -- What Build answers and leaves, refusal by refusal.
 use Prim.Native.Nat.{ℕ, _*_}
-use mathlib.Core.Path.{_≡_, sym, ap, _∙_}
+use mathlib.Core.Path.{_≡_, refl, sym, ap, _∙_}
 use mathlib.Core.Logic.{_≢_}
 use mathlib.Core.List.{List, [], _∷_}
 use mathlib.Core.Bool.{Bool, true, false, not}
@@ -8,15 +8,18 @@ use native.Mathlib.Omega.{arith}
 use lib.Dec.{eqb}
 use lib.ListN.{length, getD}
 use borrow.Author.Tests.{eqb-true, eqb-false, not-false}
-use Rattle.model.specs.Words.{within, Every}
-use Rattle.model.specs.Refusals.{refusal, accepted, answered, levels}
-use Rattle.model.specs.Build.{buildChecks, built, left}
+use Rattle.model.specs.Words.{within}
+use Rattle.model.specs.Refusals.{report, clear, refusal, accepted, answered, levels}
 use Rattle.model.specs.Schedule.{frameOf}
+use Rattle.model.specs.Work.{work, settled}
+use Rattle.model.specs.Build.{buildChecks, buildAccepts, built, left}
 use Rattle.model.specs.declared.Refusal.{Refusal}
 use Rattle.model.specs.declared.Answer.{Answer}
 use Rattle.model.specs.declared.Answer.the-variants.{Accepted, Refused}
 use Rattle.model.proofs.Levels.{levels-most}
-use Rattle.model.proofs.Reports.{Refuses, clear-none, clear-some, within-known, refusal-number}
+use Rattle.model.proofs.Reports.{report-clear, report-refused, clear-none, clear-some, within-known, refusal-number}
+use Rattle.model.proofs.Demand2.{overloads}
+use Rattle.model.proofs.Work.{work-built}
 use Rattle.admission.specs.Overloads.{Size, EveryLoad, decided}
 use Rattle.admission.proofs.Deciding.{decided-loads}
 use Rattle.schedule.specs.Fill.{Fillable}
@@ -38,14 +41,14 @@ pub done : (ports slots : ℕ) (matrix buffer answer bytes : List ℕ) → Done 
 done ports slots matrix buffer answer bytes d = (d .answers, d .leaves)
 
 module _ (ports slots : ℕ) (matrix buffer : List ℕ) where
-  refuses : Every Refuses (buildChecks ports slots matrix buffer)
-  unfolding buildChecks
-  refuses = (omega arith, (omega arith, (omega arith, (omega arith, (omega arith, (omega arith, tt))))))
+  -- what is answered where none of them holds
+  abbrev taken : List ℕ
+  taken = 0 ∷ work ports slots (left ports slots matrix buffer) ∷ []
 
   -- a refusal leaves the bytes
   refused : (answer : List ℕ) → getD answer 0 0 ≢ 0 → answer ≡ built ports slots matrix buffer
       → Done ports slots matrix buffer answer buffer
-  refused answer n e = record { answers = e; leaves = rw (clear-some (buildChecks ports slots matrix buffer) (rw e at n)) }
+  refused answer n e = record { answers = e; leaves = rw (clear-some (buildChecks ports slots matrix buffer) taken refl (rw e at n)) }
 
   -- the tests, in the order of the refusals
   module _ {r : Bool} (r-is : r ≡ not (within 1 16 ports)) where
@@ -75,20 +78,32 @@ module _ (ports slots : ℕ) (matrix buffer : List ℕ) where
                 let n = eqb-false (levels slots) 11 (sym s-is ∙ s-no) in
                 record { low = p .0; high = p .1; power = omega (arith, levels-most slots); square = length-is t-is t-no; size = length-is u-is u-no }
 
-            module _ (ins outs : List ℕ) (loads : EveryLoad ports matrix ins outs) where
-              loads-decide : decided slots ins outs ≡ built ports slots matrix buffer
-              unfolding buildChecks
-              loads-decide =
-                  decided-loads slots ins outs (size-of fillable) loads
-                  ∙ rw (sym r-is ∙ r-no, sym s-is ∙ s-no, sym t-is ∙ t-no, sym u-is ∙ u-no)
+            -- 1 to 4 are past
+            past : (asked : List ℕ) → report (buildChecks ports slots matrix buffer) asked ≡ report (overloads ports slots matrix) asked
+            unfolding buildChecks
+            past asked = rw (sym r-is ∙ r-no, sym s-is ∙ s-no, sym t-is ∙ t-no, sym u-is ∙ u-no)
 
-              pub load-refused : {a : Answer} {x : Refusal} → answered a ≡ decided slots ins outs → a ≡ Refused x
-                  → Done ports slots matrix buffer (refusal x) buffer
-              load-refused {a} {x} e d = refused (refusal x) (refusal-number x) (sym (ap answered d) ∙ e ∙ loads-decide)
+            past-clear : buildAccepts ports slots matrix buffer ≡ clear (overloads ports slots matrix)
+            unfolding buildChecks
+            past-clear = rw (sym r-is ∙ r-no, sym s-is ∙ s-no, sym t-is ∙ t-no, sym u-is ∙ u-no)
 
-              pub fills : {a : Answer} {bytes : List ℕ} → answered a ≡ decided slots ins outs → a ≡ Accepted
-                  → bytes ≡ frameOf ports (levels slots) matrix → Done ports slots matrix buffer accepted bytes
-              fills {a} e d f =
-                  let g : accepted ≡ built ports slots matrix buffer = sym (ap answered d) ∙ e ∙ loads-decide in
-                  let n : getD (built ports slots matrix buffer) 0 0 ≡ 0 = ap (λ (l : List ℕ). getD l 0 0) (sym g) in
-                  record { answers = g; leaves = f ∙ rw (clear-none (buildChecks ports slots matrix buffer) refuses n) }
+            module _ (ins outs : List ℕ) (loads : EveryLoad ports matrix ins outs) (a : Answer) (decides : answered a ≡ decided slots ins outs) where
+              loads-decide : answered a ≡ report (overloads ports slots matrix) accepted
+              loads-decide = decides ∙ decided-loads slots ins outs (size-of fillable) loads
+
+              pub load-refused : {x : Refusal} → a ≡ Refused x → Done ports slots matrix buffer (refusal x) buffer
+              load-refused {x} d =
+                  let g : refusal x ≡ report (overloads ports slots matrix) accepted = sym (ap answered d) ∙ loads-decide in
+                  let some : clear (overloads ports slots matrix) ≡ false = clear-some (overloads ports slots matrix) accepted refl (λ z. refusal-number x (ap (λ (l : List ℕ). getD l 0 0) g ∙ z)) in
+                  refused (refusal x) (refusal-number x) (g ∙ report-refused (overloads ports slots matrix) accepted taken some ∙ sym (past taken))
+
+              pub fills : {bytes : List ℕ} {n : ℕ} → a ≡ Accepted → n ≡ settled (levels slots) matrix → bytes ≡ frameOf ports (levels slots) matrix
+                  → Done ports slots matrix buffer (0 ∷ n ∷ []) bytes
+              fills d f g =
+                  let e : getD (report (overloads ports slots matrix) accepted) 0 0 ≡ 0 = ap (λ (l : List ℕ). getD l 0 0) (sym loads-decide ∙ ap answered d) in
+                  let none : buildAccepts ports slots matrix buffer ≡ true = past-clear ∙ clear-none (overloads ports slots matrix) accepted (omega arith, (omega arith, tt)) e in
+                  record {
+                    answers = ap (λ (j : ℕ). 0 ∷ j ∷ []) (f ∙ sym (work-built ports slots matrix buffer none))
+                        ∙ sym (report-clear (buildChecks ports slots matrix buffer) taken none);
+                    leaves = g ∙ rw none;
+                  }

@@ -13,7 +13,8 @@ use lib.Seq.{take-at, length-take-le, length-front}
 use Rattle.model.specs.Rules.{portOf}
 use Rattle.model.specs.Refusals.{levels}
 use Rattle.model.specs.Schedule.{halfOf, slotOf, frameOf}
-use Rattle.model.proofs.Levels.{Halving, levels-one, levels-half}
+use Rattle.model.proofs.Levels.{Halving, levels-one, levels-power, levels-half}
+use Rattle.model.proofs.OneFrame.{frame-length}
 use Rattle.split.specs.Steps.{Wide, Tables, halved}
 use Rattle.split.proofs.Favoured.{half-of}
 
@@ -83,14 +84,20 @@ module _ (ports slots : ℕ) (f : List ℕ) (n : slots ≢ 1) (v : levels slots 
       → length (take (length (e ++ drop (slots / 2 * ports) f) - slots / 2 * ports) (drop (slots / 2 * ports) (e ++ drop (slots / 2 * ports) f))) ≡ slots / 2 * ports
   back-is e h = back-length f e (slots / 2 * ports) mid-le h ∙ omega (arith, two-parts)
 
+  -- the rules' bytes of the first half are as many as it has room for
+  front-size : (m e : List ℕ) → e ≡ frameOf ports (levels (slots / 2)) m → length e ≡ length (take (slots / 2 * ports) f)
+  front-size m e d =
+      let power : slots / 2 ≡ 2 ^ levels (slots / 2) = levels-power (slots / 2) (let h = halving .power in omega arith) in
+      ap length d ∙ frame-length ports (levels (slots / 2)) m ∙ ap (λ (n : ℕ). n * ports) (sym power) ∙ sym front-is
+
   pub written : {k : ℕ} {ins outs : List ℕ} (m x y a b e g : List ℕ) → Tables ports k ins outs → Wide m
-      → length e ≡ length (take (slots / 2 * ports) f) → a ≡ halved 1 k m ins outs x → b ≡ halved 2 k m ins outs y
+      → a ≡ halved 1 k m ins outs x → b ≡ halved 2 k m ins outs y
       → e ≡ frameOf ports (levels (slots / 2)) (take k a) → g ≡ frameOf ports (levels (slots / 2)) (take k b)
       → putMid (slots / 2 * ports) (length (e ++ drop (slots / 2 * ports) f) - slots / 2 * ports) (e ++ drop (slots / 2 * ports) f) g ≡ frameOf ports (levels slots) (take k m)
-  written {k} m x y a b e g t w h ha hb ee eg =
+  written {k} m x y a b e g t w ha hb ee eg =
       let front : e ≡ frameOf ports (levels (slots / 2)) (halfOf (portOf ports) 1 (take k m)) = ee ∙ ap (frameOf ports (levels (slots / 2))) (half-of 1 m x a t w ha) in
       let back : g ≡ frameOf ports (levels (slots / 2)) (halfOf (portOf ports) 2 (take k m)) = eg ∙ ap (frameOf ports (levels (slots / 2))) (half-of 2 m y b t w hb) in
-      both-put f e (slots / 2 * ports) mid-le h g
+      both-put f e (slots / 2 * ports) mid-le (front-size (take k a) e ee) g
       ∙ ap₂ _++_ front back
       ∙ frame-more ports (levels (slots / 2)) (take k m)
       ∙ ap (λ (j : ℕ). frameOf ports j (take k m)) (sym (halving .level))

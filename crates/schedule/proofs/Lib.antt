@@ -2,4 +2,5 @@
 pub mod Tabled
 pub mod Written
 pub mod Framed
+pub mod Summed
 pub mod Built

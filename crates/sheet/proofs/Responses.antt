@@ -16,16 +16,17 @@ use denote.Enum.Declared.{tagOf}
 use borrow.Author.Tests.{lt-ltb, le-ltb, eq-eqb}
 use Rattle.model.specs.Words.{if, both, Every}
 use Rattle.model.specs.Loads.{input, output}
-use Rattle.model.specs.Refusals.{Check, report, clear, accepted, levels, refusal, answered, overload}
+use Rattle.model.specs.Refusals.{Check, report, clear, levels, refusal, overload}
 use Rattle.model.specs.Schedule.{frameOf}
-use Rattle.model.specs.Build.{buildChecks, built, left}
+use Rattle.model.specs.Work.{work}
+use Rattle.model.specs.Build.{buildChecks, outcome, built, left}
 use Rattle.model.specs.Sheet.{Asked, loads, refused, overloads, lines, readPorts, readSheet, printed, printFrame, response}
 use Rattle.model.specs.declared.Refusal.{Refusal}
 use Rattle.model.specs.declared.Refusal.the-variants as variants
-use Rattle.model.specs.declared.Answer.{Answer}
-use Rattle.model.specs.declared.Answer.the-variants as answers
+use Rattle.model.specs.declared.Built.{Built}
+use Rattle.model.specs.declared.Built.the-variants as builds
 use Rattle.model.proofs.Cases.{byBool, within-yes}
-use Rattle.model.proofs.Reports.{Refuses, clear-none, clear-some, slots-known}
+use Rattle.model.proofs.Reports.{Refuses, report-refused, refusal-number, clear-none, clear-some, slots-known}
 use Rattle.model.proofs.Lengths.{response-most}
 use Rattle.reading.proofs.Reading.{the-type}
 use Rattle.reading.specs.Reading.{LoadsRead, SheetOf}
@@ -34,27 +35,6 @@ use Rattle.printing.proofs.Prints.{frame-bytes}
 use Rattle.sheet.specs.Response.{Readable, bytesOf, Lies, Printable, Answered, Whole}
 use Rattle.reading.specs.declared.Reading.{Reading}
 use Rattle.reading.specs.declared.Reading.the-variants.{Ports, Slots, Pair, Loads, Refused}
-
--- ---- reports
-report-any : (cs : List Check) (a b : List ℕ) → clear cs ≡ false → report cs a ≡ report cs b
-report-any [] a b = λ e. absurd (true≢false e)
-report-any (c ∷ cs) a b =
-    byBool (c .0) (λ h. rw h (λ e. refl)) (λ h. rw h (λ e. report-any cs a b e))
-
-numbered : (r : Refusal) → getD (refusal r) 0 0 ≢ 0
-numbered variants.Ports = λ e. omega arith
-numbered variants.Slots = λ e. omega arith
-numbered variants.MatrixLength = λ e. omega arith
-numbered variants.FrameLength = λ e. omega arith
-numbered (variants.InputLoad p c) = λ e. omega arith
-numbered (variants.OutputLoad p c) = λ e. omega arith
-numbered (variants.LineForm l) = λ e. omega arith
-numbered (variants.LinePort l) = λ e. omega arith
-numbered (variants.LinePair l) = λ e. omega arith
-numbered variants.SheetLength = λ e. omega arith
-numbered variants.SlotNumber = λ e. omega arith
-numbered variants.PortNumber = λ e. omega arith
-numbered variants.RunLength = λ e. omega arith
 
 -- ---- building
 module _ (ports slots : ℕ) (matrix frame : List ℕ) (x : Readable ports slots matrix frame) where
@@ -91,7 +71,11 @@ module _ (ports slots : ℕ) (matrix frame : List ℕ) (x : Readable ports slots
   room-length : eqb (length room) (slots * ports) ≡ true
   room-length = eq-eqb (length room) (slots * ports) (sym room-size)
 
-  report-two : built ports slots part room ≡ report two accepted
+  -- what is answered where neither holds
+  abbrev taken : List ℕ
+  taken = 0 ∷ work ports slots (left ports slots part room) ∷ []
+
+  report-two : built ports slots part room ≡ report two taken
   unfolding buildChecks two
   report-two = rw (within-yes 1 16 ports (x .least) (x .most), x .power, part-length, room-length)
 
@@ -103,11 +87,11 @@ module _ (ports slots : ℕ) (matrix frame : List ℕ) (x : Readable ports slots
   unfolding two
   refuse-two = ((λ e. omega arith), ((λ e. omega arith), tt))
 
-  pub built-yes : (a : Answer) (mid : List ℕ) → answered a ≡ built ports slots part room → mid ≡ left ports slots part room → a ≡ answers.Accepted
+  pub built-yes : (a : Built) (mid : List ℕ) (n : ℕ) → outcome a ≡ built ports slots part room → mid ≡ left ports slots part room → a ≡ builds.Accepted n
       → length mid ≡ length room → Answered (overloads (loads ports slots part)) (mid ++ drop (slots * ports) frame) (Loads ports slots)
   unfolding two
-  built-yes a mid e f g k =
-      let c : clear two ≡ true = clear-none two refuse-two (ap (λ l. getD l 0 0) (sym report-two ∙ (sym e ∙ ap answered g))) in
+  built-yes a mid n e f g k =
+      let c : clear two ≡ true = clear-none two taken refuse-two (ap (λ l. getD l 0 0) (sym report-two ∙ (sym e ∙ ap outcome g))) in
       let h : take (slots * ports) (mid ++ drop (slots * ports) frame) ≡ mid = take-at mid (drop (slots * ports) frame) (slots * ports) (k ∙ sym room-size) in
       let s = slots-known {slots = slots} {r = false} (sym (x .power)) refl in
       record {
@@ -116,15 +100,15 @@ module _ (ports slots : ℕ) (matrix frame : List ℕ) (x : Readable ports slots
         printable = record { most-ports = x .most; most-slots = s .1; inside = omega (arith, k, room-size, length-append mid (drop (slots * ports) frame)) };
       }
 
-  pub built-no : (a : Answer) (r : Refusal) (new : List ℕ) → answered a ≡ built ports slots part room → a ≡ answers.Refused r
+  pub built-no : (a : Built) (r : Refusal) (new : List ℕ) → outcome a ≡ built ports slots part room → a ≡ builds.Refused r
       → Answered (overloads (loads ports slots part)) new (Refused r)
   unfolding two
   built-no a r new e g =
-      let k : report two accepted ≡ refusal r = sym report-two ∙ (sym e ∙ ap answered g) in
-      let c : clear two ≡ false = clear-some two (λ z. numbered r (ap (λ l. getD l 0 0) (sym k) ∙ z)) in
+      let k : report two taken ≡ refusal r = sym report-two ∙ (sym e ∙ ap outcome g) in
+      let c : clear two ≡ false = clear-some two taken refl (λ z. refusal-number r (ap (λ l. getD l 0 0) (sym k) ∙ z)) in
       record {
         prints = ap printed (ap (λ b. if b (loads ports slots part) (refused (report two []))) c
-            ∙ ap refused (report-any two [] accepted c ∙ k));
+            ∙ ap refused (report-refused two [] taken c ∙ k));
         printable = tt;
       }
 

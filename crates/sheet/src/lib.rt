@@ -5,7 +5,7 @@ ghost use lib.ListN.{length, take};
 ghost use Rattle.model.specs.Sheet.{loads, overloads, readSheet, response};
 ghost use Rattle.printing.specs.Printing.{Printed};
 ghost use Rattle.sheet.specs.Response.{Readable, bytesOf, Printable, Answered, Whole};
-use model::Answer;
+use model::Built;
 use model::Refusal;
 use printing::put_frame;
 use printing::put_refusal;
@@ -26,7 +26,7 @@ fn build_loads(ports: usize, slots: usize, matrix: &[u16], frame: &mut [u8]) -> 
     let pairs = ports * ports;
     let size = slots * ports;
     let built = schedule::build(ports, slots, &matrix[..pairs], &mut frame[..size]);
-    let Answer::Refused(refusal) = built else {
+    let Built::Refused(refusal) = built else {
         return Reading::Loads { ports, slots };
     };
     Reading::Refused(refusal)

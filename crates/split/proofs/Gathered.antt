@@ -99,11 +99,14 @@ keep-most : (t : ℕ → Bool) (a n : ℕ) → length (keep t (upFrom a n)) ≤ 
 keep-most t a zero = omega arith
 keep-most t a (suc n) = let h = keep-most t (suc a) n in byBool (t a) (λ e. rw e (omega arith)) (λ e. rw e (omega arith))
 
+pub odds-most : (n : ℕ) (m : List ℕ) → length (oddsBelow n m) ≤ n
+odds-most n m = keep-most (odd m) 0 n
+
 -- what stands at the front of a list so gathered
 pub gathered-front : (m lent odds : List ℕ) (n k : ℕ) → k ≡ length (oddsBelow n m) → odds ≡ gathered n m lent → Wide lent → n ≤ 256 → Gathered m n odds k
 unfolding gathered
 gathered-front m lent odds n k c e w low =
-    let most = keep-most (odd m) 0 n in
+    let most = odds-most n m in
     let behind : List ℕ = 0 ∷ drop (length (oddsBelow n m) + 1) lent in
     let d = length-drop (length (oddsBelow n m) + 1) lent in
     let size = length-append (oddsBelow n m) behind in

@@ -89,7 +89,7 @@ module _ {ports slots : ℕ} {bytes : List ℕ} {slot : ℕ} {answer : Answer} (
   accepted-open e =
       let cs = viewChecks ports slots bytes slot in
       opened ports slots bytes slot
-      (clear-none cs (eqb-false 1 0 refl, (eqb-false 2 0 refl, (eqb-false 4 0 refl, (eqb-false 11 0 refl, tt)))) (ap (λ l. getD l 0 0) (sym is ∙ ap answered e)))
+      (clear-none cs accepted (eqb-false 1 0 refl, (eqb-false 2 0 refl, (eqb-false 4 0 refl, (eqb-false 11 0 refl, tt)))) (ap (λ l. getD l 0 0) (sym is ∙ ap answered e)))
 
   pub refused-shut : {r : Refusal} → answer ≡ Refused r → Shut ports slots bytes slot r
   unfolding checked
@@ -97,7 +97,7 @@ module _ {ports slots : ℕ} {bytes : List ℕ} {slot : ℕ} {answer : Answer} (
       let same = sym (ap answered e) ∙ is in
       record {
         same = same;
-        some = clear-some (viewChecks ports slots bytes slot) (λ n. refusal-number r (ap (λ l. getD l 0 0) same ∙ n));
+        some = clear-some (viewChecks ports slots bytes slot) accepted refl (λ n. refusal-number r (ap (λ l. getD l 0 0) same ∙ n));
       }
 
 -- ---- the part that Slot view shows

@@ -10,4 +10,4 @@ frame-builder-build-spec =
     (λ c κs. search needs)
     (λ c κs. search needs)
     (λ c. search needs)
-    (λ c. (three-of (c .of-answer .ensures) (c .before .before .before .build .ensures .0), c .before .before .before .build .ensures .1)))
+    (λ c. (three-of (c .of-built .ensures) (c .before .before .before .build .ensures .0), c .before .before .before .build .ensures .1)))

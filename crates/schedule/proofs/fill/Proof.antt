@@ -1,6 +1,7 @@
 use borrow.Author.Needs.{needs}
 use Rattle.schedule.proofs.Tabled.{square-most}
 use Rattle.schedule.proofs.Framed.{filled}
+use Rattle.schedule.proofs.Summed.{all-settled}
 use Rattle.schedule.proofs.fill.Statement.{statement}
 use Rattle.schedule.proofs.fill.Tie as tie
 
@@ -11,4 +12,4 @@ fill-spec =
     (λ c κs. search (needs, square-most))
     (λ c κs. search needs)
     (λ c. search needs)
-    (λ c. search (needs, filled)))
+    (λ c. (search (needs, all-settled), search (needs, filled))))

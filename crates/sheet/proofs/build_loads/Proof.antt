@@ -17,6 +17,6 @@ build-loads-spec =
     (λ c. search needs)
     (λ c. search needs)
     (λ c. search needs)
-    (λ c. built-yes _ _ _ _ (c .before .before .before .before .before .before .before .before .before .pre) _ _ (c .before .before .before .before .build .ensures .0) (c .before .before .before .before .build .ensures .1) (c .enum-told .given .1) (c .before .before .before .before .build .kept .1 .1 .1 .0))
+    (λ c. built-yes _ _ _ _ (c .before .before .before .before .before .before .before .before .before .pre) _ _ _ (c .before .before .before .before .build .ensures .0) (c .before .before .before .before .build .ensures .1) (c .enum-told .given .1) (c .before .before .before .before .build .kept .1 .1 .1 .0))
     (λ c. search needs)
     (λ c. built-no _ _ _ _ (c .before .before .before .before .before .before .before .before .before .before .pre) _ _ _ (c .before .before .before .before .before .build .ensures .0) (c .before .built .given .1)))

@@ -25,4 +25,4 @@ split-spec =
     let gathered = ins .before .before .before in
     let start = gathered .before .before in
     let half = half-is (start .pre .0) (start .pre .1) (front gathered) (ins .link .ensures) (outs .link2 .ensures) (settled .settle .ensures) in
-    (half 1 _ _ (c .halve .ensures .0), half 2 _ _ (c .halve .ensures .1))))
+    (gathered .gather .ensures .0, half 1 _ _ (c .halve .ensures .0), half 2 _ _ (c .halve .ensures .1))))

@@ -1,0 +1,258 @@
+-- Work: the odd counts settled for a frame are those of its load, split down to blocks of two slots; and how many they can be.
+use Prim.Native.Nat.{ℕ, suc, zero, _+_, _-_, _*_, _/_, _%_, _^_, _≤_, _<_}
+use mathlib.Core.Path.{_≡_, refl, sym, ap, ap₂, _∙_, subst}
+use mathlib.Core.List.{List, _++_}
+use mathlib.Core.Bool.{true}
+use native.Mathlib.Omega.{arith}
+use native.Mathlib.Nat.{div-add-mod', mul-le-mul-left, mul-le-mul-right, pow-le-pow-right}
+use lib.Pow.{pow-pos}
+use lib.ListN.{length, getD, replicate, length-append, length-replicate}
+use Rattle.model.specs.Words.{Near, sumTo}
+use Rattle.model.specs.Loads.{pair, input, output, total, load, countOf, Fits}
+use Rattle.model.specs.Frames.{cells, runOf, Legal}
+use Rattle.model.specs.Refusals.{levels}
+use Rattle.model.specs.Rules.{Side, inputs, outputs, portOf, Split, Scheduled}
+use Rattle.model.specs.Work.{oddPairs, blockOf, work, oddShares, settled}
+use Rattle.model.specs.Build.{buildAccepts, left, WorkMost, ones, WorkReached}
+use Rattle.model.proofs.Cases.{byEq, byLt}
+use Rattle.model.proofs.Sums.{sum-none, sum-ext, sum-shift, sum-append, sum-add, sum-le, sum-most, sum-zero, sum-rows, sum-times, sum-ones}
+use Rattle.model.proofs.Levels.{levels-of, power-level, level-is, depth-size, depth-fill}
+use Rattle.model.proofs.Halves.{port-low, halves-fit}
+use Rattle.model.proofs.Cells.{run-all, run-first, run-second}
+use Rattle.model.proofs.OneFrame.{double, frame-length, rules-sound, frame-is, only-frame}
+use Rattle.model.proofs.Demand2.{Accepts, accepts-is, accepts-yes, build-frame}
+
+-- ---- the blocks of a frame of 2 ^ k slots, depth by depth
+abbrev atDepth : ℕ → ℕ → List ℕ → ℕ → ℕ
+atDepth ports slots bytes t = sumTo (2 ^ t) (λ b. oddPairs ports (blockOf ports (slots / 2 ^ t) b bytes))
+
+abbrev deep : ℕ → ℕ → List ℕ → ℕ
+deep ports k bytes = sumTo k (atDepth ports (2 ^ k) bytes)
+
+module _ (ports k : ℕ) (f g : List ℕ) (lf : length f ≡ 2 ^ k * ports) (lg : length g ≡ 2 ^ k * ports) where
+  -- at depth 0 there is the whole frame
+  at-top : atDepth ports (2 ^ suc k) (f ++ g) 0 ≡ oddPairs ports (f ++ g)
+  unfolding sumTo
+  at-top =
+      let d = double k in
+      let size : 2 ^ suc k / 2 ^ 0 ≡ 2 ^ suc k = omega arith in
+      let none : 0 * 2 ^ suc k ≡ 0 = omega arith in
+      let len : length (f ++ g) ≡ 2 ^ suc k * ports = length-append f g ∙ omega (arith, ap (λ z. z * ports) d) in
+      rw (size, none, run-all ports (2 ^ suc k) (f ++ g) len) (omega arith)
+
+  -- at each further depth the blocks of the first half, then those of the second
+  at-next : (t : ℕ) → t < k → atDepth ports (2 ^ suc k) (f ++ g) (suc t) ≡ atDepth ports (2 ^ k) f t + atDepth ports (2 ^ k) g t
+  at-next t h =
+      let odd : ℕ → ℕ → ℕ = λ z b. oddPairs ports (blockOf ports z b (f ++ g)) in
+      let z : ℕ = 2 ^ k / 2 ^ t in
+      let less : suc k - suc t ≡ k - t = omega arith in
+      let size : 2 ^ suc k / 2 ^ suc t ≡ z = depth-size (suc k) (suc t) (omega arith) ∙ ap (λ x. 2 ^ x) less ∙ sym (depth-size k t (omega arith)) in
+      let fill : 2 ^ t * z ≡ 2 ^ k = depth-fill k t (omega arith) in
+      let two : 2 ^ suc t ≡ 2 ^ t + 2 ^ t = omega (arith, double t) in
+      ap₂ (λ (n y : ℕ). sumTo n (odd y)) two size
+      ∙ sum-append (2 ^ t) (2 ^ t) (odd z)
+      ∙ ap₂ _+_
+      (sum-ext (2 ^ t) _ _ (λ b l.
+      let m : suc b * z ≤ 2 ^ t * z = mul-le-mul-right z l in
+      ap (oddPairs ports) (run-first ports (2 ^ k) (b * z) z f g lf (omega arith))))
+      (sum-ext (2 ^ t) _ _ (λ b l.
+      let e : (2 ^ t + b) * z ≡ 2 ^ k + b * z = omega arith in
+      ap (λ x. oddPairs ports (runOf ports x z (f ++ g))) e ∙ ap (oddPairs ports) (run-second ports (2 ^ k) (b * z) z f g lf)))
+
+  pub deep-halves : deep ports (suc k) (f ++ g) ≡ oddPairs ports (f ++ g) + (deep ports k f + deep ports k g)
+  deep-halves =
+      sum-shift k (atDepth ports (2 ^ suc k) (f ++ g))
+      ∙ ap₂ _+_ at-top (sum-ext k _ _ at-next ∙ sum-add k (atDepth ports (2 ^ k) f) (atDepth ports (2 ^ k) g))
+
+-- the pairs of a legal frame that are odd are the odd counts of its load
+odd-load : (ports slots : ℕ) (m bytes : List ℕ) → Legal ports slots m bytes → oddPairs ports bytes ≡ sumTo (ports * ports) (λ p. getD m p 0 % 2)
+unfolding load
+odd-load ports slots m bytes legal =
+    sum-ext (ports * ports) _ _ (λ p h.
+    let l : 1 ≤ ports = byEq ports 0 (λ e. absurd (let z = ap₂ _*_ e e in omega arith)) (λ n. omega arith) in
+    ap (λ n. n % 2) (legal .exact (p / ports) (p % ports) (port-low inputs {ports = ports} {p = p} l h) (port-low outputs {ports = ports} {p = p} l h)
+    ∙ ap (λ q. getD m q 0) (div-add-mod' p ports)))
+
+-- ---- counts, split
+-- two shares of a count are its smaller and its larger half, in either order
+shares-two : (k a b c : ℕ) → a + b ≡ c → Near 1 a b → oddShares k a + oddShares k b ≡ oddShares k (c / 2) + oddShares k ((c + 1) / 2)
+shares-two k a b c e n =
+    byLt b a
+    (λ h.
+    let x : a ≡ (c + 1) / 2 = omega arith in
+    let y : b ≡ c / 2 = omega arith in
+    rw (x, y) (omega arith))
+    (λ h.
+    let x : a ≡ c / 2 = omega arith in
+    let y : b ≡ (c + 1) / 2 = omega arith in
+    rw (x, y))
+
+-- the odd counts of a matrix, and those of its halves
+pub settled-halves : (port : Side → ℕ → ℕ) (k : ℕ) (m a b : List ℕ) → Split port m a b
+    → settled (suc k) m ≡ sumTo (length m) (λ p. getD m p 0 % 2) + (settled k a + settled k b)
+unfolding oddShares settled
+settled-halves port k m a b sp =
+    let share : List ℕ → ℕ → ℕ = λ l p. oddShares k (getD l p 0) in
+    let la : settled k a ≡ sumTo (length m) (share a) = ap (λ n. sumTo n (share a)) (sp .first-size) in
+    let lb : settled k b ≡ sumTo (length m) (share b) = ap (λ n. sumTo n (share b)) (sp .second-size) in
+    sum-ext (length m) _ _ (λ p h. ap (λ n. getD m p 0 % 2 + n) (sym (shares-two k (getD a p 0) (getD b p 0) (getD m p 0) (sp .shared p) (sp .evenly p))))
+    ∙ sum-add (length m) (λ p. getD m p 0 % 2) (λ p. share a p + share b p)
+    ∙ ap (λ n. sumTo (length m) (λ p. getD m p 0 % 2) + n) (sum-add (length m) (share a) (share b) ∙ sym (ap₂ _+_ la lb))
+
+-- ---- whatever meets the rules: the frame's number is the splitting's own
+rules-deep : (ports k : ℕ) (m bytes : List ℕ) → length m ≡ ports * ports → Fits ports (2 ^ k) m → Scheduled ports k m bytes → deep ports k bytes ≡ settled k m
+unfolding Scheduled oddShares settled
+rules-deep ports zero m bytes size fits s = sum-none _ ∙ sym (sum-zero (length m) _ (λ p h. refl))
+rules-deep ports (suc k) m bytes size fits s =
+    let sp = s .split in
+    let half = halves-fit ports m (s .first) (s .second) size sp (2 ^ k) (rw (double k) at fits) in
+    let front = rules-sound ports k (s .first) (s .front) (sp .first-size ∙ size) (half .0) (s .first-half) in
+    let back = rules-sound ports k (s .second) (s .back) (sp .second-size ∙ size) (half .1) (s .second-half) in
+    let whole = rules-sound ports (suc k) m bytes size fits s in
+    ap (deep ports (suc k)) (s .joined)
+    ∙ deep-halves ports k (s .front) (s .back) (front .0 .size) (back .0 .size)
+    ∙ ap₂ _+_
+    (ap (oddPairs ports) (sym (s .joined)) ∙ odd-load ports (2 ^ suc k) m bytes (whole .0) ∙ ap (λ n. sumTo n (λ p. getD m p 0 % 2)) (sym size))
+    (ap₂ _+_
+    (rules-deep ports k (s .first) (s .front) (sp .first-size ∙ size) (half .0) (s .first-half))
+    (rules-deep ports k (s .second) (s .back) (sp .second-size ∙ size) (half .1) (s .second-half)))
+    ∙ sym (settled-halves (portOf ports) k m (s .first) (s .second) sp)
+
+pub work-settled : (ports k : ℕ) (m bytes : List ℕ) → k ≤ 10 → length m ≡ ports * ports → Fits ports (2 ^ k) m → Scheduled ports k m bytes
+    → work ports (2 ^ k) bytes ≡ settled k m
+unfolding work
+work-settled ports k m bytes low size fits s =
+    ap (λ n. sumTo n (atDepth ports (2 ^ k) bytes)) (levels-of k low) ∙ rules-deep ports k m bytes size fits s
+
+-- so is Build's
+pub work-built : (ports slots : ℕ) (m buffer : List ℕ) → buildAccepts ports slots m buffer ≡ true
+    → work ports slots (left ports slots m buffer) ≡ settled (levels slots) m
+work-built ports slots m buffer e =
+    let a = accepts-is ports slots m buffer e in
+    let b = build-frame ports slots m buffer e in
+    let k = levels slots in
+    let low : k ≤ 10 = (let n = a .well .power .most in omega (arith, power-level (a .well .power))) in
+    ap (λ (n : ℕ). work ports n (left ports slots m buffer)) (b .1)
+    ∙ work-settled ports k m (left ports slots m buffer) low (a .well .square) (subst (λ (n : ℕ). Fits ports n m) (b .1) (a .fits)) (b .0 .meets)
+
+-- ---- how many they can be
+-- both halves of a number make it up
+halves-whole : (c : ℕ) → c / 2 + (c + 1) / 2 ≡ c
+halves-whole c = byEq (c % 2) 0 (λ e. omega arith) (λ e. omega arith)
+
+-- no more than k for each cell,
+shares-most : (k c : ℕ) → oddShares k c ≤ k * c
+unfolding oddShares
+shares-most zero c = omega arith
+shares-most (suc k) c =
+    let a = shares-most k (c / 2) in
+    let b = shares-most k ((c + 1) / 2) in
+    let s : k * (c / 2) + k * ((c + 1) / 2) ≡ k * c = omega (arith, ap (λ n. k * n) (halves-whole c)) in
+    let o : c % 2 ≤ c = omega arith in
+    omega arith
+
+-- and as many where the pair has one cell, or none
+shares-none : (k : ℕ) → oddShares k 0 ≡ 0
+unfolding oddShares
+shares-none zero = refl
+shares-none (suc k) = omega (arith, shares-none k)
+
+shares-one : (k : ℕ) → oddShares k 1 ≡ k
+unfolding oddShares
+shares-one zero = refl
+shares-one (suc k) = omega (arith, shares-none k, shares-one k)
+
+-- nor as many as there are slots
+pub shares-less : (k c : ℕ) → oddShares k c < 2 ^ k
+unfolding oddShares
+shares-less zero c = omega arith
+shares-less (suc k) c = omega (arith, shares-less k (c / 2), shares-less k ((c + 1) / 2), double k)
+
+pub settled-room : (k : ℕ) (m : List ℕ) → settled k m ≤ length m * 2 ^ k
+unfolding settled
+settled-room k m = sum-most (length m) (2 ^ k) _ (λ p h. omega (arith, shares-less k (getD m p 0)))
+
+-- all cells of a load that fits
+total-most : (ports slots : ℕ) (m : List ℕ) → Fits ports slots m → load total ports m ≤ ports * slots
+unfolding load
+total-most ports slots m fits =
+    rw (sum-rows ports ports (λ p. getD m p 0)) (sum-most ports slots _ (λ i h. fits i h .0))
+
+settled-most : (ports k : ℕ) (m : List ℕ) → length m ≡ ports * ports → settled k m ≤ k * load total ports m
+unfolding load settled
+settled-most ports k m size =
+    let each = sum-le (length m) (λ p. oddShares k (getD m p 0)) (λ p. k * getD m p 0) (λ p h. shares-most k (getD m p 0)) in
+    omega (arith, each, sum-times (length m) k (λ p. getD m p 0), ap (λ n. k * sumTo n (λ p. getD m p 0)) size)
+
+-- No load that Build accepts settles more than k for each of its cells.
+pub work-cells : (ports slots : ℕ) (m buffer : List ℕ) → buildAccepts ports slots m buffer ≡ true → (k : ℕ) → slots ≡ 2 ^ k
+    → work ports slots (left ports slots m buffer) ≤ k * load total ports m
+work-cells ports slots m buffer e k power =
+    let a = accepts-is ports slots m buffer e in
+    rw (work-built ports slots m buffer e, level-is (a .well .power) power) (settled-most ports k m (a .well .square))
+
+-- Nor more than ports × slots × k.
+pub work-most : WorkMost
+work-most ports slots m buffer e k power =
+    let a = accepts-is ports slots m buffer e in
+    let cells-at : k * load total ports m ≤ k * (ports * slots) = mul-le-mul-left k (total-most ports slots m (a .fits)) in
+    omega (arith, work-cells ports slots m buffer e k power)
+
+-- ---- that is reached
+-- Where no pair has more than one cell, each cell settles k.
+pub work-single : (ports slots : ℕ) (m buffer : List ℕ) → buildAccepts ports slots m buffer ≡ true → (k : ℕ) → slots ≡ 2 ^ k
+    → ((p : ℕ) → getD m p 0 ≤ 1) → work ports slots (left ports slots m buffer) ≡ k * load total ports m
+unfolding load settled
+work-single ports slots m buffer e k power low =
+    let a = accepts-is ports slots m buffer e in
+    rw (work-built ports slots m buffer e, level-is (a .well .power) power)
+    (sum-ext (length m) _ (λ p. k * getD m p 0) (λ p h. one-or-none p)
+    ∙ sum-times (length m) k (λ p. getD m p 0) ∙ ap (λ n. k * sumTo n (λ p. getD m p 0)) (a .well .square))
+  where
+    one-or-none : (p : ℕ) → oddShares k (getD m p 0) ≡ k * getD m p 0
+    one-or-none p =
+        byEq (getD m p 0) 0 (λ z. rw z (omega (arith, shares-none k)))
+        (λ n. let one : getD m p 0 ≡ 1 = (let l = low p in omega arith) in rw one (omega (arith, shares-one k)))
+
+one-at : (n p : ℕ) → p < n → getD (replicate {A = ℕ} n 1) p 0 ≡ 1
+one-at zero p h = absurd (omega arith)
+one-at (suc n) zero h = refl
+one-at (suc n) (suc p) h = one-at n p (omega arith)
+
+one-most : (n p : ℕ) → getD (replicate {A = ℕ} n 1) p 0 ≤ 1
+one-most zero p = omega arith
+one-most (suc n) zero = omega arith
+one-most (suc n) (suc p) = one-most n p
+
+pub work-reached : WorkReached
+unfolding load
+work-reached k low buffer size = (
+  accepts,
+  work-single (2 ^ k) (2 ^ k) (ones k) buffer accepts k refl (one-most (2 ^ k * 2 ^ k)) ∙ ap (λ n. k * n) all ∙ omega arith,
+)
+  where
+    most : 2 ^ k ≤ 2 ^ 4
+    most = pow-le-pow-right (omega arith) {j = 4} low
+
+    port-load : (f : ℕ → ℕ) → sumTo (2 ^ k) (λ x. getD (ones k) (f x) 0) ≤ 2 ^ k
+    port-load f = omega (arith, sum-most (2 ^ k) 1 (λ x. getD (ones k) (f x) 0) (λ x h. one-most (2 ^ k * 2 ^ k) (f x)))
+
+    fits : Fits (2 ^ k) (2 ^ k) (ones k)
+    fits x h = (port-load (λ o. x * 2 ^ k + o), port-load (λ i. i * 2 ^ k + x))
+
+    accepts : buildAccepts (2 ^ k) (2 ^ k) (ones k) buffer ≡ true
+    accepts =
+        accepts-yes (2 ^ k) (2 ^ k) (ones k) buffer
+        (record {
+          well = record {
+            rack = (pow-pos k, omega (arith, most));
+            power = record { k = k; most = omega arith; is = refl };
+            square = length-replicate {A = ℕ} (2 ^ k * 2 ^ k) 1;
+          };
+          size = size;
+          fits = fits;
+        })
+
+    all : load total (2 ^ k) (ones k) ≡ 2 ^ k * 2 ^ k
+    all =
+        sum-ext (2 ^ k * 2 ^ k) _ (λ p. 1) (λ p h. one-at (2 ^ k * 2 ^ k) p h) ∙ sum-ones (2 ^ k * 2 ^ k)
