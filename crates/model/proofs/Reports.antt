@@ -10,7 +10,7 @@ use lib.ListN.{length, getD}
 use lib.Pow.{pow-pos}
 use borrow.Author.Tests.{eqb-true, eqb-false, eq-eqb, ne-eqb, le-ltb, ltb-false, not-false}
 use Rattle.model.specs.Words.{within, Every}
-use Rattle.model.specs.Refusals.{Check, report, clear, accepted, refusal, levels, bad-ports, bad-slots, bad-matrix, bad-frame, bad-slot}
+use Rattle.model.specs.Refusals.{Check, report, clear, refusal, levels, bad-ports, bad-slots, bad-matrix, bad-frame, bad-slot}
 use Rattle.model.specs.Service.{bad-length}
 use Rattle.model.specs.Sheet.{bad-sheet}
 use Rattle.model.specs.declared.Refusal.{Refusal}

@@ -4,23 +4,24 @@ use mathlib.Core.Path.{_≡_, refl, sym, ap, ap₂, _∙_, subst}
 use mathlib.Core.List.{List, _++_}
 use mathlib.Core.Bool.{true}
 use native.Mathlib.Omega.{arith}
-use native.Mathlib.Nat.{div-add-mod', mul-le-mul-left, mul-le-mul-right, pow-le-pow-right}
+use native.Mathlib.Nat.{div-add-mod', mul-div-cancel, mul-le-mul-left, mul-le-mul-right, pow-le-pow-right}
 use lib.Pow.{pow-pos}
 use lib.ListN.{length, getD, replicate, length-append, length-replicate}
 use Rattle.model.specs.Words.{Near, sumTo}
-use Rattle.model.specs.Loads.{pair, input, output, total, load, countOf, Fits}
-use Rattle.model.specs.Frames.{cells, runOf, Legal}
+use Rattle.model.specs.Loads.{total, load, Fits}
+use Rattle.model.specs.Frames.{runOf, Legal, Block}
 use Rattle.model.specs.Refusals.{levels}
 use Rattle.model.specs.Rules.{Side, inputs, outputs, portOf, Split, Scheduled}
 use Rattle.model.specs.Work.{oddPairs, blockOf, work, oddShares, settled}
 use Rattle.model.specs.Build.{buildAccepts, left, WorkMost, ones, WorkReached}
 use Rattle.model.proofs.Cases.{byEq, byLt}
 use Rattle.model.proofs.Sums.{sum-none, sum-ext, sum-shift, sum-append, sum-add, sum-le, sum-most, sum-zero, sum-rows, sum-times, sum-ones}
-use Rattle.model.proofs.Levels.{levels-of, power-level, level-is, depth-size, depth-fill}
+use Rattle.model.proofs.Levels.{pow-only, levels-of, power-level, level-is, depth-size, depth-fill}
 use Rattle.model.proofs.Halves.{port-low, halves-fit}
 use Rattle.model.proofs.Cells.{run-all, run-first, run-second}
-use Rattle.model.proofs.OneFrame.{double, frame-length, rules-sound, frame-is, only-frame}
-use Rattle.model.proofs.Demand2.{Accepts, accepts-is, accepts-yes, build-frame}
+use Rattle.model.proofs.Blocks.{number-block, block-numbered}
+use Rattle.model.proofs.OneFrame.{double, rules-sound}
+use Rattle.model.proofs.Demand2.{accepts-is, accepts-yes, build-frame}
 
 -- ---- the blocks of a frame of 2 ^ k slots, depth by depth
 abbrev atDepth : ℕ → ℕ → List ℕ → ℕ → ℕ
@@ -28,6 +29,46 @@ atDepth ports slots bytes t = sumTo (2 ^ t) (λ b. oddPairs ports (blockOf ports
 
 abbrev deep : ℕ → ℕ → List ℕ → ℕ
 deep ports k bytes = sumTo k (atDepth ports (2 ^ k) bytes)
+
+-- Blocks by depth and number are those of rule 1 with two or more slots, each once.
+pub record EachOnce (slots k : ℕ) : Type 0 where
+  pub block : (t b : ℕ) → t < k → b < 2 ^ t → Block slots (b * (slots / 2 ^ t)) (slots / 2 ^ t) × (2 ≤ slots / 2 ^ t)
+  pub found : (start size : ℕ) → Block slots start size → 2 ≤ size
+      → (t : ℕ) × (b : ℕ) × (t < k) × (b < 2 ^ t) × (size ≡ slots / 2 ^ t) × (start ≡ b * (slots / 2 ^ t))
+  pub once : (t b u c : ℕ) → t < k → u < k → slots / 2 ^ t ≡ slots / 2 ^ u → b * (slots / 2 ^ t) ≡ c * (slots / 2 ^ u) → (t ≡ u) × (b ≡ c)
+
+-- two or more slots are 2 ^ j with j above 0, and one slot is 2 ^ 0
+two-most : (j : ℕ) → 0 < j → 2 ≤ 2 ^ j
+two-most zero h = absurd (omega arith)
+two-most (suc j) h = omega (arith, double j, pow-pos j)
+
+pub each-once : (slots k : ℕ) → slots ≡ 2 ^ k → EachOnce slots k
+each-once slots k e = record { block = block; found = found; once = once }
+  where
+    size-at : (t : ℕ) → t ≤ k → slots / 2 ^ t ≡ 2 ^ (k - t)
+    size-at t h = ap (λ n. n / 2 ^ t) e ∙ depth-size k t h
+
+    block : (t b : ℕ) → t < k → b < 2 ^ t → Block slots (b * (slots / 2 ^ t)) (slots / 2 ^ t) × (2 ≤ slots / 2 ^ t)
+    block t b h l =
+        let z = size-at t (omega arith) in
+        (number-block slots k e t b (slots / 2 ^ t) (omega arith) l z, omega (arith, z, two-most (k - t) (omega arith)))
+
+    found : (start size : ℕ) → Block slots start size → 2 ≤ size
+        → (t : ℕ) × (b : ℕ) × (t < k) × (b < 2 ^ t) × (size ≡ slots / 2 ^ t) × (start ≡ b * (slots / 2 ^ t))
+    found start size b h =
+        let n = block-numbered slots k start size e b in
+        let z : size ≡ slots / 2 ^ n .depth = n .size ∙ sym (size-at (n .depth) (n .depth-most)) in
+        let deep : n .depth < k = byLt (n .depth) k (λ l. l) (λ l.
+        let none : k - n .depth ≡ 0 = omega arith in
+        let one : size ≡ 1 = n .size ∙ ap (λ j. 2 ^ j) none in
+        absurd (omega arith)) in
+        (n .depth, n .number, deep, n .number-most, z, n .start ∙ ap (λ y. n .number * y) z)
+
+    once : (t b u c : ℕ) → t < k → u < k → slots / 2 ^ t ≡ slots / 2 ^ u → b * (slots / 2 ^ t) ≡ c * (slots / 2 ^ u) → (t ≡ u) × (b ≡ c)
+    once t b u c h l d f =
+        let same : k - t ≡ k - u = pow-only (k - t) (k - u) (sym (size-at t (omega arith)) ∙ d ∙ size-at u (omega arith)) in
+        let low : 0 < slots / 2 ^ u = omega (arith, size-at u (omega arith), pow-pos (k - u)) in
+        (omega arith, sym (mul-div-cancel b low) ∙ ap (λ n. n / (slots / 2 ^ u)) (sym (ap (λ z. b * z) d) ∙ f) ∙ mul-div-cancel c low)
 
 module _ (ports k : ℕ) (f g : List ℕ) (lf : length f ≡ 2 ^ k * ports) (lg : length g ≡ 2 ^ k * ports) where
   -- at depth 0 there is the whole frame

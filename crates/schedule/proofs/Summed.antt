@@ -1,15 +1,13 @@
 -- The odd counts settled in a block, from those of its halves.
-use Prim.Native.Nat.{ℕ, suc, _+_, _*_, _/_, _%_, _^_, _≤_, _<_}
-use mathlib.Core.Path.{_≡_, refl, sym, ap, ap₂, _∙_}
+use Prim.Native.Nat.{ℕ, _+_, _*_, _/_, _%_, _^_, _≤_, _<_}
+use mathlib.Core.Path.{_≡_, refl, sym, ap, _∙_}
 use mathlib.Core.Logic.{_≢_}
 use mathlib.Core.List.{List}
 use native.Mathlib.Omega.{arith}
 use native.Mathlib.Nat.{mul-le-mul, pow-le-pow-right}
-use mir.Syntax.{w64}
-use mir.Val.{Fits}
 use lib.ListN.{length, getD, take, length-take}
 use lib.Seq.{length-take-le}
-use Rattle.model.specs.Words.{bit, sumTo}
+use Rattle.model.specs.Words.{sumTo}
 use Rattle.model.specs.Rules.{portOf, odd}
 use Rattle.model.specs.Refusals.{levels}
 use Rattle.model.specs.Schedule.{halfOf}
@@ -38,39 +36,31 @@ odds-number n m =
     ∙ sum-ext n _ _ (λ p h.
     byEq (getD m p 0 % 2) 1 (λ e. is-yes (getD m p 0 % 2) 1 e ∙ sym e) (λ e. is-no (getD m p 0 % 2) 1 e ∙ omega arith))
 
--- what is settled has room in a number of 64 bits
-part-low : (k n : ℕ) (m : List ℕ) → k ≤ 10 → n ≤ 256 → settled k (take n m) ≤ 256 * 1024
-part-low k n m h l =
-    let slots : 2 ^ k ≤ 2 ^ 10 = pow-le-pow-right (omega arith) {j = 10} h in
-    let counts : length (take n m) ≤ 256 = omega (arith, length-take n m) in
-    omega (arith, settled-room k (take n m), mul-le-mul counts slots)
+-- they have room in a number of 64 bits, and so has what is settled in a half
+pub here-low : (ports n : ℕ) (ins outs m : List ℕ) (h : ℕ) → Tables ports n ins outs → h ≡ length (oddsBelow n m) → h ≤ 256
+here-low ports n ins outs m h t e = omega (arith, odds-most n m, t .most)
 
-module _ (ports slots n : ℕ) (ins outs m : List ℕ) (h : ℕ) (t : Tables ports n ins outs) (many : slots ≢ 1) (v : levels slots < 11)
-    (h-is : h ≡ length (oddsBelow n m)) (a : List ℕ) (f : ℕ) (f-is : f ≡ settled (levels (slots / 2)) (take n a)) where
-  half-low : (l : List ℕ) → settled (levels (slots / 2)) (take n l) ≤ 256 * 1024
-  half-low l = part-low (levels (slots / 2)) n l (omega (arith, levels-half slots v many .power)) (t .most)
+pub half-low : (ports slots n : ℕ) (ins outs a : List ℕ) (f : ℕ) → Tables ports n ins outs → slots ≢ 1 → levels slots < 11
+    → f ≡ settled (levels (slots / 2)) (take n a) → f ≤ 256 * 1024
+half-low ports slots n ins outs a f t many v e =
+    let k : ℕ = levels (slots / 2) in
+    let size : 2 ^ k ≤ 2 ^ 10 = pow-le-pow-right (omega arith) {j = 10} (omega (arith, levels-half slots v many .power)) in
+    let counts : length (take n a) ≤ 256 = omega (arith, length-take n a, t .most) in
+    omega (arith, settled-room k (take n a), mul-le-mul counts size)
 
-  here-low : h ≤ 256
-  here-low = omega (arith, odds-most n m, t .most)
-
-  pub front-fits : Fits w64 (h + f)
-  front-fits = omega (arith, here-low, half-low a)
-
-  module _ (b : List ℕ) (g : ℕ) (g-is : g ≡ settled (levels (slots / 2)) (take n b)) where
-    pub all-fits : Fits w64 (h + f + g)
-    all-fits = omega (arith, here-low, half-low a, half-low b)
-
-    pub summed : (x y : List ℕ) → Wide m → a ≡ halved 1 n m ins outs x → b ≡ halved 2 n m ins outs y → h + f + g ≡ settled (levels slots) (take n m)
-    summed x y w ha hb =
-        let k : ℕ = levels (slots / 2) in
-        let m′ : List ℕ = take n m in
-        let odds : ℕ → ℕ = λ p. getD m′ p 0 % 2 in
-        let len : length m′ ≡ n = length-take-le n m (omega (arith, t .most)) in
-        let here : h ≡ sumTo (length m′) odds = h-is ∙ ap length (odds-take n m) ∙ odds-number n m′ ∙ ap (λ j. sumTo j odds) (sym len) in
-        let front : f ≡ settled k (halfOf (portOf ports) 1 m′) = f-is ∙ ap (settled k) (half-of 1 m x a t w ha) in
-        let back : g ≡ settled k (halfOf (portOf ports) 2 m′) = g-is ∙ ap (settled k) (half-of 2 m y b t w hb) in
-        let whole = settled-halves (portOf ports) k m′ (halfOf (portOf ports) 1 m′) (halfOf (portOf ports) 2 m′) (split-is (portOf ports) m′) in
-        omega (arith, here, front, back, whole, ap (λ (j : ℕ). settled j m′) (levels-half slots v many .level))
+pub summed : (ports slots n : ℕ) (ins outs m a b x y : List ℕ) (h f g : ℕ) → Tables ports n ins outs → slots ≢ 1 → levels slots < 11 → Wide m
+    → h ≡ length (oddsBelow n m) → a ≡ halved 1 n m ins outs x → b ≡ halved 2 n m ins outs y
+    → f ≡ settled (levels (slots / 2)) (take n a) → g ≡ settled (levels (slots / 2)) (take n b) → h + f + g ≡ settled (levels slots) (take n m)
+summed ports slots n ins outs m a b x y h f g t many v w eh ha hb ef eg =
+    let k : ℕ = levels (slots / 2) in
+    let m′ : List ℕ = take n m in
+    let odds : ℕ → ℕ = λ p. getD m′ p 0 % 2 in
+    let len : length m′ ≡ n = length-take-le n m (omega (arith, t .most)) in
+    let here : h ≡ sumTo (length m′) odds = eh ∙ ap length (odds-take n m) ∙ odds-number n m′ ∙ ap (λ j. sumTo j odds) (sym len) in
+    let front : f ≡ settled k (halfOf (portOf ports) 1 m′) = ef ∙ ap (settled k) (half-of 1 m x a t w ha) in
+    let back : g ≡ settled k (halfOf (portOf ports) 2 m′) = eg ∙ ap (settled k) (half-of 2 m y b t w hb) in
+    let whole = settled-halves (portOf ports) k m′ (halfOf (portOf ports) 1 m′) (halfOf (portOf ports) 2 m′) (split-is (portOf ports) m′) in
+    omega (arith, here, front, back, whole, ap (λ (j : ℕ). settled j m′) (levels-half slots v many .level))
 
 pub all-settled : (k : ℕ) (m m′ : List ℕ) (r : ℕ) → r ≡ settled k m → m ≡ m′ → r ≡ settled k m′
 all-settled k m m′ r e d = e ∙ ap (settled k) d

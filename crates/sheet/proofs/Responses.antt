@@ -1,9 +1,8 @@
 -- From what a sheet asks for to the bytes of its response.
 use Prim.Native.Nat.{ℕ, _+_, _*_, _≤_, _<_}
 use mathlib.Core.Path.{_≡_, refl, sym, ap, subst, _∙_}
-use mathlib.Core.Logic.{_≢_}
 use mathlib.Core.List.{List, [], _∷_, _++_}
-use mathlib.Core.Bool.{true, false, not, true≢false}
+use mathlib.Core.Bool.{true, false, not}
 use native.Mathlib.Omega.{arith}
 use native.Mathlib.Nat.{mul-le-mul}
 use lib.Dec.{eqb}
@@ -25,7 +24,7 @@ use Rattle.model.specs.declared.Refusal.{Refusal}
 use Rattle.model.specs.declared.Refusal.the-variants as variants
 use Rattle.model.specs.declared.Built.{Built}
 use Rattle.model.specs.declared.Built.the-variants as builds
-use Rattle.model.proofs.Cases.{byBool, within-yes}
+use Rattle.model.proofs.Cases.{within-yes}
 use Rattle.model.proofs.Reports.{Refuses, report-refused, refusal-number, clear-none, clear-some, slots-known}
 use Rattle.model.proofs.Lengths.{response-most}
 use Rattle.reading.proofs.Reading.{the-type}

@@ -1,11 +1,12 @@
 use Prim.Native.Nat.{ℕ, _<_}
 use borrow.Author.Needs.{needs}
+use native.Mathlib.Omega.{arith}
 use borrow.Fn.Kinds.{In}
 use borrow.Fn.PlainCycle.{Measures, is, falls, and}
 use Rattle.split.proofs.Favoured.{half-wide}
 use Rattle.schedule.proofs.Tabled.{sides-of}
 use Rattle.schedule.proofs.Framed.{slot-tables, frame-one, half-less, half-power, mid-le, mid-fits, still-le, front-is, back-is, written}
-use Rattle.schedule.proofs.Summed.{none-settled, front-fits, all-fits, summed}
+use Rattle.schedule.proofs.Summed.{none-settled, here-low, half-low, summed}
 use Rattle.schedule.proofs.block.Reads as block
 use Rattle.schedule.proofs.block.Kinds as block-kinds
 use Rattle.schedule.proofs.+block.Lts-block as block-lts
@@ -50,14 +51,19 @@ pub +block-spec : {M : Type 1} → statement M
     let split = front .before .before .before in
     let start = split .before .before .before .before .before in
     let pre = start .pre .1 in
-    front-fits _ (start .args .slots) _ _ _ (start .args .counts .now) _ (pre .0) (search needs) (pre .2) (split .split .ensures .0) _ _ (front .block .ensures .0))
+    let h = here-low _ _ _ _ (start .args .counts .now) _ (pre .0) (split .split .ensures .0) in
+    let f = half-low _ (start .args .slots) _ _ _ _ _ (pre .0) (search needs) (pre .2) (front .block .ensures .0) in
+    omega (arith, pre .0 .most))
     (λ c.
     let back = c .before .before in
     let front = back .before .before .before .before .before in
     let split = front .before .before .before in
     let start = split .before .before .before .before .before in
     let pre = start .pre .1 in
-    all-fits _ (start .args .slots) _ _ _ (start .args .counts .now) _ (pre .0) (search needs) (pre .2) (split .split .ensures .0) _ _ (front .block .ensures .0) _ _ (back .block2 .ensures .0))
+    let h = here-low _ _ _ _ (start .args .counts .now) _ (pre .0) (split .split .ensures .0) in
+    let f = half-low _ (start .args .slots) _ _ _ _ _ (pre .0) (search needs) (pre .2) (front .block .ensures .0) in
+    let g = half-low _ (start .args .slots) _ _ _ _ _ (pre .0) (search needs) (pre .2) (back .block2 .ensures .0) in
+    omega (arith, pre .0 .most))
     (λ c. search needs)
     (λ c. (search (needs, none-settled), search (needs, frame-one)))
     (λ c. search needs)
@@ -70,6 +76,6 @@ pub +block-spec : {M : Type 1} → statement M
     let parts = split .split .ensures in
     let f = front .block .ensures in
     let g = back .block2 .ensures in (
-      summed _ (start .args .slots) _ _ _ (start .args .counts .now) _ (pre .0) (search needs) (pre .2) (parts .0) _ _ (f .0) _ _ (g .0) _ _ (pre .1) (parts .1) (parts .2),
+      summed _ (start .args .slots) _ _ _ (start .args .counts .now) _ _ _ _ _ _ _ (pre .0) (search needs) (pre .2) (pre .1) (parts .0) (parts .1) (parts .2) (f .0) (g .0),
       written _ (start .args .slots) _ (search needs) (pre .2) (pre .3) _ _ _ _ _ _ _ (pre .0) (pre .1) (parts .1) (parts .2) (f .1) (g .1),
     ))
