@@ -1,27 +1,31 @@
 -- Work: the odd counts settled for a frame are those of its load, split down to blocks of two slots; and how many they can be.
-use Prim.Native.Nat.{ℕ, suc, zero, _+_, _-_, _*_, _/_, _%_, _^_, _≤_, _<_}
+use Prim.Native.Nat.{ℕ, suc, zero, _+_, _-_, _*_, _/_, _%_, _^_, _≤_, _<_, min}
 use mathlib.Core.Path.{_≡_, refl, sym, ap, ap₂, _∙_, subst}
+use mathlib.Core.Logic.{_≢_}
 use mathlib.Core.List.{List, _++_}
 use mathlib.Core.Bool.{true}
 use native.Mathlib.Omega.{arith}
-use native.Mathlib.Nat.{div-add-mod', mul-div-cancel, mul-le-mul-left, mul-le-mul-right, pow-le-pow-right}
+use native.Mathlib.Nat.{div-add-mod', mod-le, mul-div-cancel, mul-le-mul-right, pow-le-pow-right, le-min, min-le-left}
+use lib.Arith.{digits-div, digits-mod}
+use lib.Dec.{eqb}
 use lib.Pow.{pow-pos}
 use lib.ListN.{length, getD, replicate, length-append, length-replicate}
-use Rattle.model.specs.Words.{Near, sumTo}
-use Rattle.model.specs.Loads.{total, load, Fits}
-use Rattle.model.specs.Frames.{runOf, Legal, Block}
+use borrow.Author.Tests.{eq-eqb, ne-eqb}
+use Rattle.model.specs.Words.{both, bit, Near, sumTo}
+use Rattle.model.specs.Loads.{pair, total, load, Fits}
+use Rattle.model.specs.Frames.{counts, cells, runOf, Legal, Block}
 use Rattle.model.specs.Refusals.{levels}
 use Rattle.model.specs.Rules.{Side, inputs, outputs, portOf, Split, Scheduled}
 use Rattle.model.specs.Work.{oddPairs, blockOf, work, oddShares, settled}
-use Rattle.model.specs.Build.{buildAccepts, left, WorkMost, ones, WorkReached}
-use Rattle.model.proofs.Cases.{byEq, byLt}
-use Rattle.model.proofs.Sums.{sum-none, sum-ext, sum-shift, sum-append, sum-add, sum-le, sum-most, sum-zero, sum-rows, sum-times, sum-ones}
-use Rattle.model.proofs.Levels.{pow-only, levels-of, power-level, level-is, depth-size, depth-fill}
+use Rattle.model.specs.Build.{buildAccepts, left, WorkMost, WorkByDepth, ones, WorkReached}
+use Rattle.model.proofs.Cases.{byEq, byLt, is-yes, is-no}
+use Rattle.model.proofs.Sums.{sum-none, sum-more, sum-ext, sum-shift, sum-append, sum-add, sum-le, sum-most, sum-zero, sum-one, sum-swap, sum-rows, sum-times, sum-ones}
+use Rattle.model.proofs.Levels.{Power, pow-only, levels-of, power-level, level-is, depth-size, depth-fill}
 use Rattle.model.proofs.Halves.{port-low, halves-fit}
-use Rattle.model.proofs.Cells.{run-all, run-first, run-second}
+use Rattle.model.proofs.Cells.{run-all, run-length, run-first, run-second}
 use Rattle.model.proofs.Blocks.{number-block, block-numbered}
 use Rattle.model.proofs.OneFrame.{double, rules-sound}
-use Rattle.model.proofs.Demand2.{accepts-is, accepts-yes, build-frame}
+use Rattle.model.proofs.Demand2.{accepts-is, accepts-yes, build-frame, build-sound}
 
 -- ---- the blocks of a frame of 2 ^ k slots, depth by depth
 abbrev atDepth : ℕ → ℕ → List ℕ → ℕ → ℕ
@@ -213,12 +217,6 @@ pub settled-room : (k : ℕ) (m : List ℕ) → settled k m ≤ length m * 2 ^ k
 unfolding settled
 settled-room k m = sum-most (length m) (2 ^ k) _ (λ p h. omega (arith, shares-less k (getD m p 0)))
 
--- all cells of a load that fits
-total-most : (ports slots : ℕ) (m : List ℕ) → Fits ports slots m → load total ports m ≤ ports * slots
-unfolding load
-total-most ports slots m fits =
-    rw (sum-rows ports ports (λ p. getD m p 0)) (sum-most ports slots _ (λ i h. fits i h .0))
-
 settled-most : (ports k : ℕ) (m : List ℕ) → length m ≡ ports * ports → settled k m ≤ k * load total ports m
 unfolding load settled
 settled-most ports k m size =
@@ -232,12 +230,76 @@ work-cells ports slots m buffer e k power =
     let a = accepts-is ports slots m buffer e in
     rw (work-built ports slots m buffer e, level-is (a .well .power) power) (settled-most ports k m (a .well .square))
 
+-- ---- nor more than the cells of all slots, whatever the bytes
+-- a byte is a cell of one pair at most
+one-output : (byte n : ℕ) → sumTo n (λ o. bit (eqb byte (suc o))) ≤ 1
+one-output byte zero = omega (arith, sum-none (λ o. bit (eqb byte (suc o))))
+one-output byte (suc n) =
+    byEq byte (suc n)
+    (λ e. omega (arith, sum-more n (λ o. bit (eqb byte (suc o))), is-yes byte (suc n) e, sum-zero n (λ o. bit (eqb byte (suc o))) (λ o h. is-no byte (suc o) (omega arith))))
+    (λ e. omega (arith, sum-more n (λ o. bit (eqb byte (suc o))), is-no byte (suc n) e, one-output byte n))
+
+one-pair : (ports at-input byte : ℕ) → sumTo (ports * ports) (λ p. bit (counts (pair (p / ports) (p % ports)) at-input byte)) ≤ 1
+one-pair ports x byte =
+    rw (sum-rows ports ports (λ p. bit (counts (pair (p / ports) (p % ports)) x byte)), sum-ext ports _ row (λ i hi. at-row i))
+    (byLt x ports
+    (λ h. rw (sum-one ports x row h (λ i hi n. other i n)) (omega (arith, own h)))
+    (λ h. rw (sum-zero ports row (λ i hi. other i (omega arith))) (omega arith)))
+  where
+    row : ℕ → ℕ
+    row i = sumTo ports (λ o. bit (both (eqb x i) (eqb byte (suc o))))
+
+    at-row : (i : ℕ) → sumTo ports (λ o. bit (counts (pair ((i * ports + o) / ports) ((i * ports + o) % ports)) x byte)) ≡ row i
+    at-row i = sum-ext ports _ _ (λ o ho. rw (digits-div i ho, digits-mod i ho))
+
+    other : (i : ℕ) → i ≢ x → row i ≡ 0
+    other i n = sum-zero ports _ (λ o ho. rw (ne-eqb x i (λ e. n (sym e))))
+
+    own : x < ports → row x ≤ 1
+    own h = rw (eq-eqb x x refl) (one-output byte ports)
+
+odd-cells : (ports : ℕ) (bytes : List ℕ) → oddPairs ports bytes ≤ length bytes
+unfolding cells
+odd-cells ports bytes =
+    let pairs : ℕ → ℕ → ℕ = λ p q. bit (counts (pair (p / ports) (p % ports)) (q % ports) (getD bytes q 0)) in
+    let odd = sum-le (ports * ports) _ (λ p. sumTo (length bytes) (pairs p)) (λ p h. mod-le (sumTo (length bytes) (pairs p)) 2) in
+    let byte = sum-most (length bytes) 1 (λ q. sumTo (ports * ports) (λ p. pairs p q)) (λ q h. one-pair ports (q % ports) (getD bytes q 0)) in
+    omega (arith, odd, byte, sum-swap (ports * ports) (length bytes) pairs)
+
+odd-pairs : (ports : ℕ) (bytes : List ℕ) → oddPairs ports bytes ≤ ports * ports
+odd-pairs ports bytes = omega (arith, sum-most (ports * ports) 1 _ (λ p h. low (cells (pair (p / ports) (p % ports)) ports bytes)))
+  where
+    low : (n : ℕ) → n % 2 ≤ 1
+    low n = omega arith
+
+-- at depth t there are 2 ^ t blocks, and together they have all slots
+depth-most : (ports k : ℕ) (bytes : List ℕ) → length bytes ≡ 2 ^ k * ports → (t : ℕ) → t < k
+    → atDepth ports (2 ^ k) bytes t ≤ min (ports * 2 ^ k) (2 ^ t * (ports * ports))
+depth-most ports k bytes size t h =
+    let z : ℕ = 2 ^ k / 2 ^ t in
+    let fill : 2 ^ t * z ≡ 2 ^ k = depth-fill k t (omega arith) in
+    let in-cells = sum-most (2 ^ t) (z * ports) (λ b. oddPairs ports (blockOf ports z b bytes)) (λ b l.
+    let m : suc b * z ≤ 2 ^ t * z = mul-le-mul-right z l in
+    let n : (b * z + z) * ports ≤ 2 ^ k * ports = mul-le-mul-right ports (omega arith) in
+    omega (arith, odd-cells ports (blockOf ports z b bytes), run-length ports (b * z) z bytes (omega arith))) in
+    let in-pairs = sum-most (2 ^ t) (ports * ports) (λ b. oddPairs ports (blockOf ports z b bytes)) (λ b l. odd-pairs ports (blockOf ports z b bytes)) in
+    le-min (omega (arith, in-cells, ap (λ n. n * ports) fill)) in-pairs
+
+pub frame-most : (ports slots k : ℕ) (bytes : List ℕ) → Power slots → slots ≡ 2 ^ k → length bytes ≡ slots * ports
+    → work ports slots bytes ≤ sumTo k (λ t. min (ports * slots) (2 ^ t * (ports * ports)))
+unfolding work
+frame-most ports slots k bytes p power size =
+    rw (level-is p power, power) (sum-le k (atDepth ports (2 ^ k) bytes) _ (depth-most ports k bytes (size ∙ ap (λ n. n * ports) power)))
+
+pub work-by-depth : WorkByDepth
+work-by-depth ports slots m buffer e k power =
+    frame-most ports slots k (left ports slots m buffer) (accepts-is ports slots m buffer e .well .power) power (build-sound ports slots m buffer e .0 .size)
+
 -- Nor more than ports × slots × k.
 pub work-most : WorkMost
 work-most ports slots m buffer e k power =
-    let a = accepts-is ports slots m buffer e in
-    let cells-at : k * load total ports m ≤ k * (ports * slots) = mul-le-mul-left k (total-most ports slots m (a .fits)) in
-    omega (arith, work-cells ports slots m buffer e k power)
+    let most = sum-most k (ports * slots) (λ t. min (ports * slots) (2 ^ t * (ports * ports))) (λ t h. min-le-left (ports * slots) (2 ^ t * (ports * ports))) in
+    omega (arith, most, work-by-depth ports slots m buffer e k power)
 
 -- ---- that is reached
 -- Where no pair has more than one cell, each cell settles k.

@@ -1,10 +1,10 @@
 -- Build: its answer, and the bytes that it leaves.
-use Prim.Native.Nat.{ℕ, _*_, _^_, _≤_}
+use Prim.Native.Nat.{ℕ, _*_, _^_, _≤_, min}
 use mathlib.Core.Path.{_≡_}
 use mathlib.Core.List.{List, [], _∷_}
 use mathlib.Core.Bool.{Bool, true}
 use lib.ListN.{length, replicate}
-use Rattle.model.specs.Words.{if}
+use Rattle.model.specs.Words.{if, sumTo}
 use Rattle.model.specs.Loads.{input, output}
 use Rattle.model.specs.Refusals.{Check, report, clear, refusal, bad-ports, bad-slots, bad-matrix, bad-frame, overload, levels}
 use Rattle.model.specs.Schedule.{frameOf}
@@ -46,7 +46,14 @@ WorkMost =
     (ports slots : ℕ) (matrix buffer : List ℕ) → buildAccepts ports slots matrix buffer ≡ true → (k : ℕ) → slots ≡ 2 ^ k
     → work ports slots (left ports slots matrix buffer) ≤ ports * slots * k
 
--- That is reached: by one cell for each pair of a switch of 2 ^ k ports, in as many slots.
+-- A block of one depth has no more odd pairs than a switch has pairs: at depth t, where there are 2 ^ t blocks, they are at most 2 ^ t
+-- times the pairs, and at most the cells of all slots.
+abbrev pub WorkByDepth : Type 0
+WorkByDepth =
+    (ports slots : ℕ) (matrix buffer : List ℕ) → buildAccepts ports slots matrix buffer ≡ true → (k : ℕ) → slots ≡ 2 ^ k
+    → work ports slots (left ports slots matrix buffer) ≤ sumTo k (λ t. min (ports * slots) (2 ^ t * (ports * ports)))
+
+-- ports × slots × k is reached: by one cell for each pair of a switch of 2 ^ k ports, in as many slots.
 abbrev pub ones : ℕ → List ℕ
 ones k = replicate (2 ^ k * 2 ^ k) 1
 
