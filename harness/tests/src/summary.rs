@@ -18,6 +18,16 @@ pub fn summary(hits: &Hits) -> Vec<String> {
     lines
 }
 
+/// A table, or nothing where it has no rows.
+fn table(title: &str, head: String, rows: impl Iterator<Item = String>) -> Vec<String> {
+    let rows: Vec<String> = rows.collect();
+    if rows.is_empty() {
+        return rows;
+    }
+    let lines = [title.to_string(), head];
+    lines.into_iter().chain(rows).collect()
+}
+
 /// How often something happened for each k; nothing where it never did.
 fn line(hits: &Hits, name: &'static str) -> Option<String> {
     let counts = (1..=10).map(|k| (k, hits.count_at(name, k)));
@@ -40,17 +50,12 @@ fn leads(hits: &Hits) -> Vec<String> {
             "{k:>3} {slots:>9} {seen:>9} {allowed:>13.3} {sharp:>9} {ratio:>9.4}"
         ))
     });
-    let rows: Vec<String> = rows.collect();
-    if rows.is_empty() {
-        return rows;
-    }
     let title = "furthest leads of built frames, in parts of 1/2^k of a cell";
     let head = format!(
         "{:>3} {:>9} {:>9} {:>13} {:>9} {:>9}",
         "k", "slots", "seen", "(2k+1)2^k/3", "2^k 2p(k)", "ratio"
     );
-    let lines = [title.to_string(), head];
-    lines.into_iter().chain(rows).collect()
+    table(title, head, rows)
 }
 
 /// The deepest queues beside what is allowed, in cells; nothing where no queue was run.
@@ -67,18 +72,13 @@ fn depths(hits: &Hits) -> Vec<String> {
         let (one_allowed, later_allowed) = (allowed(2), allowed(4));
         any.then(|| format!("{k:>3} {one_allowed:>9} {one:>9} {later_allowed:>9} {later}"))
     });
-    let rows: Vec<String> = rows.collect();
-    if rows.is_empty() {
-        return rows;
-    }
     let title =
         "deepest queues after a slot, in cells: one switch, above a; the later switches of a row";
     let head = format!(
         "{:>3} {:>9} {:>9} {:>9} {:>9}{:>9}{:>9}{:>9}",
         "k", "2p(k)", "seen", "4p(k)", "2nd", "3rd", "4th", "5th"
     );
-    let lines = [title.to_string(), head];
-    lines.into_iter().chain(rows).collect()
+    table(title, head, rows)
 }
 
 /// Parts of 1/2^k of a cell in cells.
