@@ -6,13 +6,11 @@ use std::hint::black_box;
 use std::process::ExitCode;
 use std::time::Instant;
 
+use bench::loads_of;
 use calls::{Calls, Class, Inspection, Library};
-use loads::{full_load, Call, Random, Shape};
+use loads::{Call, Shape};
 
 const USAGE: &str = "benchmark [--repetitions COUNT]";
-
-/// Different loads taken in turn, so that no builder learns one by heart.
-const LOADS: usize = 16;
 
 /// The least time a sample should take, in nanoseconds.
 const SAMPLE_TIME: f64 = 200_000.0;
@@ -67,14 +65,6 @@ struct Row {
     right: f64,
     /// The median over the repetitions, which a change of the clock's pace does not bend.
     ratio: f64,
-}
-
-/// Random loads that give every port so many cells.
-fn loads_of(shape: Shape, cells: usize) -> Vec<Call> {
-    let mut random = Random::new(2_026);
-    (0..LOADS)
-        .map(|_| full_load(shape, cells, &mut random))
-        .collect()
 }
 
 /// The nanoseconds a piece of work takes once, measured over so many times.
