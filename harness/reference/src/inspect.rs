@@ -91,7 +91,7 @@ fn is_balanced(ports: usize, block: &[u8]) -> bool {
 }
 
 /// The cells of every pair in matrix order, then of every input, then of every output, then all of them.
-fn cells_by_class(ports: usize, block: &[u8]) -> Vec<u64> {
+pub(crate) fn cells_by_class(ports: usize, block: &[u8]) -> Vec<u64> {
     let pairs = ports * ports;
     let total = pairs + 2 * ports;
     let mut cells = vec![0; total + 1];

@@ -10,6 +10,7 @@ pub mod queue;
 mod refusal;
 mod sheet;
 pub mod wire;
+pub mod work;
 
 pub use admission::admit;
 pub use build::build;

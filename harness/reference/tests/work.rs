@@ -1,0 +1,32 @@
+//! Odd counts settled, worked by hand.
+
+use reference::work::{odd_counts, settled};
+
+/// Pairs (4, 1) and (4, 2) of the whole frame, and in each half the four pairs that it has.
+const TABLE_7_FRAME: [u8; 16] = [1, 0, 0, 4, 2, 0, 0, 1, 1, 0, 0, 2, 2, 0, 0, 4];
+
+#[test]
+fn counted_in_frames() {
+    let cases: [(u64, &[u8], u64); 8] = [
+        (1, &[1], 0),
+        (2, &[2, 1], 0),
+        (2, &[1, 2, 2, 1], 4),
+        // Three cells in all, two in the first half, one in the second.
+        (1, &[1, 1, 1, 0], 2),
+        (1, &[1, 0, 1, 0], 2),
+        // No load has this frame: its halves have two cells and none.
+        (1, &[1, 1, 0, 0], 0),
+        (4, &TABLE_7_FRAME, 2 + 4 + 4),
+        (16, &[0; 16_384], 0),
+    ];
+    for (ports, frame, number) in cases {
+        assert_eq!(settled(ports, frame), number, "{frame:?}");
+    }
+}
+
+#[test]
+fn counted_in_one_block() {
+    assert_eq!(odd_counts(4, &TABLE_7_FRAME), 2);
+    assert_eq!(odd_counts(4, &TABLE_7_FRAME[..8]), 4);
+    assert_eq!(odd_counts(4, &TABLE_7_FRAME[..4]), 2);
+}
