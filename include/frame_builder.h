@@ -6,9 +6,9 @@
  *
  * WORDS. Ports and slots are numbered from 1, inputs and outputs separately. A load matrix has one 16-bit cell count per pair, row by row:
  * all outputs of input 1, then of input 2, and so on. The load of a port is the sum of its row or column. A frame is slots x ports bytes,
- * slot 1 first; within a slot there is one byte per input: the output it sends to, or 0 for idle. A slice is a matrix or a frame as a call
- * is lent it: a pointer, and the number of elements. A lent number is one that a call is lent to write to: *first, *second, *start, *size
- * and *cells, each a size_t, and *lead, an int64_t.
+ * slot 1 first; within a slot there is one byte per input: the output it sends to, or 0 for idle. A block is the whole frame, or either
+ * half of a block of 2 or more slots. A slice is a matrix or a frame as a call is lent it: a pointer, and the number of elements. A lent
+ * number is one that a call is lent to write to: *first, *second, *start, *size and *cells, each a size_t, and *lead, an int64_t.
  *
  * ANSWERS. Every call takes any numbers and slices of any length. It tries its refusals, and Inspect then its faults, in the order of its
  * table below, and returns the number of the first whose condition holds, or 0 if none does. It writes its lent numbers whatever it
@@ -39,7 +39,7 @@
 #include <stdint.h>
 
 /* The version of the project. It stands in this line alone; whatever else says the version reads it from here. */
-#define FRAME_BUILDER_VERSION "2.1.0"
+#define FRAME_BUILDER_VERSION "3.0.0"
 
 /* Limits. */
 #define FRAME_BUILDER_MAX_PORTS 16
@@ -138,10 +138,16 @@ extern "C" {
  */
 size_t frame_builder_admit(size_t ports, size_t slots, const uint16_t *matrix, size_t matrix_length, size_t *first, size_t *second);
 
-/* Build: fills the frame, every byte of it.
+/* Build: fills the frame, every byte of it, and says how many odd counts it settled.
+ *
+ * Those are, over all blocks of 2 or more slots, the pairs with an odd number of cells in that block of the frame: the halves of the block
+ * cannot have as many cells each, so that Build has to find which gets one more. They say how much work the build was: its instructions
+ * grow with them, as docs/FIGURES.md has it. There are 0 to ports x slots x k of them, where slots are 2^k, and so 163,840 at most. With
+ * as many slots as ports, or fewer, some load comes to that bound, as one of 16 x 16 with every count 1 does: 1,024. With more slots than
+ * ports none does.
  *
  *     answer                  *first                   *second                             frame
- *     ACCEPTED                0                        0                                   the frame of the load
+ *     ACCEPTED                the odd counts settled   0                                   the frame of the load
  *     REFUSED_PORTS           0                        0                                   as it was
  *     REFUSED_SLOTS           0                        0                                   as it was
  *     REFUSED_MATRIX_LENGTH   0                        0                                   as it was
@@ -153,8 +159,8 @@ size_t frame_builder_build(size_t ports, size_t slots, const uint16_t *matrix, s
                            size_t frame_length, size_t *first, size_t *second);
 
 /* Inspect: whether a frame from anywhere is legal for the load and balanced; if not, its first fault. Each kind of fault is looked for in
- * the whole frame before the next kind. A block is the whole frame, or either half of a block of 2 or more slots; it is unbalanced where
- * its halves differ by more than one cell of some pair, input or output, or in total.
+ * the whole frame before the next kind. A block is unbalanced where its halves differ by more than one cell of some pair, input or output,
+ * or in total.
  *
  *     answer                  *first                   *second                             which, of several
  *     CLEAN                   0                        0

@@ -19,7 +19,7 @@ const VARIABLES: [&str; 6] = [
 ];
 
 /// How the version begins of a library that has the calls as this crate makes them.
-const CALLS: &str = "2.";
+const CALLS: &str = "3.";
 
 const ADVICE: &str = "\
 What to do, one of these:
@@ -89,7 +89,7 @@ fn find() -> Result<Library, String> {
     Err(tried + ADVICE)
 }
 
-/// Refuses a library whose calls take other arguments, which the linker would not notice.
+/// Refuses a library whose calls take other arguments or answer otherwise, which the linker would not notice.
 fn with_these_calls(library: Library) -> Result<Library, String> {
     let (archive, version) = (library.archive.display(), &library.version);
     if version.starts_with(CALLS) {

@@ -4,7 +4,7 @@ use std::io::{BufReader, Read, Write};
 use std::process::{Child, ChildStdin, ChildStdout, Command, Stdio};
 use std::sync::Mutex;
 
-use crate::{Answer, Calls, Class, Count, Inspection, Refusal, Service};
+use crate::{Answer, Built, Calls, Class, Count, Inspection, Refusal, Service};
 
 /// The calls as `harness/c/calls.c` numbers them.
 #[derive(Clone, Copy, Default)]
@@ -165,13 +165,6 @@ fn refusal_of(numbers: [u64; 3]) -> Refusal {
     }
 }
 
-fn answer_of(numbers: [u64; 3]) -> Answer {
-    match numbers {
-        [0, 0, 0] => Ok(()),
-        refused => Err(refusal_of(refused)),
-    }
-}
-
 impl Calls for InC {
     fn admit(&self, ports: u64, slots: u64, matrix: &[u16]) -> Answer {
         let record = Record {
@@ -181,10 +174,13 @@ impl Calls for InC {
             matrix,
             ..Record::default()
         };
-        answer_of(self.make(&record.bytes(), &mut []))
+        match self.make(&record.bytes(), &mut []) {
+            [0, 0, 0] => Ok(()),
+            refused => Err(refusal_of(refused)),
+        }
     }
 
-    fn build(&self, ports: u64, slots: u64, matrix: &[u16], frame: &mut [u8]) -> Answer {
+    fn build(&self, ports: u64, slots: u64, matrix: &[u16], frame: &mut [u8]) -> Built {
         let record = Record {
             call: Call::Build,
             ports,
@@ -193,7 +189,10 @@ impl Calls for InC {
             frame,
             ..Record::default()
         };
-        answer_of(self.make(&record.bytes(), frame))
+        match self.make(&record.bytes(), frame) {
+            [0, settled, 0] => Ok(settled),
+            refused => Err(refusal_of(refused)),
+        }
     }
 
     fn inspect(&self, ports: u64, slots: u64, matrix: &[u16], frame: &[u8]) -> Inspection {

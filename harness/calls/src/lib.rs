@@ -10,8 +10,11 @@ pub use in_c::InC;
 pub use library::Library;
 pub use reference::{Class, Count, Inspection, Refusal};
 
-/// What Admit and Build answer.
+/// What Admit answers.
 pub type Answer = Result<(), Refusal>;
+
+/// What Build answers: the odd counts settled.
+pub type Built = Result<u64, Refusal>;
 
 /// What Service count answers.
 pub type Service = Result<Count, Refusal>;
@@ -21,8 +24,8 @@ pub trait Calls {
     /// Says whether the load would be built.
     fn admit(&self, ports: u64, slots: u64, matrix: &[u16]) -> Answer;
 
-    /// Fills the frame, or refuses and leaves it as it was.
-    fn build(&self, ports: u64, slots: u64, matrix: &[u16], frame: &mut [u8]) -> Answer;
+    /// Fills the frame and says how many odd counts were settled, or refuses and leaves it as it was.
+    fn build(&self, ports: u64, slots: u64, matrix: &[u16], frame: &mut [u8]) -> Built;
 
     /// Looks a frame from anywhere over against its load.
     fn inspect(&self, ports: u64, slots: u64, matrix: &[u16], frame: &[u8]) -> Inspection;
@@ -64,7 +67,7 @@ impl Calls for Reference {
         reference::admit(ports, slots, matrix)
     }
 
-    fn build(&self, ports: u64, slots: u64, matrix: &[u16], frame: &mut [u8]) -> Answer {
+    fn build(&self, ports: u64, slots: u64, matrix: &[u16], frame: &mut [u8]) -> Built {
         reference::build(ports, slots, matrix, frame)
     }
 

@@ -2,7 +2,9 @@
 
 use frame_builder::{Fault, Who};
 
-use crate::{program, Answer, Calls, Class, Count, Inspection, Refusal, Service, SheetProgram};
+use crate::{
+    program, Answer, Built, Calls, Class, Count, Inspection, Refusal, Service, SheetProgram,
+};
 
 /// The proved frame builder.
 #[derive(Clone, Copy, Debug, Default)]
@@ -72,8 +74,10 @@ impl Calls for Library {
         frame_builder::admit(ports as usize, slots as usize, matrix).map_err(refusal_of)
     }
 
-    fn build(&self, ports: u64, slots: u64, matrix: &[u16], frame: &mut [u8]) -> Answer {
-        frame_builder::build(ports as usize, slots as usize, matrix, frame).map_err(refusal_of)
+    fn build(&self, ports: u64, slots: u64, matrix: &[u16], frame: &mut [u8]) -> Built {
+        frame_builder::build(ports as usize, slots as usize, matrix, frame)
+            .map(|settled| settled as u64)
+            .map_err(refusal_of)
     }
 
     fn inspect(&self, ports: u64, slots: u64, matrix: &[u16], frame: &[u8]) -> Inspection {

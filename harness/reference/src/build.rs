@@ -3,6 +3,7 @@
 
 use crate::admission::{check_frame, check_loads, check_matrix, check_ports, check_slots};
 use crate::refusal::Refusal;
+use crate::work::settled;
 
 /// The half of a block to which an odd count gives its extra cell.
 #[derive(Clone, Copy, PartialEq)]
@@ -20,15 +21,15 @@ impl Half {
     }
 }
 
-/// Fills the frame, or gives the first refusal of 1 to 6 and leaves it alone.
-pub fn build(ports: u64, slots: u64, matrix: &[u16], frame: &mut [u8]) -> Result<(), Refusal> {
+/// Fills the frame and says how many odd counts were settled, or gives the first refusal of 1 to 6 and leaves it alone.
+pub fn build(ports: u64, slots: u64, matrix: &[u16], frame: &mut [u8]) -> Result<u64, Refusal> {
     check_ports(ports)?;
     check_slots(slots)?;
     check_matrix(ports, matrix)?;
     check_frame(ports, slots, frame)?;
     check_loads(ports, slots, matrix)?;
     fill_block(ports as usize, matrix, frame);
-    Ok(())
+    Ok(settled(ports, frame))
 }
 
 /// Rule 1: a block of one slot is written out, a longer one is halved.

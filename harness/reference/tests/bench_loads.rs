@@ -29,13 +29,13 @@ const TABLE_7_PRINTED: &str = "(frame (ports 4) (slots 4))
 fn built(ports: u64, slots: u64, matrix: &[u16]) -> Result<Vec<u8>, Refusal> {
     let mut frame = vec![0xa5; (ports * slots) as usize];
     let answer = build(ports, slots, matrix, &mut frame);
-    assert_eq!(answer, admit(ports, slots, matrix));
+    assert_eq!(answer.map(|_| ()), admit(ports, slots, matrix));
     if answer.is_err() {
         assert!(frame.iter().all(|&byte| byte == 0xa5));
     } else {
         assert_eq!(inspect(ports, slots, matrix, &frame), Inspection::Clean);
     }
-    answer.map(|()| frame)
+    answer.map(|_| frame)
 }
 
 #[test]

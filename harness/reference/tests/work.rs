@@ -1,5 +1,6 @@
 //! Odd counts settled, worked by hand.
 
+use reference::build;
 use reference::work::{odd_counts, settled};
 
 /// Pairs (4, 1) and (4, 2) of the whole frame, and in each half the four pairs that it has.
@@ -29,4 +30,27 @@ fn counted_in_one_block() {
     assert_eq!(odd_counts(4, &TABLE_7_FRAME), 2);
     assert_eq!(odd_counts(4, &TABLE_7_FRAME[..8]), 4);
     assert_eq!(odd_counts(4, &TABLE_7_FRAME[..4]), 2);
+}
+
+#[test]
+fn answered_by_build() {
+    let table_7 = [2, 2, 0, 0, 0, 0, 0, 0, 0, 0, 0, 0, 1, 1, 0, 2];
+    let own_numbers = [1, 0, 0, 0, 0, 1, 0, 0, 0, 0, 1, 0, 0, 0, 0, 1];
+    let cases: [(u64, u64, &[u16], u64); 8] = [
+        (1, 1, &[1], 0),
+        (2, 2, &[1, 1, 1, 1], 4),
+        (1, 4, &[3], 2),
+        (4, 4, &table_7, 10),
+        // Each cell in a block of four slots and in one of two.
+        (4, 4, &own_numbers, 8),
+        (16, 1_024, &[0; 256], 0),
+        (16, 1, &[0; 256], 0),
+        // Each cell in a block of 16 slots, of eight, of four and of two.
+        (16, 16, &[1; 256], 1_024),
+    ];
+    for (ports, slots, matrix, number) in cases {
+        let mut frame = vec![0xa5; (ports * slots) as usize];
+        let answer = build(ports, slots, matrix, &mut frame);
+        assert_eq!(answer, Ok(number), "{ports} x {slots}");
+    }
 }

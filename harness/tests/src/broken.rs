@@ -1,9 +1,11 @@
 //! Builders that must be sent back, each the reference with one call replaced.
 
-use calls::{Answer, Calls, Class, Count, Inspection, Reference, Refusal, Service, SheetProgram};
+use calls::{
+    Answer, Built, Calls, Class, Count, Inspection, Reference, Refusal, Service, SheetProgram,
+};
 
 type AdmitCall = fn(u64, u64, &[u16]) -> Answer;
-type BuildCall = fn(u64, u64, &[u16], &mut [u8]) -> Answer;
+type BuildCall = fn(u64, u64, &[u16], &mut [u8]) -> Built;
 type InspectCall = fn(u64, u64, &[u16], &[u8]) -> Inspection;
 type ViewCall = for<'f> fn(u64, u64, &'f [u8], u64, &mut u64) -> &'f [u8];
 type CountCall = fn(u64, u64, &[u8], Class, u64, u64) -> Service;
@@ -37,7 +39,7 @@ impl Calls for Broken {
         (self.admit)(ports, slots, matrix)
     }
 
-    fn build(&self, ports: u64, slots: u64, matrix: &[u16], frame: &mut [u8]) -> Answer {
+    fn build(&self, ports: u64, slots: u64, matrix: &[u16], frame: &mut [u8]) -> Built {
         (self.build)(ports, slots, matrix, frame)
     }
 
@@ -79,10 +81,10 @@ impl SheetProgram for Broken {
 type Splitter = fn(usize, &[u16]) -> [Vec<u16>; 2];
 
 /// Refuses as the reference does, else splits in a way of its own.
-fn build_by(split: Splitter, ports: u64, slots: u64, matrix: &[u16], frame: &mut [u8]) -> Answer {
-    reference::build(ports, slots, matrix, frame)?;
+fn build_by(split: Splitter, ports: u64, slots: u64, matrix: &[u16], frame: &mut [u8]) -> Built {
+    let settled = reference::build(ports, slots, matrix, frame)?;
     fill_block(split, ports as usize, matrix, frame);
-    Ok(())
+    Ok(settled)
 }
 
 /// Writes what fits of a block: where two cells claim an input, the later one stays.
@@ -114,13 +116,13 @@ fn halve(matrix: &[u16], extra_first: impl Fn(usize) -> bool) -> [Vec<u16>; 2] {
 }
 
 /// Extra cells all to the first half, pair by pair.
-pub fn extra_to_first_half(ports: u64, slots: u64, matrix: &[u16], frame: &mut [u8]) -> Answer {
+pub fn extra_to_first_half(ports: u64, slots: u64, matrix: &[u16], frame: &mut [u8]) -> Built {
     let split: Splitter = |_, matrix| halve(matrix, |_| true);
     build_by(split, ports, slots, matrix, frame)
 }
 
 /// Partners at inputs only.
-pub fn partners_at_inputs_only(ports: u64, slots: u64, matrix: &[u16], frame: &mut [u8]) -> Answer {
+pub fn partners_at_inputs_only(ports: u64, slots: u64, matrix: &[u16], frame: &mut [u8]) -> Built {
     let split: Splitter = |ports, matrix| {
         let odd_before = |place: usize| {
             let row = place / ports * ports;
@@ -135,7 +137,7 @@ pub fn partners_at_inputs_only(ports: u64, slots: u64, matrix: &[u16], frame: &m
 }
 
 /// A walk along each chain of partners in one direction only.
-pub fn walk_one_way(ports: u64, slots: u64, matrix: &[u16], frame: &mut [u8]) -> Answer {
+pub fn walk_one_way(ports: u64, slots: u64, matrix: &[u16], frame: &mut [u8]) -> Built {
     let split: Splitter = |ports, matrix| {
         let favoured = walk_groups(ports, matrix);
         halve(matrix, |place| favoured[place] == Some(true))
@@ -245,7 +247,7 @@ fn by_larger(group: &Group, larger_first: bool) -> bool {
 }
 
 /// The rules as they are, by the same walks as the builders that break them.
-pub fn right_groups(ports: u64, slots: u64, matrix: &[u16], frame: &mut [u8]) -> Answer {
+pub fn right_groups(ports: u64, slots: u64, matrix: &[u16], frame: &mut [u8]) -> Built {
     let split: Splitter = |ports, matrix| {
         split_by_groups(ports, matrix, |group, _, odd_before| {
             by_larger(group, odd_before % 2 == 0)
@@ -260,7 +262,7 @@ pub fn first_count_to_first_half(
     slots: u64,
     matrix: &[u16],
     frame: &mut [u8],
-) -> Answer {
+) -> Built {
     let split: Splitter = |ports, matrix| split_by_groups(ports, matrix, |_, _, _| true);
     build_by(split, ports, slots, matrix, frame)
 }
@@ -271,14 +273,14 @@ pub fn larger_share_to_first_half(
     slots: u64,
     matrix: &[u16],
     frame: &mut [u8],
-) -> Answer {
+) -> Built {
     let split: Splitter =
         |ports, matrix| split_by_groups(ports, matrix, |group, _, _| by_larger(group, true));
     build_by(split, ports, slots, matrix, frame)
 }
 
 /// Even groups count in the turn.
-pub fn even_groups_in_turn(ports: u64, slots: u64, matrix: &[u16], frame: &mut [u8]) -> Answer {
+pub fn even_groups_in_turn(ports: u64, slots: u64, matrix: &[u16], frame: &mut [u8]) -> Built {
     let split: Splitter = |ports, matrix| {
         split_by_groups(ports, matrix, |group, before, _| {
             by_larger(group, before % 2 == 0)
@@ -293,7 +295,7 @@ pub fn turn_begins_with_second_half(
     slots: u64,
     matrix: &[u16],
     frame: &mut [u8],
-) -> Answer {
+) -> Built {
     let split: Splitter = |ports, matrix| {
         split_by_groups(ports, matrix, |group, _, odd_before| {
             by_larger(group, odd_before % 2 == 1)
@@ -303,7 +305,7 @@ pub fn turn_begins_with_second_half(
 }
 
 /// The first count of an odd group takes the turn, and not its larger share.
-pub fn first_count_takes_turn(ports: u64, slots: u64, matrix: &[u16], frame: &mut [u8]) -> Answer {
+pub fn first_count_takes_turn(ports: u64, slots: u64, matrix: &[u16], frame: &mut [u8]) -> Built {
     let split: Splitter = |ports, matrix| {
         split_by_groups(ports, matrix, |group, _, odd_before| {
             !group.is_odd() || odd_before % 2 == 0
@@ -313,40 +315,40 @@ pub fn first_count_takes_turn(ports: u64, slots: u64, matrix: &[u16], frame: &mu
 }
 
 /// Every group settled the other way round, which gives the right frame read backwards.
-pub fn other_tie(ports: u64, slots: u64, matrix: &[u16], frame: &mut [u8]) -> Answer {
-    reference::build(ports, slots, matrix, frame)?;
+pub fn other_tie(ports: u64, slots: u64, matrix: &[u16], frame: &mut [u8]) -> Built {
+    let settled = reference::build(ports, slots, matrix, frame)?;
     let mut reversed: Vec<&[u8]> = frame.chunks(ports as usize).collect();
     reversed.reverse();
     let reversed = reversed.concat();
     frame.copy_from_slice(&reversed);
-    Ok(())
+    Ok(settled)
 }
 
 /// An idle frame for every load.
-pub fn idle_frame(ports: u64, slots: u64, matrix: &[u16], frame: &mut [u8]) -> Answer {
-    reference::build(ports, slots, matrix, frame)?;
+pub fn idle_frame(ports: u64, slots: u64, matrix: &[u16], frame: &mut [u8]) -> Built {
+    let settled = reference::build(ports, slots, matrix, frame)?;
     frame.fill(0);
-    Ok(())
+    Ok(settled)
 }
 
 /// The same frame for every load.
-pub fn fixed_frame(ports: u64, slots: u64, matrix: &[u16], frame: &mut [u8]) -> Answer {
-    reference::build(ports, slots, matrix, frame)?;
+pub fn fixed_frame(ports: u64, slots: u64, matrix: &[u16], frame: &mut [u8]) -> Built {
+    let settled = reference::build(ports, slots, matrix, frame)?;
     for (slot, bytes) in frame.chunks_mut(ports as usize).enumerate() {
         for (input, byte) in bytes.iter_mut().enumerate() {
             *byte = ((slot + input) % ports as usize) as u8 + 1;
         }
     }
-    Ok(())
+    Ok(settled)
 }
 
 /// Accepts and leaves the buffer as found.
-pub fn as_found(ports: u64, slots: u64, matrix: &[u16], frame: &mut [u8]) -> Answer {
+pub fn as_found(ports: u64, slots: u64, matrix: &[u16], frame: &mut [u8]) -> Built {
     reference::build(ports, slots, matrix, &mut frame.to_vec())
 }
 
 /// Turns all loads away as overloaded.
-pub fn refuse_all(ports: u64, slots: u64, matrix: &[u16], frame: &mut [u8]) -> Answer {
+pub fn refuse_all(ports: u64, slots: u64, matrix: &[u16], frame: &mut [u8]) -> Built {
     reference::build(ports, slots, matrix, &mut frame.to_vec())?;
     Err(Refusal::InputLoad {
         port: 1,
@@ -355,28 +357,28 @@ pub fn refuse_all(ports: u64, slots: u64, matrix: &[u16], frame: &mut [u8]) -> A
 }
 
 /// Fills the first half of the slots and copies them on.
-pub fn copied_on(ports: u64, slots: u64, matrix: &[u16], frame: &mut [u8]) -> Answer {
-    reference::build(ports, slots, matrix, frame)?;
+pub fn copied_on(ports: u64, slots: u64, matrix: &[u16], frame: &mut [u8]) -> Built {
+    let settled = reference::build(ports, slots, matrix, frame)?;
     let (front, back) = frame.split_at_mut(frame.len() / 2);
     if front.len() == back.len() {
         back.copy_from_slice(front);
     }
-    Ok(())
+    Ok(settled)
 }
 
 /// A legal frame with its cells bunched.
-pub fn bunched(ports: u64, slots: u64, matrix: &[u16], frame: &mut [u8]) -> Answer {
-    reference::build(ports, slots, matrix, frame)?;
+pub fn bunched(ports: u64, slots: u64, matrix: &[u16], frame: &mut [u8]) -> Built {
+    let settled = reference::build(ports, slots, matrix, frame)?;
     let mut sorted: Vec<&[u8]> = frame.chunks(ports as usize).collect();
     sorted.sort();
     sorted.reverse();
     let sorted = sorted.concat();
     frame.copy_from_slice(&sorted);
-    Ok(())
+    Ok(settled)
 }
 
 /// Loads added in 16 bits: an overloaded row looks light.
-pub fn sixteen_bit_loads(ports: u64, slots: u64, matrix: &[u16], frame: &mut [u8]) -> Answer {
+pub fn sixteen_bit_loads(ports: u64, slots: u64, matrix: &[u16], frame: &mut [u8]) -> Built {
     let answer = reference::build(ports, slots, matrix, frame);
     if answer.is_ok() || answer == Err(Refusal::FrameLength) {
         return answer;
@@ -388,7 +390,7 @@ pub fn sixteen_bit_loads(ports: u64, slots: u64, matrix: &[u16], frame: &mut [u8
         matrix,
         frame,
     );
-    Ok(())
+    Ok(0)
 }
 
 /// Admits what looks light in 16 bits.
@@ -412,7 +414,7 @@ fn looks_light(ports: usize, slots: u64, matrix: &[u16]) -> bool {
 }
 
 /// Clears the buffer before it looks at the load.
-pub fn clears_before_refusing(ports: u64, slots: u64, matrix: &[u16], frame: &mut [u8]) -> Answer {
+pub fn clears_before_refusing(ports: u64, slots: u64, matrix: &[u16], frame: &mut [u8]) -> Built {
     frame.fill(0);
     reference::build(ports, slots, matrix, frame)
 }
@@ -610,7 +612,7 @@ fn cut(number: u64) -> u64 {
 }
 
 /// Takes 2^32 + 1 ports for 1.
-pub fn cut_ports(ports: u64, slots: u64, matrix: &[u16], frame: &mut [u8]) -> Answer {
+pub fn cut_ports(ports: u64, slots: u64, matrix: &[u16], frame: &mut [u8]) -> Built {
     reference::build(cut(ports), slots, matrix, frame)
 }
 
@@ -664,7 +666,7 @@ pub fn overlong_matrix(ports: u64, slots: u64, matrix: &[u16]) -> Answer {
 }
 
 /// Writes one byte of a frame that it refuses to fill.
-pub fn marks_refused_frame(ports: u64, slots: u64, matrix: &[u16], frame: &mut [u8]) -> Answer {
+pub fn marks_refused_frame(ports: u64, slots: u64, matrix: &[u16], frame: &mut [u8]) -> Built {
     let answer = reference::build(ports, slots, matrix, frame);
     if let (Err(_), Some(last)) = (answer, frame.last_mut()) {
         *last = last.wrapping_add(1);

@@ -1,13 +1,14 @@
 //! Cases of Admit and Build.
 
-use calls::{Answer, Calls, Inspection};
+use calls::{Built, Calls, Inspection};
 use loads::{load, Call, LoadKind, Random};
 use reference::wire::{Course, Frame, Whose};
+use reference::work::bound;
 
-use crate::hits::{Hits, SAME_FRAME};
+use crate::hits::{Hits, NONE_SETTLED, ODD_SETTLED, SAME_FRAME};
 use crate::lent::Lent;
 use crate::share_case::{check_share, expect_chain, random_class};
-use crate::verdict::{expect_equal, outcome, Verdict};
+use crate::verdict::{expect, expect_equal, outcome, Verdict};
 
 /// Holds Admit's answer against the reference's.
 pub fn check_admit(
@@ -62,14 +63,14 @@ pub fn check_build(
     Ok(())
 }
 
-/// Builds with the candidate and the reference from the same bytes and compares all of them.
+/// Builds with the candidate and the reference from the same bytes and compares all of them, and the odd counts settled.
 pub fn build_and_compare(
     candidate: &dyn Calls,
     call: &Call,
     buffer: &mut Lent<u8>,
     random: &mut Random,
     hits: &mut Hits,
-) -> Result<Answer, String> {
+) -> Result<Built, String> {
     let matrix = lend_matrix(&call.matrix, random);
     let before = matrix.clone();
     let mut expected = buffer.clone();
@@ -78,10 +79,28 @@ pub fn build_and_compare(
     expect_equal("build", &answer, &right)?;
     buffer.expect_same("buffer after build", &expected)?;
     matrix.expect_same("matrix after build", &before)?;
-    if answer.is_ok() {
+    if let Ok(settled) = answer {
         hits.add(SAME_FRAME);
+        check_settled(call, settled, hits)?;
     }
     Ok(answer)
+}
+
+/// Holds the odd counts settled to their bound.
+fn check_settled(call: &Call, settled: u64, hits: &mut Hits) -> Verdict {
+    let k = call.slots.trailing_zeros();
+    let most = bound(call.ports, k);
+    expect(settled <= most, || {
+        format!("{settled} odd counts settled, and {most} are the most")
+    })?;
+    if call.ports == 16 {
+        hits.settle(k, settled);
+    }
+    hits.add(match settled {
+        0 => NONE_SETTLED,
+        _ => ODD_SETTLED,
+    });
+    Ok(())
 }
 
 /// The frame the wire carries after this accepted call.

@@ -4,8 +4,14 @@ use std::collections::BTreeMap;
 
 use crate::kind::Kind;
 
-/// A load that fits was built, and its frame was the reference's in every byte.
-pub const SAME_FRAME: &str = "frame compared byte for byte with the reference's";
+/// A load that fits was built, and its odd counts settled were as many as the reference's, its frame the same in every byte.
+pub const SAME_FRAME: &str =
+    "frame compared with the reference's, byte for byte and in its odd counts settled";
+
+/// Some block of a built frame had an odd count.
+pub const ODD_SETTLED: &str = "build with odd counts settled";
+/// No block of a built frame had one.
+pub const NONE_SETTLED: &str = "build with none settled";
 
 /// A run strayed from its share by the whole of the sharp bound.
 pub const RUN_REACHED: &str = "sharp bound reached";
@@ -33,7 +39,8 @@ pub const FOR_EACH_K: [&str; 6] = [
     QUEUE_REACHED_BEFORE,
 ];
 
-/// How many times each named thing happened, how deep queues stood, and how far leads were from 0.
+/// How many times each named thing happened, how deep queues stood, how far leads were from 0, and how many odd counts were
+/// settled.
 #[derive(Clone, Debug, Default)]
 pub struct Hits {
     counts: BTreeMap<String, u64>,
@@ -42,6 +49,8 @@ pub struct Hits {
     depths: BTreeMap<(u32, usize), i128>,
     /// By k, the furthest from 0 of the leads of built frames.
     leads: BTreeMap<u32, i128>,
+    /// By k, the most odd counts that a build of 16 ports settled.
+    settled: BTreeMap<u32, u64>,
 }
 
 impl Hits {
@@ -66,6 +75,12 @@ impl Hits {
         *furthest = parts.max(*furthest);
     }
 
+    /// A build of 16 ports and 2^k slots settled so many odd counts.
+    pub fn settle(&mut self, k: u32, settled: u64) {
+        let most = self.settled.entry(k).or_insert(settled);
+        *most = settled.max(*most);
+    }
+
     pub fn merge(&mut self, other: Hits) {
         for (name, count) in other.counts {
             *self.counts.entry(name).or_default() += count;
@@ -78,6 +93,9 @@ impl Hits {
         }
         for (k, parts) in other.leads {
             self.stray(k, parts);
+        }
+        for (k, settled) in other.settled {
+            self.settle(k, settled);
         }
     }
 
@@ -93,6 +111,11 @@ impl Hits {
     /// The lead that was furthest from 0, where a built frame was counted.
     pub fn furthest_lead(&self, k: u32) -> Option<i128> {
         self.leads.get(&k).copied()
+    }
+
+    /// The most odd counts that were settled, where a load of 16 ports was built.
+    pub fn most_settled(&self, k: u32) -> Option<u64> {
+        self.settled.get(&k).copied()
     }
 
     /// How often something happened, by its name or by that of `name_at`.
@@ -147,6 +170,7 @@ fn name_at(name: &str, k: u32) -> String {
 pub fn outcomes() -> Vec<String> {
     let mut names = vec!["inspect clean".to_string()];
     names.extend(["admit", "build", "view", "count"].map(|call| format!("{call} accepted")));
+    names.extend([ODD_SETTLED, NONE_SETTLED].map(str::to_string));
     for fault in ["byte too large", "output twice", "pair count"] {
         names.push(format!("inspect {fault}"));
     }

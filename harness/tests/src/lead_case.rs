@@ -33,7 +33,7 @@ pub fn check_leads(candidate: &dyn Calls, random: &mut Random, hits: &mut Hits) 
     };
     let mut frame = lend_bytes(&random.bytes(call.frame_length), random);
     let answer = candidate.build(call.ports, call.slots, &call.matrix, frame.part_mut());
-    expect_equal("build", &answer, &Ok(()))?;
+    expect(answer.is_ok(), || format!("build: {answer:?}"))?;
     hits.add(format!("leads of a frame of {} slots", call.slots));
     let before = frame.clone();
     let built = Built {

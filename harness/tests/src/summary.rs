@@ -1,13 +1,15 @@
 //! What is said of the bounds at the end of a run.
 
 use reference::wire::{demanded, deviation};
+use reference::work::bound;
 
 use crate::hits::{Hits, FOR_EACH_K};
 
 /// The places of a row that have a column: one switch by itself, then the second to the fifth of a row.
 const PLACES: [usize; 5] = [1, 2, 3, 4, 5];
 
-/// A line for each thing that is counted for each k, then the tables of the furthest leads and the deepest queues.
+/// A line for each thing that is counted for each k, then the tables of the furthest leads, the deepest queues and the most odd
+/// counts settled.
 pub fn summary(hits: &Hits) -> Vec<String> {
     let mut lines: Vec<String> = FOR_EACH_K
         .iter()
@@ -15,6 +17,7 @@ pub fn summary(hits: &Hits) -> Vec<String> {
         .collect();
     lines.extend(leads(hits));
     lines.extend(depths(hits));
+    lines.extend(settled(hits));
     lines
 }
 
@@ -78,6 +81,18 @@ fn depths(hits: &Hits) -> Vec<String> {
         "{:>3} {:>9} {:>9} {:>9} {:>9}{:>9}{:>9}{:>9}",
         "k", "2p(k)", "seen", "4p(k)", "2nd", "3rd", "4th", "5th"
     );
+    table(title, head, rows)
+}
+
+/// The most odd counts that builds of 16 ports settled, beside their bound; nothing where there was no such build.
+fn settled(hits: &Hits) -> Vec<String> {
+    let rows = (1..=10).filter_map(|k| {
+        let (seen, most) = (hits.most_settled(k)?, bound(16, k));
+        let part = seen as f64 / most as f64;
+        Some(format!("{k:>3} {seen:>9} {most:>9} {part:>9.4}"))
+    });
+    let title = "most odd counts settled at 16 ports";
+    let head = format!("{:>3} {:>9} {:>9} {:>9}", "k", "seen", "16 2^k k", "part");
     table(title, head, rows)
 }
 

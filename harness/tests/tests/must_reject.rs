@@ -20,7 +20,8 @@ fn failures(builder: &(impl Calls + calls::SheetProgram + Sync), kind: &str) -> 
 /// The frame a broken builder hands back for a load it accepts.
 fn frame_of(builder: &Broken, ports: u64, slots: u64, matrix: &[u16]) -> Vec<u8> {
     let mut frame = vec![0xa5; (ports * slots) as usize];
-    assert_eq!(builder.build(ports, slots, matrix, &mut frame), Ok(()));
+    let answer = builder.build(ports, slots, matrix, &mut frame);
+    assert!(answer.is_ok(), "{answer:?}");
     frame
 }
 
@@ -235,7 +236,7 @@ fn a_bunched_switch_in_a_row() {
 fn loads_added_in_16_bits() {
     let builder = sent_back!(build: sixteen_bit_loads, "build/");
     let matrix = [65_535, 1, 1, 65_535];
-    assert_eq!(builder.build(2, 4, &matrix, &mut [0; 8]), Ok(()));
+    assert!(builder.build(2, 4, &matrix, &mut [0; 8]).is_ok());
     assert!(builder.admit(2, 4, &matrix).is_err());
     let builder = sent_back!(admit: sixteen_bit_admit, "admit/");
     assert_eq!(builder.admit(2, 4, &matrix), Ok(()));

@@ -12,7 +12,8 @@ const FLOW: Class = Class::Pair {
 
 fn built(seam: Seam, matrix: [u16; 4]) -> Frame {
     let mut bytes = vec![0xa5; 2 * seam.slots as usize];
-    assert_eq!(Library.build(2, seam.slots, &matrix, &mut bytes), Ok(()));
+    let answer = Library.build(2, seam.slots, &matrix, &mut bytes);
+    assert!(answer.is_ok(), "{answer:?}");
     Frame {
         ports: 2,
         slots: seam.slots,

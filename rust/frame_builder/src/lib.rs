@@ -18,7 +18,8 @@
 //! frame has slots; every load that fits can be built.
 //!
 //! A frame is **balanced** if the cells of every pair, input and output, and all cells together, are spread evenly: a frame of two or
-//! more slots has two halves, which differ by at most one cell, each half is split again, and so on down to the slots.
+//! more slots has two halves, which differ by at most one cell, each half is split again, and so on down to the slots. The frame, its
+//! halves, their halves and so on are its **blocks**.
 //!
 //! A **run** is some consecutive slots of the repeating frame. Its **share** is the part of a whole frame's cells that falls to so
 //! many slots, and its **lead** is how far its cells are above that share, in parts of 1/slots of a cell; below 0 it is behind.
@@ -28,7 +29,7 @@
 //! | call | what it does | refusals |
 //! |---|---|---|
 //! | [`admit`] | says whether a load would be built | 1, 2, 3, 5, 6 |
-//! | [`build`] | fills a frame | 1, 2, 3, 4, 5, 6 |
+//! | [`build`] | fills a frame, and says how much work that was | 1, 2, 3, 4, 5, 6 |
 //! | [`inspect`] | looks over a frame that came from anywhere | 1, 2, 3, 4 |
 //! | [`slot_view`] | shows a slot's part of a frame | 1, 2, 4, 11 |
 //! | [`service_count`] | counts the cells that a pair, an input or an output gets in a run, with their lead | 1, 2, 4, 11, 12, 13 |
@@ -106,8 +107,8 @@
 //!    the crate stands in. It needs the Rattle kit.
 //!
 //! A variable that is set and leads to no library is an error, as is an installed one that is not whole, and one of another version
-//! than 2, whose calls take other arguments: nothing else is taken in its place. An empty variable is as one that is not set. Where
-//! no way leads to a library, the error says why each of them did not.
+//! than 3, whose calls take other arguments or answer otherwise: nothing else is taken in its place. An empty variable is as one that
+//! is not set. Where no way leads to a library, the error says why each of them did not.
 //!
 //! A crate that depends on this one directly has in its own build script `DEP_FRAME_BUILDER_ARCHIVE`, the archive,
 //! `DEP_FRAME_BUILDER_INCLUDE`, the folder of the C header, and `DEP_FRAME_BUILDER_VERSION`.
@@ -168,7 +169,12 @@ pub fn admit(ports: usize, slots: usize, matrix: &[u16]) -> Result<(), Refusal> 
     exported::admit(ports, slots, matrix).answer()
 }
 
-/// Fills the frame with the one schedule of the load.
+/// Fills the frame with the one schedule of the load, and says how many odd counts were settled for it.
+///
+/// Those are, over all blocks of two or more slots, the pairs with an odd number of cells in that block of the frame: the halves of
+/// the block cannot have as many cells each, so that it has to be found which gets one more. They say how much work the build was:
+/// its instructions grow with them. There are 0 to ports × slots × k of them, where slots are 2^k, and so 163,840 at most. With as
+/// many slots as ports, or fewer, some load comes to that bound; with more slots none does.
 ///
 /// # Errors
 ///
@@ -180,11 +186,17 @@ pub fn admit(ports: usize, slots: usize, matrix: &[u16]) -> Result<(), Refusal> 
 /// let mut frame = [9; 8];
 /// assert_eq!(build(2, 3, &[1, 0, 0, 1], &mut frame), Err(Refusal::Slots));
 /// assert_eq!(frame, [9; 8]);
-/// assert_eq!(build(2, 4, &[2, 0, 0, 1], &mut frame), Ok(()));
+/// // Pair (2, 2) has one cell in the frame and in its first half, pair (1, 1) one in each half.
+/// assert_eq!(build(2, 4, &[2, 0, 0, 1], &mut frame), Ok(4));
 /// assert_eq!(frame, [1, 0, 0, 2, 1, 0, 0, 0]);
 /// ```
-pub fn build(ports: usize, slots: usize, matrix: &[u16], frame: &mut [u8]) -> Result<(), Refusal> {
-    exported::build(ports, slots, matrix, frame).answer()
+pub fn build(
+    ports: usize,
+    slots: usize,
+    matrix: &[u16],
+    frame: &mut [u8],
+) -> Result<usize, Refusal> {
+    exported::build(ports, slots, matrix, frame).settled()
 }
 
 /// Looks over a frame from anywhere: whether it carries the load of the matrix, and evenly.

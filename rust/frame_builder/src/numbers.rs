@@ -19,6 +19,11 @@ impl Numbers {
         }
     }
 
+    /// What Build answers.
+    pub fn settled(&self) -> Result<usize, Refusal> {
+        self.answer().map(|()| self.first)
+    }
+
     pub fn count(&self) -> Result<Count, Refusal> {
         let (cells, lead) = (self.first, self.lead);
         self.answer().map(|()| Count { cells, lead })

@@ -26,7 +26,7 @@ fn refusals() -> [(Refusal, &'static str); 9] {
             "the matrix's length is not ports × ports",
         ),
         (
-            refused(build(2, 2, &[0; 4], &mut [0; 3])),
+            refused(build(2, 2, &[0; 4], &mut [0; 3]).map(|_| ())),
             "the frame's length is not slots × ports",
         ),
         (
@@ -125,11 +125,30 @@ fn a_refused_build_leaves_every_byte() {
 }
 
 #[test]
+fn builds_say_how_many_odd_counts_they_settled() {
+    let table7 = [2, 2, 0, 0, 0, 0, 0, 0, 0, 0, 0, 0, 1, 1, 0, 2];
+    for (ports, slots, matrix, settled) in [
+        (1, 1, &[1][..], 0),
+        (1, 4, &[3], 2),
+        (2, 2, &[1; 4], 4),
+        // Pairs (4, 1) and (4, 2) in the frame, and four pairs in each half.
+        (4, 4, &table7, 10),
+        (16, 16, &[1; 256], 1_024),
+        (16, 1_024, &[0; 256], 0),
+        (16, 1_024, &[64; 256], 65_536),
+    ] {
+        let mut frame = vec![0; ports * slots];
+        let answer = build(ports, slots, matrix, &mut frame);
+        assert_eq!(answer, Ok(settled), "{ports} x {slots}");
+    }
+}
+
+#[test]
 fn counts_have_a_lead() {
     // In a frame of four slots input 1 sends to output 1 in slots 1 and 3, and input 4 in slot 2.
     let matrix = [2, 2, 0, 0, 0, 0, 0, 0, 0, 0, 0, 0, 1, 1, 0, 2];
     let mut frame = [0; 16];
-    assert_eq!(build(4, 4, &matrix, &mut frame), Ok(()));
+    build(4, 4, &matrix, &mut frame).expect("the load fits");
     let pair = Who::Pair {
         input: 4,
         output: 1,
