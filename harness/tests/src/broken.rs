@@ -1,8 +1,11 @@
 //! Builders that must be sent back, each the reference with one call replaced.
 
+use std::collections::BTreeSet;
+
 use calls::{
     Answer, Built, Calls, Class, Count, Inspection, Reference, Refusal, Service, SheetProgram,
 };
+use reference::work::odd_counts;
 
 type AdmitCall = fn(u64, u64, &[u16]) -> Answer;
 type BuildCall = fn(u64, u64, &[u16], &mut [u8]) -> Built;
@@ -375,6 +378,42 @@ pub fn bunched(ports: u64, slots: u64, matrix: &[u16], frame: &mut [u8]) -> Buil
     let sorted = sorted.concat();
     frame.copy_from_slice(&sorted);
     Ok(settled)
+}
+
+/// Counts blocks of one slot as well.
+pub fn one_slot_counted(ports: u64, slots: u64, matrix: &[u16], frame: &mut [u8]) -> Built {
+    let settled = reference::build(ports, slots, matrix, frame)?;
+    let blocks = frame.chunks(ports as usize);
+    let of_one = blocks.map(|slot| odd_counts(ports, slot)).sum::<u64>();
+    Ok(settled + of_one)
+}
+
+/// Leaves the second half of every block out of the count.
+pub fn second_halves_left_out(ports: u64, slots: u64, matrix: &[u16], frame: &mut [u8]) -> Built {
+    reference::build(ports, slots, matrix, frame)?;
+    let sizes = (1..=slots.trailing_zeros()).map(|k| 1 << k);
+    let counted = sizes.map(|size: usize| odd_counts(ports, &frame[..size * ports as usize]));
+    Ok(counted.sum())
+}
+
+/// Counts every pair that has cells in a block, an even number too.
+pub fn even_counts_counted(ports: u64, slots: u64, matrix: &[u16], frame: &mut [u8]) -> Built {
+    reference::build(ports, slots, matrix, frame)?;
+    let sizes = (1..=slots.trailing_zeros()).map(|k| 1 << k);
+    let blocks = sizes.flat_map(|size: usize| frame.chunks(size * ports as usize));
+    Ok(blocks.map(|block| pairs_in(ports as usize, block)).sum())
+}
+
+/// The pairs that have cells in a block.
+fn pairs_in(ports: usize, block: &[u8]) -> u64 {
+    let cells = block.iter().enumerate().filter(|(_, &byte)| byte > 0);
+    let pairs: BTreeSet<_> = cells.map(|(place, byte)| (place % ports, byte)).collect();
+    pairs.len() as u64
+}
+
+/// Says that nothing was settled.
+pub fn none_settled(ports: u64, slots: u64, matrix: &[u16], frame: &mut [u8]) -> Built {
+    reference::build(ports, slots, matrix, frame).map(|_| 0)
 }
 
 /// Loads added in 16 bits: an overloaded row looks light.

@@ -50,6 +50,14 @@ fn leads_out_of_the_air() {
 }
 
 #[test]
+fn odd_counts_miscounted() {
+    sent_back!(build: one_slot_counted, "hostile/build");
+    sent_back!(build: second_halves_left_out, "hostile/build");
+    sent_back!(build: even_counts_counted, "hostile/build");
+    sent_back!(build: none_settled, "hostile/build");
+}
+
+#[test]
 fn lengths_not_looked_at() {
     sent_back!(admit: overlong_matrix, "hostile/admit");
 }

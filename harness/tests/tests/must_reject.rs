@@ -33,7 +33,7 @@ fn inspected(builder: &Broken, ports: u64, slots: u64, matrix: &[u16]) -> Inspec
 
 /// A builder with this one call replaced, once the runner has sent it back.
 macro_rules! sent_back {
-    ($call:ident: $function:ident, $kind:literal) => {{
+    ($call:ident: $function:ident, $kind:expr) => {{
         let builder = Broken {
             $call: broken::$function,
             ..Broken::default()
@@ -240,6 +240,31 @@ fn loads_added_in_16_bits() {
     assert!(builder.admit(2, 4, &matrix).is_err());
     let builder = sent_back!(admit: sixteen_bit_admit, "admit/");
     assert_eq!(builder.admit(2, 4, &matrix), Ok(()));
+}
+
+/// Three cells in four slots, which have odd counts in the whole block and in its second half.
+#[test]
+fn odd_counts_miscounted() {
+    let settled = |builder: Broken| builder.build(1, 4, &[3], &mut [0; 4]);
+    assert_eq!(settled(Broken::default()), Ok(2));
+    let builder = sent_back!(build: one_slot_counted, "build/");
+    assert_eq!(settled(builder), Ok(5));
+    let builder = sent_back!(build: second_halves_left_out, "build/");
+    assert_eq!(settled(builder), Ok(1));
+    let builder = sent_back!(build: even_counts_counted, "build/");
+    assert_eq!(settled(builder), Ok(3));
+    let builder = sent_back!(build: none_settled, "build/");
+    assert_eq!(settled(builder), Ok(0));
+}
+
+#[test]
+fn odd_counts_miscounted_in_chains_and_rows() {
+    for kind in ["chain/", "row/"] {
+        sent_back!(build: one_slot_counted, kind);
+        sent_back!(build: second_halves_left_out, kind);
+        sent_back!(build: even_counts_counted, kind);
+        sent_back!(build: none_settled, kind);
+    }
 }
 
 #[test]
