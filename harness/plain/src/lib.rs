@@ -11,15 +11,14 @@ type Counts = [u16; MOST_PAIRS];
 /// At each odd count its partner among its input's counts, or among its output's.
 type Partners = [Option<u8>; MOST_PAIRS];
 
-/// Fills the frame and says true; says false, the frame untouched, if the load is refused.
-pub fn build(ports: usize, slots: usize, matrix: &[u16], frame: &mut [u8]) -> bool {
+/// Fills the frame and says how many odd counts were settled; says nothing, the frame untouched, if the load is refused.
+pub fn build(ports: usize, slots: usize, matrix: &[u16], frame: &mut [u8]) -> Option<usize> {
     if !is_well_formed(ports, slots, matrix, frame) || is_overloaded(ports, slots, matrix) {
-        return false;
+        return None;
     }
     let mut counts = [0; MOST_PAIRS];
     counts[..matrix.len()].copy_from_slice(matrix);
-    fill_block(ports, &counts, frame);
-    true
+    Some(fill_block(ports, &counts, frame))
 }
 
 fn is_well_formed(ports: usize, slots: usize, matrix: &[u16], frame: &[u8]) -> bool {
@@ -48,15 +47,15 @@ fn is_overloaded(ports: usize, slots: usize, matrix: &[u16]) -> bool {
     inputs.iter().chain(&outputs).any(|&load| load > slots)
 }
 
-fn fill_block(ports: usize, counts: &Counts, block: &mut [u8]) {
+/// Fills a block, and says how many counts of it and of the blocks within it are odd.
+fn fill_block(ports: usize, counts: &Counts, block: &mut [u8]) -> usize {
     if block.len() == ports {
         fill_slot(ports, counts, block);
-        return;
+        return 0;
     }
-    let (first, second) = halve(ports, counts);
+    let (first, second, odd) = halve(ports, counts);
     let (front, back) = block.split_at_mut(block.len() / 2);
-    fill_block(ports, &first, front);
-    fill_block(ports, &second, back);
+    odd + fill_block(ports, &first, front) + fill_block(ports, &second, back)
 }
 
 fn fill_slot(ports: usize, counts: &Counts, slot: &mut [u8]) {
@@ -70,17 +69,19 @@ fn fill_slot(ports: usize, counts: &Counts, slot: &mut [u8]) {
     }
 }
 
-/// Shares the counts between the two halves of a block.
-fn halve(ports: usize, counts: &Counts) -> (Counts, Counts) {
+/// Shares the counts between the two halves of a block, and says how many are odd.
+fn halve(ports: usize, counts: &Counts) -> (Counts, Counts, usize) {
     let partners = find_partners(ports, counts);
     let mut first = counts.map(|count| count / 2);
     let mut second = first;
     let mut settled = [false; MOST_PAIRS];
     let mut group = Group::new();
     let mut larger_first = true;
+    let mut odd = 0;
     for place in 0..ports * ports {
         if counts[place] % 2 == 1 && !settled[place] {
             group.gather(place, &partners, &mut settled);
+            odd += group.size;
             let own_first = !group.is_odd() || group.own_is_larger() == larger_first;
             if own_first {
                 group.share_out(&mut first, &mut second);
@@ -92,7 +93,7 @@ fn halve(ports: usize, counts: &Counts) -> (Counts, Counts) {
             }
         }
     }
-    (first, second)
+    (first, second, odd)
 }
 
 /// Counts joined by partnership. Those on the side of the group's first count favour the same half as that count does, those

@@ -1,4 +1,4 @@
-//! The plain builder and the reference build the same frames.
+//! The plain builder and the reference build the same frames and settle as many odd counts.
 
 use loads::{load, LoadKind, Random};
 
@@ -13,7 +13,8 @@ fn same_frames_on_random_loads() {
             let answer = reference::build(call.ports, call.slots, &call.matrix, &mut right);
             let (ports, slots) = (call.ports as usize, call.slots as usize);
             let built = plain::build(ports, slots, &call.matrix, &mut frame);
-            assert_eq!(built, answer.is_ok(), "{kind:?} {ports} {slots}");
+            let right_number = answer.ok().map(|settled| settled as usize);
+            assert_eq!(built, right_number, "{kind:?} {ports} {slots}");
             assert_eq!(frame, right, "{kind:?} {ports} {slots}");
         }
     }
