@@ -50,6 +50,7 @@ int main(void)
     print_answer("build", answer, first, second);
     if (answer != FRAME_BUILDER_ACCEPTED)
         return 1;
+    printf("odd counts settled: %zu\n", first);
     print_slots(frame, sizeof frame);
 
     answer = frame_builder_inspect(PORTS, SLOTS, matrix, PORTS * PORTS, frame, sizeof frame, &first, &second);

@@ -174,7 +174,7 @@ static const struct expected expectations[] = {
     {"admit: no matrix, ports 0", ADMIT, {0, 4, NO_MATRIX, NO_FRAME, 0, 0, 0, 0}, 1, 0, 0},
     {"admit: no matrix, slots 0", ADMIT, {4, 0, NO_MATRIX, NO_FRAME, 0, 0, 0, 0}, 2, 0, 0},
 
-    {"build: accepted", BUILD, {4, 4, MATRIX(table7), FRAME(built), 0, 0, 0, 0}, 0, 0, 0},
+    {"build: accepted", BUILD, {4, 4, MATRIX(table7), FRAME(built), 0, 0, 0, 0}, 0, 10, 0},
     {"build: ports", BUILD, {0, 4, MATRIX(table7), FRAME(built), 0, 0, 0, 0}, 1, 0, 0},
     {"build: slots", BUILD, {4, 2048, MATRIX(table7), FRAME(built), 0, 0, 0, 0}, 2, 0, 0},
     {"build: matrix length", BUILD, {4, 4, table7, 15, FRAME(built), 0, 0, 0, 0}, 3, 0, 0},
@@ -306,6 +306,36 @@ static void check_answers(void)
     }
 }
 
+/* Odd counts settled. */
+
+/* Those of a pair with so many cells in a block of so many slots, whose halves differ by at most one cell, and in all blocks within it. */
+static size_t odd_counts(size_t slots, size_t cells)
+{
+    return slots == 1 ? 0 : cells % 2 + odd_counts(slots / 2, cells / 2) + odd_counts(slots / 2, (cells + 1) / 2);
+}
+
+static size_t settled(size_t ports, size_t slots, const uint16_t *matrix)
+{
+    size_t sum = 0;
+    for (size_t pair = 0; pair < ports * ports; pair++)
+        sum += odd_counts(slots, matrix[pair]);
+    return sum;
+}
+
+/* As many slots as ports, every count 1: each cell is odd in a block of every size, so that the bound is reached. */
+static void check_settled(void)
+{
+    static uint16_t ones[MOST_PORTS * MOST_PORTS];
+    static uint8_t frame[MOST_PORTS * MOST_PORTS];
+    size_t length = 1;
+    for (size_t pair = 0; pair < COUNT_OF(ones); pair++)
+        ones[pair] = 1;
+    for (size_t k = 0; k <= 4; k++, length *= 4) {
+        struct lent lent = {(size_t)1 << k, (size_t)1 << k, ones, length, frame, length, 0, 0, 0, 0};
+        check(answers(BUILD, &lent, 0, length * k, 0), "every count 1, as many slots as ports");
+    }
+}
+
 /* Slices beside memory that may not be used. */
 
 /* A full load: every row and every column has `slots` cells, most of them in counts of `step`. */
@@ -326,7 +356,8 @@ static int all_accept(size_t ports, size_t slots, uint16_t *matrix, uint8_t *fra
     size_t turns = 1000, length = turns * slots <= 1000000 ? turns * slots : slots;
     struct lent lent = {ports, slots, matrix, ports * ports, frame, slots * ports, slots, length, ports, 1};
     fill_load(matrix, ports, slots, 1 + slots / ports);
-    return answers(ADMIT, &lent, 0, 0, 0) && answers(BUILD, &lent, 0, 0, 0) && answers(INSPECT, &lent, 0, 0, 0)
+    return answers(ADMIT, &lent, 0, 0, 0) && answers(BUILD, &lent, 0, settled(ports, slots, matrix), 0)
+           && answers(INSPECT, &lent, 0, 0, 0)
            && answers(SLOT_VIEW, &lent, 0, (slots - 1) * ports, (int64_t)ports)
            && answers(COUNT_PAIR, &lent, 0, length / slots * matrix[(ports - 1) * ports], 0)
            && answers(COUNT_INPUT, &lent, 0, length, 0) && answers(COUNT_OUTPUT, &lent, 0, length, 0);
@@ -345,18 +376,18 @@ static void check_bounds(void)
 
 /* Two threads at once. */
 
-/* What a thread builds, the frame that one thread alone built, and how often the thread got the same. */
+/* What a thread builds, the odd counts to settle, the frame that one thread alone built, and how often the thread got the same. */
 struct work {
     uint16_t matrix[MOST_PORTS * MOST_PORTS];
     uint8_t alone[MOST_FRAME], frame[MOST_FRAME];
-    size_t same;
+    size_t settled, same;
 };
 
 static int build_once(struct work *work, uint8_t *frame)
 {
     struct lent lent = {MOST_PORTS, MOST_SLOTS, work->matrix, MOST_PORTS * MOST_PORTS, frame, MOST_FRAME, 0, 0, 0, 0};
     memset(frame, 0xaa, MOST_FRAME);
-    return answers(BUILD, &lent, 0, 0, 0);
+    return answers(BUILD, &lent, 0, work->settled, 0);
 }
 
 static void *build_often(void *given)
@@ -373,6 +404,7 @@ static void check_threads(void)
     pthread_t threads[2];
     for (size_t which = 0; which < 2; which++) {
         fill_load(works[which].matrix, MOST_PORTS, MOST_SLOTS, 65 + 6 * which);
+        works[which].settled = settled(MOST_PORTS, MOST_SLOTS, works[which].matrix);
         check(build_once(works + which, works[which].alone), "a thread alone");
     }
     check(memcmp(works[0].alone, works[1].alone, MOST_FRAME) != 0, "the threads build different frames");
@@ -417,6 +449,7 @@ int main(void)
     check_texts();
     check_answers();
     check_furthest();
+    check_settled();
     check_bounds();
     check_overlap();
     check_threads();
