@@ -2,6 +2,8 @@
 
 #![forbid(unsafe_code)]
 
+mod budget;
+
 use std::hint::black_box;
 use std::process::ExitCode;
 use std::time::Instant;
@@ -9,6 +11,8 @@ use std::time::Instant;
 use bench::loads_of;
 use calls::{Calls, Class, Inspection, Library};
 use loads::{Call, Shape};
+
+use crate::budget::print_budget;
 
 const USAGE: &str = "benchmark [--repetitions COUNT]";
 
@@ -124,11 +128,15 @@ fn in_turn<'l, T>(list: &'l [T]) -> impl FnMut() -> &'l T {
     move || items.next().expect("the list is not empty")
 }
 
-/// One Build of a load that fits.
-fn build_once<B: Calls>(candidate: &B, call: &Call, frame: &mut [u8]) {
+/// One Build of a load that fits; the odd counts that it settled.
+fn build_once<B: Calls>(candidate: &B, call: &Call, frame: &mut [u8]) -> u64 {
     let answer = candidate.build(call.ports, call.slots, &call.matrix, frame);
-    assert!(black_box(answer).is_ok());
     black_box(frame);
+    black_box(answer).expect("the load fits")
+}
+
+fn build_name((shape, cells): (Shape, usize)) -> String {
+    format!("build {} x {}, {cells} a port", shape.ports, shape.slots)
 }
 
 /// Times Build against the plain builder on loads of one size.
@@ -137,15 +145,16 @@ fn build_row<B: Calls>(candidate: &B, (shape, cells): (Shape, usize), repetition
     let (mut next_left, mut next_right) = (in_turn(&loads), in_turn(&loads));
     let mut left_frame = vec![0; shape.frame_length()];
     let mut right_frame = left_frame.clone();
-    let left = || build_once(candidate, next_left(), &mut left_frame);
+    let left = || {
+        build_once(candidate, next_left(), &mut left_frame);
+    };
     let right = || {
         let matrix = &next_right().matrix;
         let built = plain::build(shape.ports, shape.slots, matrix, &mut right_frame);
         assert!(black_box(built).is_some());
         black_box(&mut right_frame);
     };
-    let name = format!("build {} x {}, {cells} a port", shape.ports, shape.slots);
-    compare(name, repetitions, left, right)
+    compare(build_name((shape, cells)), repetitions, left, right)
 }
 
 /// The frames of some loads, each with its load.
@@ -170,7 +179,9 @@ fn inspect_row<B: Calls>(candidate: &B, repetitions: usize) -> Row {
         let inspection = candidate.inspect(call.ports, call.slots, &call.matrix, frame);
         assert_eq!(black_box(inspection), Inspection::Clean);
     };
-    let right = || build_once(candidate, next_right(), &mut frame);
+    let right = || {
+        build_once(candidate, next_right(), &mut frame);
+    };
     let name = format!("inspect {} x {}, clean", shape.ports, shape.slots);
     compare(name, repetitions, left, right)
 }
@@ -250,5 +261,7 @@ fn main() -> ExitCode {
         MICROSECONDS,
         counts.as_flattened(),
     );
+    println!();
+    print_budget(&candidate, repetitions);
     ExitCode::SUCCESS
 }
