@@ -142,9 +142,9 @@ size_t frame_builder_admit(size_t ports, size_t slots, const uint16_t *matrix, s
  *
  * Those are, over all blocks of 2 or more slots, the pairs with an odd number of cells in that block of the frame: the halves of the block
  * cannot have as many cells each, so that Build has to find which gets one more. They say how much work the build was: its instructions
- * grow with them, as docs/FIGURES.md has it. There are 0 to ports x slots x k of them, where slots are 2^k, and so 163,840 at most. With
- * as many slots as ports, or fewer, some load comes to that bound, as one of 16 x 16 with every count 1 does: 1,024. With more slots than
- * ports none does.
+ * grow with them, as docs/FIGURES.md has it. There are 0 to ports x slots x k of them, where slots are 2^k. One cell for each pair, in as
+ * many slots as ports, comes to that: 1,024 for 16 x 16. With more slots than ports there are fewer: 81,664 at most for 16 x 1,024. All
+ * this is proved but for what it says of instructions.
  *
  *     answer                  *first                   *second                             frame
  *     ACCEPTED                the odd counts settled   0                                   the frame of the load

@@ -20,6 +20,14 @@ pub fn bound(ports: u64, k: u32) -> u64 {
     (ports << k) * u64::from(k)
 }
 
+/// The same size of block by size: no block has more of them than the switch has pairs, nor than its slots can have cells.
+pub fn bound_by_size(ports: u64, k: u32) -> u64 {
+    let blocks = (0..k).map(|depth| 1 << depth);
+    blocks
+        .map(|blocks: u64| (ports << k).min(blocks * ports * ports))
+        .sum()
+}
+
 /// The pairs with an odd number of cells in one block.
 pub fn odd_counts(ports: u64, block: &[u8]) -> u64 {
     let cells = cells_by_class(ports as usize, block);

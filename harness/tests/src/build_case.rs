@@ -3,7 +3,7 @@
 use calls::{Built, Calls, Inspection};
 use loads::{load, Call, LoadKind, Random};
 use reference::wire::{Course, Frame, Whose};
-use reference::work::bound;
+use reference::work::bound_by_size;
 
 use crate::hits::{Hits, NONE_SETTLED, ODD_SETTLED, SAME_FRAME};
 use crate::lent::Lent;
@@ -86,10 +86,10 @@ pub fn build_and_compare(
     Ok(answer)
 }
 
-/// Holds the odd counts settled to their bound.
+/// Holds the odd counts settled to the sharper of their bounds.
 fn check_settled(call: &Call, settled: u64, hits: &mut Hits) -> Verdict {
     let k = call.slots.trailing_zeros();
-    let most = bound(call.ports, k);
+    let most = bound_by_size(call.ports, k);
     expect(settled <= most, || {
         format!("{settled} odd counts settled, and {most} are the most")
     })?;

@@ -1,7 +1,7 @@
 //! The most odd counts that any load has, reached through C and through Rust.
 
 use calls::{Calls, InC, Library, Reference};
-use reference::work::bound;
+use reference::work::{bound, bound_by_size};
 
 /// The odd counts of a pair with so many cells in a block of 2^k slots and in all blocks within it: the halves of a count differ
 /// by at most one cell.
@@ -70,13 +70,15 @@ fn expect_settled(ports: u64, k: u32, matrix: &[u16], settled: u64) {
 
 #[test]
 fn the_most_of_any_load_is_reached() {
-    println!("ports   k  most settled  ports x slots x k    part");
+    println!("ports   k  most settled  ports x slots x k    part  by size    part");
     for ports in [1, 2, 3, 4, 5, 8, 12, 16] {
         for k in 0..=10 {
             let row = best_row(ports, k);
             let (most, bound) = (ports * row.odd, bound(ports, k));
-            let part = most as f64 / bound.max(1) as f64;
-            println!("{ports:>5} {k:>3} {most:>13} {bound:>18} {part:>7.3}");
+            let by_size = bound_by_size(ports, k);
+            let [part, nearer] = [bound, by_size].map(|all| most as f64 / all.max(1) as f64);
+            println!("{ports:>5} {k:>3} {most:>13} {bound:>18} {part:>7.3} {by_size:>8} {nearer:>7.3}");
+            assert!(most <= by_size && by_size <= bound, "{ports} ports, k = {k}");
             assert_eq!(most == bound, 1 << k <= ports, "{ports} ports, k = {k}");
             expect_settled(ports, k, &turned(&row.counts), most);
         }

@@ -173,8 +173,8 @@ pub fn admit(ports: usize, slots: usize, matrix: &[u16]) -> Result<(), Refusal> 
 ///
 /// Those are, over all blocks of two or more slots, the pairs with an odd number of cells in that block of the frame: the halves of
 /// the block cannot have as many cells each, so that it has to be found which gets one more. They say how much work the build was:
-/// its instructions grow with them. There are 0 to ports × slots × k of them, where slots are 2^k, and so 163,840 at most. With as
-/// many slots as ports, or fewer, some load comes to that bound; with more slots none does.
+/// its instructions grow with them. There are 0 to ports × slots × k of them, where slots are 2^k. One cell for each pair, in as many
+/// slots as ports, comes to that; with more slots than ports there are fewer, 81,664 at most for 16 ports and 1,024 slots.
 ///
 /// # Errors
 ///
