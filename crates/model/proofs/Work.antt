@@ -41,7 +41,7 @@ pub record EachOnce (slots k : ℕ) : Type 0 where
       → (t : ℕ) × (b : ℕ) × (t < k) × (b < 2 ^ t) × (size ≡ slots / 2 ^ t) × (start ≡ b * (slots / 2 ^ t))
   pub once : (t b u c : ℕ) → t < k → u < k → slots / 2 ^ t ≡ slots / 2 ^ u → b * (slots / 2 ^ t) ≡ c * (slots / 2 ^ u) → (t ≡ u) × (b ≡ c)
 
--- two or more slots are 2 ^ j with j above 0, and one slot is 2 ^ 0
+-- a power of two is 1, or 2 or more
 two-most : (j : ℕ) → 0 < j → 2 ≤ 2 ^ j
 two-most zero h = absurd (omega arith)
 two-most (suc j) h = omega (arith, double j, pow-pos j)

@@ -77,8 +77,13 @@ fn the_most_of_any_load_is_reached() {
             let (most, bound) = (ports * row.odd, bound(ports, k));
             let by_size = bound_by_size(ports, k);
             let [part, nearer] = [bound, by_size].map(|all| most as f64 / all.max(1) as f64);
-            println!("{ports:>5} {k:>3} {most:>13} {bound:>18} {part:>7.3} {by_size:>8} {nearer:>7.3}");
-            assert!(most <= by_size && by_size <= bound, "{ports} ports, k = {k}");
+            println!(
+                "{ports:>5} {k:>3} {most:>13} {bound:>18} {part:>7.3} {by_size:>8} {nearer:>7.3}"
+            );
+            assert!(
+                most <= by_size && by_size <= bound,
+                "{ports} ports, k = {k}"
+            );
             assert_eq!(most == bound, 1 << k <= ports, "{ports} ports, k = {k}");
             expect_settled(ports, k, &turned(&row.counts), most);
         }
