@@ -13,7 +13,7 @@ use Rattle.model.specs.Frames.{cells}
 use Rattle.model.specs.Refusals.{Check, report, clear, bad-ports, bad-slots, bad-matrix, bad-frame, bad-slot, admitted}
 use Rattle.model.specs.Schedule.{frameOf}
 use Rattle.model.specs.Work.{work}
-use Rattle.model.specs.Build.{left, buildChecks, built}
+use Rattle.model.specs.Build.{left, buildChecks, acceptance, built}
 use Rattle.model.specs.Inspect.{byteTooLarge, outputTwice, pairCount, unbalancedBlock, inspected}
 use Rattle.model.specs.Service.{viewChecks, viewNumber, viewStart, viewSize, viewed, classOf, bad-who, bad-length, repeated, lead, Reply, countChecks, service}
 use Rattle.model.specs.declared.Who.{Who}
@@ -143,12 +143,12 @@ module _ (ports slots : ℕ) (m buffer : List ℕ) where
   kept {n} {values} h e =
       ap₂ (λ (a b : List ℕ). (a, b)) (sym e)
       (sym (build-keeps ports slots m buffer
-      (clear-some (buildChecks ports slots m buffer) (0 ∷ work ports slots (left ports slots m buffer) ∷ []) refl (λ z. let y = ap (λ (l : List ℕ). getD l 0 0) e in omega arith))))
+      (clear-some (buildChecks ports slots m buffer) (acceptance ports slots m buffer) refl (λ z. let y = ap (λ (l : List ℕ). getD l 0 0) e in omega arith))))
 
   -- what a case says is Build's answer and what it leaves
   build-only : (given : List ℕ × List ℕ) → Builds ports slots m buffer given → given ≡ build
   unfolding buildChecks
-  build-only given (refused r) = kept (frame-low r) (frame-reported ports slots m (overloads ports slots m) (0 ∷ work ports slots (left ports slots m buffer) ∷ []) buffer r)
+  build-only given (refused r) = kept (frame-low r) (frame-reported ports slots m (overloads ports slots m) (acceptance ports slots m buffer) buffer r)
   build-only given (input-5 w e x o) = kept (omega arith) (build-answers ports slots m w buffer e .input-over x o)
   build-only given (output-6 w e l x o) = kept (omega arith) (build-answers ports slots m w buffer e .output-over l x o)
   build-only given (accepted a bytes s) =

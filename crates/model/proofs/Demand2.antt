@@ -12,8 +12,7 @@ use Rattle.model.specs.Frames.{Legal, Balanced}
 use Rattle.model.specs.Refusals.{Check, report, clear, accepted, bad-ports, bad-slots, bad-matrix, bad-frame, overload, levels, admitted}
 use Rattle.model.specs.Rules.{Scheduled}
 use Rattle.model.specs.Schedule.{frameOf}
-use Rattle.model.specs.Work.{work}
-use Rattle.model.specs.Build.{buildChecks, built, buildAccepts, left}
+use Rattle.model.specs.Build.{buildChecks, acceptance, built, buildAccepts, left}
 use Rattle.model.proofs.Cases.{Within, both-true}
 use Rattle.model.proofs.Levels.{Power, levels-power, power-known}
 use Rattle.model.proofs.OneFrame.{frame-is, OneFrame, one-frame}
@@ -86,10 +85,10 @@ module _ (ports slots : ℕ) (m : List ℕ) where
 
     -- Build's answer
     pub build-answers : (buffer : List ℕ) → length buffer ≡ slots * ports
-        → OverloadAnswers ports slots m (0 ∷ work ports slots (left ports slots m buffer) ∷ []) (built ports slots m buffer)
+        → OverloadAnswers ports slots m (acceptance ports slots m buffer) (built ports slots m buffer)
     unfolding buildChecks
     build-answers buffer e =
-        let taken : List ℕ = 0 ∷ work ports slots (left ports slots m buffer) ∷ [] in
+        let taken = acceptance ports slots m buffer in
         subst (OverloadAnswers ports slots m taken) (sym (past-frame buffer e (overloads ports slots m) taken)) (overload-answers taken)
 
 -- the rules' frame of a well-formed load that fits

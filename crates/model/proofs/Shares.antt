@@ -109,7 +109,7 @@ Level c = Within (favouring 2 c) (favouring 2 c + 1) (favouring 1 c)
 abbrev pub EvenMore : List ℕ → List ℕ → Type 0
 EvenMore c d = (favouring 1 d + favouring 2 d + favouring 1 c + favouring 2 c) % 2 ≡ 0
 
-two-halves : (a : ℕ) → a / 2 + (a + 1) / 2 ≡ a
+pub two-halves : (a : ℕ) → a / 2 + (a + 1) / 2 ≡ a
 two-halves a = byEq (a % 2) 0 (λ e. omega arith) (λ e. omega arith)
 
 -- a group with an even number of counts gives both halves as many

@@ -9,18 +9,21 @@ use native.Mathlib.Nat.{div-add-mod', mod-le, mul-div-cancel, mul-le-mul-right, 
 use lib.Arith.{digits-div, digits-mod}
 use lib.Dec.{eqb}
 use lib.Pow.{pow-pos}
-use lib.ListN.{length, getD, replicate, length-append, length-replicate}
+use lib.ListN.{length, getD, replicate, length-append, length-replicate, getD-replicate}
 use borrow.Author.Tests.{eq-eqb, ne-eqb}
 use Rattle.model.specs.Words.{both, bit, Near, sumTo}
 use Rattle.model.specs.Loads.{pair, total, load, Fits}
 use Rattle.model.specs.Frames.{counts, cells, runOf, Legal, Block}
 use Rattle.model.specs.Refusals.{levels}
 use Rattle.model.specs.Rules.{Side, inputs, outputs, portOf, Split, Scheduled}
-use Rattle.model.specs.Work.{oddPairs, blockOf, work, oddShares, settled}
-use Rattle.model.specs.Build.{buildAccepts, left, WorkMost, WorkByDepth, ones, WorkReached}
+use Rattle.model.specs.Schedule.{oddShares, settled}
+use Rattle.model.specs.Work.{oddPairs, blockOf, work}
+use Rattle.model.specs.Build.{buildAccepts, left}
+use Rattle.model.specs.Budget.{WorkMost, WorkByDepth, ones, WorkReached}
 use Rattle.model.proofs.Cases.{byEq, byLt, is-yes, is-no}
 use Rattle.model.proofs.Sums.{sum-none, sum-more, sum-ext, sum-shift, sum-append, sum-add, sum-le, sum-most, sum-zero, sum-one, sum-swap, sum-rows, sum-times, sum-ones}
 use Rattle.model.proofs.Levels.{Power, pow-only, levels-of, power-level, level-is, depth-size, depth-fill}
+use Rattle.model.proofs.Shares.{two-halves}
 use Rattle.model.proofs.Halves.{port-low, halves-fit}
 use Rattle.model.proofs.Cells.{run-all, run-length, run-first, run-second}
 use Rattle.model.proofs.Blocks.{number-block, block-numbered}
@@ -181,10 +184,6 @@ work-built ports slots m buffer e =
     ∙ work-settled ports k m (left ports slots m buffer) low (a .well .square) (subst (λ (n : ℕ). Fits ports n m) (b .1) (a .fits)) (b .0 .meets)
 
 -- ---- how many they can be
--- both halves of a number make it up
-halves-whole : (c : ℕ) → c / 2 + (c + 1) / 2 ≡ c
-halves-whole c = byEq (c % 2) 0 (λ e. omega arith) (λ e. omega arith)
-
 -- no more than k for each cell,
 shares-most : (k c : ℕ) → oddShares k c ≤ k * c
 unfolding oddShares
@@ -192,7 +191,7 @@ shares-most zero c = omega arith
 shares-most (suc k) c =
     let a = shares-most k (c / 2) in
     let b = shares-most k ((c + 1) / 2) in
-    let s : k * (c / 2) + k * ((c + 1) / 2) ≡ k * c = omega (arith, ap (λ n. k * n) (halves-whole c)) in
+    let s : k * (c / 2) + k * ((c + 1) / 2) ≡ k * c = omega (arith, ap (λ n. k * n) (two-halves c)) in
     let o : c % 2 ≤ c = omega arith in
     omega arith
 
@@ -317,11 +316,6 @@ work-single ports slots m buffer e k power low =
         byEq (getD m p 0) 0 (λ z. rw z (omega (arith, shares-none k)))
         (λ n. let one : getD m p 0 ≡ 1 = (let l = low p in omega arith) in rw one (omega (arith, shares-one k)))
 
-one-at : (n p : ℕ) → p < n → getD (replicate {A = ℕ} n 1) p 0 ≡ 1
-one-at zero p h = absurd (omega arith)
-one-at (suc n) zero h = refl
-one-at (suc n) (suc p) h = one-at n p (omega arith)
-
 one-most : (n p : ℕ) → getD (replicate {A = ℕ} n 1) p 0 ≤ 1
 one-most zero p = omega arith
 one-most (suc n) zero = omega arith
@@ -358,4 +352,4 @@ work-reached k low buffer size = (
 
     all : load total (2 ^ k) (ones k) ≡ 2 ^ k * 2 ^ k
     all =
-        sum-ext (2 ^ k * 2 ^ k) _ (λ p. 1) (λ p h. one-at (2 ^ k * 2 ^ k) p h) ∙ sum-ones (2 ^ k * 2 ^ k)
+        sum-ext (2 ^ k * 2 ^ k) _ (λ p. 1) (λ p h. getD-replicate (2 ^ k * 2 ^ k) p 1 0 h) ∙ sum-ones (2 ^ k * 2 ^ k)

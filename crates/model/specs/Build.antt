@@ -1,10 +1,8 @@
 -- Build: its answer, and the bytes that it leaves.
-use Prim.Native.Nat.{ℕ, _*_, _^_, _≤_, min}
-use mathlib.Core.Path.{_≡_}
+use Prim.Native.Nat.{ℕ}
 use mathlib.Core.List.{List, [], _∷_}
-use mathlib.Core.Bool.{Bool, true}
-use lib.ListN.{length, replicate}
-use Rattle.model.specs.Words.{if, sumTo}
+use mathlib.Core.Bool.{Bool}
+use Rattle.model.specs.Words.{if}
 use Rattle.model.specs.Loads.{input, output}
 use Rattle.model.specs.Refusals.{Check, report, clear, refusal, bad-ports, bad-slots, bad-matrix, bad-frame, overload, levels}
 use Rattle.model.specs.Schedule.{frameOf}
@@ -35,30 +33,9 @@ abbrev pub outcome : Built → List ℕ
 outcome (Accepted settled) = 0 ∷ settled ∷ []
 outcome (Refused r) = refusal r
 
--- What Build answers: the odd counts settled are those of the frame that it leaves.
+-- Build's acceptance: the odd counts settled are those of the frame that it leaves.
+abbrev pub acceptance : ℕ → ℕ → List ℕ → List ℕ → List ℕ
+acceptance ports slots matrix buffer = 0 ∷ work ports slots (left ports slots matrix buffer) ∷ []
+
 abbrev pub built : ℕ → ℕ → List ℕ → List ℕ → List ℕ
-built ports slots matrix buffer =
-    report (buildChecks ports slots matrix buffer) (0 ∷ work ports slots (left ports slots matrix buffer) ∷ [])
-
--- They are at most ports × slots × k, whatever load is accepted.
-abbrev pub WorkMost : Type 0
-WorkMost =
-    (ports slots : ℕ) (matrix buffer : List ℕ) → buildAccepts ports slots matrix buffer ≡ true → (k : ℕ) → slots ≡ 2 ^ k
-    → work ports slots (left ports slots matrix buffer) ≤ ports * slots * k
-
--- A block of one depth has no more odd pairs than a switch has pairs: at depth t, where there are 2 ^ t blocks, they are at most 2 ^ t
--- times the pairs, and at most the cells of all slots.
-abbrev pub WorkByDepth : Type 0
-WorkByDepth =
-    (ports slots : ℕ) (matrix buffer : List ℕ) → buildAccepts ports slots matrix buffer ≡ true → (k : ℕ) → slots ≡ 2 ^ k
-    → work ports slots (left ports slots matrix buffer) ≤ sumTo k (λ t. min (ports * slots) (2 ^ t * (ports * ports)))
-
--- ports × slots × k is reached: by one cell for each pair of a switch of 2 ^ k ports, in as many slots.
-abbrev pub ones : ℕ → List ℕ
-ones k = replicate (2 ^ k * 2 ^ k) 1
-
-abbrev pub WorkReached : Type 0
-WorkReached =
-    (k : ℕ) → k ≤ 4 → (buffer : List ℕ) → length buffer ≡ 2 ^ k * 2 ^ k
-    → (buildAccepts (2 ^ k) (2 ^ k) (ones k) buffer ≡ true)
-    × (work (2 ^ k) (2 ^ k) (left (2 ^ k) (2 ^ k) (ones k) buffer) ≡ 2 ^ k * 2 ^ k * k)
+built ports slots matrix buffer = report (buildChecks ports slots matrix buffer) (acceptance ports slots matrix buffer)

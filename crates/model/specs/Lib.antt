@@ -8,6 +8,7 @@ pub mod Rules
 pub mod Schedule
 pub mod Work
 pub mod Build
+pub mod Budget
 pub mod Inspect
 pub mod Service
 pub mod Wire

@@ -10,9 +10,8 @@ use lib.ListN.{length, getD}
 use borrow.Author.Tests.{eqb-true, eqb-false, not-false}
 use Rattle.model.specs.Words.{within}
 use Rattle.model.specs.Refusals.{report, clear, refusal, accepted, answered, levels}
-use Rattle.model.specs.Schedule.{frameOf}
-use Rattle.model.specs.Work.{work, settled}
-use Rattle.model.specs.Build.{buildChecks, buildAccepts, built, left}
+use Rattle.model.specs.Schedule.{frameOf, settled}
+use Rattle.model.specs.Build.{buildChecks, buildAccepts, acceptance, built, left}
 use Rattle.model.specs.declared.Refusal.{Refusal}
 use Rattle.model.specs.declared.Answer.{Answer}
 use Rattle.model.specs.declared.Answer.the-variants.{Accepted, Refused}
@@ -41,14 +40,10 @@ pub done : (ports slots : ℕ) (matrix buffer answer bytes : List ℕ) → Done 
 done ports slots matrix buffer answer bytes d = (d .answers, d .leaves)
 
 module _ (ports slots : ℕ) (matrix buffer : List ℕ) where
-  -- what is answered where none of them holds
-  abbrev taken : List ℕ
-  taken = 0 ∷ work ports slots (left ports slots matrix buffer) ∷ []
-
   -- a refusal leaves the bytes
   refused : (answer : List ℕ) → getD answer 0 0 ≢ 0 → answer ≡ built ports slots matrix buffer
       → Done ports slots matrix buffer answer buffer
-  refused answer n e = record { answers = e; leaves = rw (clear-some (buildChecks ports slots matrix buffer) taken refl (rw e at n)) }
+  refused answer n e = record { answers = e; leaves = rw (clear-some (buildChecks ports slots matrix buffer) (acceptance ports slots matrix buffer) refl (rw e at n)) }
 
   -- the tests, in the order of the refusals
   module _ {r : Bool} (r-is : r ≡ not (within 1 16 ports)) where
@@ -95,7 +90,7 @@ module _ (ports slots : ℕ) (matrix buffer : List ℕ) where
               load-refused {x} d =
                   let g : refusal x ≡ report (overloads ports slots matrix) accepted = sym (ap answered d) ∙ loads-decide in
                   let some : clear (overloads ports slots matrix) ≡ false = clear-some (overloads ports slots matrix) accepted refl (λ z. refusal-number x (ap (λ (l : List ℕ). getD l 0 0) g ∙ z)) in
-                  refused (refusal x) (refusal-number x) (g ∙ report-refused (overloads ports slots matrix) accepted taken some ∙ sym (past taken))
+                  refused (refusal x) (refusal-number x) (g ∙ report-refused (overloads ports slots matrix) accepted (acceptance ports slots matrix buffer) some ∙ sym (past (acceptance ports slots matrix buffer)))
 
               pub fills : {bytes : List ℕ} {n : ℕ} → a ≡ Accepted → n ≡ settled (levels slots) matrix → bytes ≡ frameOf ports (levels slots) matrix
                   → Done ports slots matrix buffer (0 ∷ n ∷ []) bytes
@@ -104,6 +99,6 @@ module _ (ports slots : ℕ) (matrix buffer : List ℕ) where
                   let none : buildAccepts ports slots matrix buffer ≡ true = past-clear ∙ clear-none (overloads ports slots matrix) accepted (omega arith, (omega arith, tt)) e in
                   record {
                     answers = ap (λ (j : ℕ). 0 ∷ j ∷ []) (f ∙ sym (work-built ports slots matrix buffer none))
-                        ∙ sym (report-clear (buildChecks ports slots matrix buffer) taken none);
+                        ∙ sym (report-clear (buildChecks ports slots matrix buffer) (acceptance ports slots matrix buffer) none);
                     leaves = g ∙ rw none;
                   }

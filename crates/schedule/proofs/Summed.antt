@@ -10,8 +10,7 @@ use lib.Seq.{length-take-le}
 use Rattle.model.specs.Words.{sumTo}
 use Rattle.model.specs.Rules.{portOf, odd}
 use Rattle.model.specs.Refusals.{levels}
-use Rattle.model.specs.Schedule.{halfOf}
-use Rattle.model.specs.Work.{oddShares, settled}
+use Rattle.model.specs.Schedule.{halfOf, oddShares, settled}
 use Rattle.model.proofs.Cases.{byEq, is-yes, is-no}
 use Rattle.model.proofs.Sums.{sum-ext, sum-zero}
 use Rattle.model.proofs.Kept.{kept-length}

@@ -14,13 +14,13 @@ ghost use mathlib.Core.Path.{_≡_};
 ghost use Prim.Native.Nat.{_*_, _<_};
 ghost use lib.ListN.{length, take};
 ghost use Rattle.model.specs.Refusals.{levels};
-ghost use Rattle.model.specs.Schedule.{frameOf};
-ghost use Rattle.model.specs.Work.{settled};
+ghost use Rattle.model.specs.Schedule.{frameOf, settled};
 ghost use Rattle.model.specs.Build.{outcome, built, left};
 ghost use Rattle.split.specs.Steps.{Wide, Tables};
 ghost use Rattle.schedule.specs.Fill.{Fillable};
 
-// The length of the block in slots falls by half with each call. The answer is how many odd counts were settled in all.
+// The length of the block in slots falls by half with each call. The answer is how many odd counts were settled, here and in the
+// blocks within.
 fn block(
     counts: &[u16; 256],
     n: usize,

@@ -17,8 +17,7 @@ use Rattle.model.specs.Words.{if, both, Every}
 use Rattle.model.specs.Loads.{input, output}
 use Rattle.model.specs.Refusals.{Check, report, clear, levels, refusal, overload}
 use Rattle.model.specs.Schedule.{frameOf}
-use Rattle.model.specs.Work.{work}
-use Rattle.model.specs.Build.{buildChecks, outcome, built, left}
+use Rattle.model.specs.Build.{buildChecks, outcome, acceptance, built, left}
 use Rattle.model.specs.Sheet.{Asked, loads, refused, overloads, lines, readPorts, readSheet, printed, printFrame, response}
 use Rattle.model.specs.declared.Refusal.{Refusal}
 use Rattle.model.specs.declared.Refusal.the-variants as variants
@@ -70,11 +69,7 @@ module _ (ports slots : ℕ) (matrix frame : List ℕ) (x : Readable ports slots
   room-length : eqb (length room) (slots * ports) ≡ true
   room-length = eq-eqb (length room) (slots * ports) (sym room-size)
 
-  -- what is answered where neither holds
-  abbrev taken : List ℕ
-  taken = 0 ∷ work ports slots (left ports slots part room) ∷ []
-
-  report-two : built ports slots part room ≡ report two taken
+  report-two : built ports slots part room ≡ report two (acceptance ports slots part room)
   unfolding buildChecks two
   report-two = rw (within-yes 1 16 ports (x .least) (x .most), x .power, part-length, room-length)
 
@@ -90,7 +85,7 @@ module _ (ports slots : ℕ) (matrix frame : List ℕ) (x : Readable ports slots
       → length mid ≡ length room → Answered (overloads (loads ports slots part)) (mid ++ drop (slots * ports) frame) (Loads ports slots)
   unfolding two
   built-yes a mid n e f g k =
-      let c : clear two ≡ true = clear-none two taken refuse-two (ap (λ l. getD l 0 0) (sym report-two ∙ (sym e ∙ ap outcome g))) in
+      let c : clear two ≡ true = clear-none two (acceptance ports slots part room) refuse-two (ap (λ l. getD l 0 0) (sym report-two ∙ (sym e ∙ ap outcome g))) in
       let h : take (slots * ports) (mid ++ drop (slots * ports) frame) ≡ mid = take-at mid (drop (slots * ports) frame) (slots * ports) (k ∙ sym room-size) in
       let s = slots-known {slots = slots} {r = false} (sym (x .power)) refl in
       record {
@@ -103,11 +98,11 @@ module _ (ports slots : ℕ) (matrix frame : List ℕ) (x : Readable ports slots
       → Answered (overloads (loads ports slots part)) new (Refused r)
   unfolding two
   built-no a r new e g =
-      let k : report two taken ≡ refusal r = sym report-two ∙ (sym e ∙ ap outcome g) in
-      let c : clear two ≡ false = clear-some two taken refl (λ z. refusal-number r (ap (λ l. getD l 0 0) (sym k) ∙ z)) in
+      let k : report two (acceptance ports slots part room) ≡ refusal r = sym report-two ∙ (sym e ∙ ap outcome g) in
+      let c : clear two ≡ false = clear-some two (acceptance ports slots part room) refl (λ z. refusal-number r (ap (λ l. getD l 0 0) (sym k) ∙ z)) in
       record {
         prints = ap printed (ap (λ b. if b (loads ports slots part) (refused (report two []))) c
-            ∙ ap refused (report-refused two [] taken c ∙ k));
+            ∙ ap refused (report-refused two [] (acceptance ports slots part room) c ∙ k));
         printable = tt;
       }
 

@@ -1,0 +1,32 @@
+-- The odd counts that Build settles: how many they can be.
+use Prim.Native.Nat.{ℕ, _*_, _^_, _≤_, min}
+use mathlib.Core.Path.{_≡_}
+use mathlib.Core.List.{List}
+use mathlib.Core.Bool.{true}
+use lib.ListN.{length, replicate}
+use Rattle.model.specs.Words.{sumTo}
+use Rattle.model.specs.Work.{work}
+use Rattle.model.specs.Build.{buildAccepts, left}
+
+-- At most ports × slots × k, whatever load is accepted.
+abbrev pub WorkMost : Type 0
+WorkMost =
+    (ports slots : ℕ) (matrix buffer : List ℕ) → buildAccepts ports slots matrix buffer ≡ true → (k : ℕ) → slots ≡ 2 ^ k
+    → work ports slots (left ports slots matrix buffer) ≤ ports * slots * k
+
+-- No block has more odd pairs than the switch has pairs, and the blocks of one depth together no more than all slots can have
+-- cells: so at depth t, where there are 2 ^ t blocks, at most the less of the two.
+abbrev pub WorkByDepth : Type 0
+WorkByDepth =
+    (ports slots : ℕ) (matrix buffer : List ℕ) → buildAccepts ports slots matrix buffer ≡ true → (k : ℕ) → slots ≡ 2 ^ k
+    → work ports slots (left ports slots matrix buffer) ≤ sumTo k (λ t. min (ports * slots) (2 ^ t * (ports * ports)))
+
+-- ports × slots × k is reached: by one cell for each pair of a switch of 2 ^ k ports, in as many slots.
+abbrev pub ones : ℕ → List ℕ
+ones k = replicate (2 ^ k * 2 ^ k) 1
+
+abbrev pub WorkReached : Type 0
+WorkReached =
+    (k : ℕ) → k ≤ 4 → (buffer : List ℕ) → length buffer ≡ 2 ^ k * 2 ^ k
+    → (buildAccepts (2 ^ k) (2 ^ k) (ones k) buffer ≡ true)
+    × (work (2 ^ k) (2 ^ k) (left (2 ^ k) (2 ^ k) (ones k) buffer) ≡ 2 ^ k * 2 ^ k * k)
