@@ -32,6 +32,7 @@ pub mod Runs
 pub mod Integers
 pub mod Queues
 pub mod Rows
+pub mod Waits
 pub mod Leads
 pub mod Inspected
 pub mod Answers

@@ -50,7 +50,7 @@ cells-slots c ports start (suc len) bytes h =
     let more : suc len ≡ len + 1 = omega arith in
     rw more (omega (arith, cells-run ports c start len 1 bytes (omega arith), cells-slots c ports start len bytes (omega arith)))
 
--- ---- a chain in which a flow's load is the same in every frame
+-- ---- a chain in which a flow's load is the same in every frame, or at least so much
 inside-parts : (lo hi start end : ℕ) → lo ≤ hi → hi ≤ end → (hi - max lo start) + (end - max hi start) ≡ end - max lo start
 inside-parts lo hi start end below above = omega arith
 
@@ -68,25 +68,40 @@ inside-sum lo hi end start len below above =
           rw ends (inside-parts lo hi start (min end (start + len)) below low))
     ]
 
-share-steady : (c : Class) (ports n m : ℕ) (fs : List Carried) → Every (Shape ports n) fs → Every (λ f. load c ports (f .call .matrix) ≡ m) fs
-    → (lo start len : ℕ) → share c lo fs start len ≡ m * inside lo (lo + length fs * n) start len
-unfolding share
-share-steady c ports n m [] shape same lo start len = let e : inside lo (lo + 0 * n) start len ≡ 0 = omega arith in omega (arith, ap (λ z. m * z) e)
-share-steady c ports n m (f ∷ fs) shape same lo start len =
-    let hi = lo + n in
-    let end = lo + suc (length fs) * n in
-    let tail : hi + length fs * n ≡ end = omega arith in
-    let sum : inside lo hi start len + inside hi end start len ≡ inside lo end start len = inside-sum lo hi end start len (omega arith) (omega arith) in
-    let is : load c (f .call .ports) (f .call .matrix) ≡ m = ap (λ p. load c p (f .call .matrix)) (shape .0 .ports-are) ∙ same .0 in
-    let law : share c hi fs start len ≡ m * inside hi end start len = rw tail at (share-steady c ports n m fs (shape .1) (same .1) hi start len) in
-    rw (is, shape .0 .slots-are, law) (omega (arith, ap (λ z. m * z) sum))
+-- where each load is in one relation to m, equal to it or at least as much, the share is in it to m times the slots in the chain
+module _ (R : ℕ → ℕ → Type 0) (none : R 0 0) (add : (a b x y : ℕ) → R a b → R x y → R (a + x) (b + y)) (times : (z a b : ℕ) → R a b → R (a * z) (b * z)) where
+  share-by : (c : Class) (ports n m : ℕ) (fs : List Carried) → Every (Shape ports n) fs → Every (λ f. R (load c ports (f .call .matrix)) m) fs
+      → (lo start len : ℕ) → R (share c lo fs start len) (m * inside lo (lo + length fs * n) start len)
+  unfolding share
+  share-by c ports n m [] shape all lo start len =
+      let e : inside lo (lo + 0 * n) start len ≡ 0 = omega arith in
+      let z : m * inside lo (lo + 0 * n) start len ≡ 0 = omega (arith, ap (λ z. m * z) e) in
+      rw z none
+  share-by c ports n m (f ∷ fs) shape all lo start len =
+      let hi = lo + n in
+      let end = lo + suc (length fs) * n in
+      let tail : hi + length fs * n ≡ end = omega arith in
+      let sum : inside lo hi start len + inside hi end start len ≡ inside lo end start len = inside-sum lo hi end start len (omega arith) (omega arith) in
+      let parts : m * inside lo end start len ≡ m * inside lo hi start len + m * inside hi end start len = omega (arith, ap (λ z. m * z) sum) in
+      let law : R (share c hi fs start len) (m * inside hi end start len) = rw tail at (share-by c ports n m fs (shape .1) (all .1) hi start len) in
+      rw (shape .0 .ports-are, shape .0 .slots-are, parts)
+      (add _ _ _ _ (times (inside lo hi start len) (load c ports (f .call .matrix)) m (all .0)) law)
 
--- so the share of a run is its slots times the load
+  -- so the share of a run of the chain is in it to its slots times m
+  share-run : (c : Class) (ports k m : ℕ) (fs : List Carried) → Every (Shape ports (2 ^ k)) fs → Every (λ f. R (load c ports (f .call .matrix)) m) fs
+      → (start len : ℕ) → start + len ≤ length fs * 2 ^ k → R (share c 0 fs start len) (len * m)
+  share-run c ports k m fs shape all start len fits =
+      let e : inside 0 (0 + length fs * 2 ^ k) start len ≡ len = omega arith in
+      let is : m * inside 0 (0 + length fs * 2 ^ k) start len ≡ len * m = omega (arith, ap (λ z. m * z) e) in
+      rw is at (share-by c ports (2 ^ k) m fs shape all 0 start len)
+
 pub share-is : (c : Class) (ports k m : ℕ) (fs : List Carried) → Every (Shape ports (2 ^ k)) fs → Every (λ f. load c ports (f .call .matrix) ≡ m) fs
     → (start len : ℕ) → start + len ≤ length fs * 2 ^ k → share c 0 fs start len ≡ len * m
-share-is c ports k m fs shape same start len fits =
-    let e : inside 0 (0 + length fs * 2 ^ k) start len ≡ len = omega arith in
-    omega (arith, share-steady c ports (2 ^ k) m fs shape same 0 start len, ap (λ z. m * z) e)
+share-is = share-run (λ a b. a ≡ b) refl (λ a b x y p q. omega arith) (λ z a b p. ap (λ v. v * z) p)
+
+pub share-least : (c : Class) (ports k m : ℕ) (fs : List Carried) → Every (Shape ports (2 ^ k)) fs → Every (λ f. m ≤ load c ports (f .call .matrix)) fs
+    → (start len : ℕ) → start + len ≤ length fs * 2 ^ k → len * m ≤ share c 0 fs start len
+share-least = share-run (λ a b. b ≤ a) (omega arith) (λ a b x y p q. omega arith) (λ z a b p. mul-le-mul-right z p)
 
 share-more : (c : Class) (fs : List Carried) (start len : ℕ) → share c 0 fs start (len + 1) ≡ share c 0 fs start len + share c 0 fs (start + len) 1
 share-more c fs start len =

@@ -14,5 +14,6 @@ pub mod Service
 pub mod Wire
 pub mod Lead
 pub mod Queue
+pub mod Wait
 pub mod Row
 pub mod Sheet

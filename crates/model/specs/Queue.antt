@@ -1,11 +1,11 @@
 -- The queue of one flow at a line card, and how deep its buffer has to be.
 use Prim.Native.Nat.{ℕ, suc, zero, _+_, _*_, _-_, _^_, _≤_, _<_}
 use mathlib.Core.Path.{_≡_}
-use mathlib.Core.List.{List}
+use mathlib.Core.List.{List, [], _++_}
 use lib.IntN.{pos, negℤ}
-use lib.ListN.{length}
+use lib.ListN.{length, drop}
 use lib.Signed.{_≤ℤ_}
-use Rattle.model.specs.Words.{sumTo, Every}
+use Rattle.model.specs.Words.{upFrom, sumTo, Every}
 use Rattle.model.specs.Loads.{Class, Of, load}
 use Rattle.model.specs.Frames.{cells, runOf}
 use Rattle.model.specs.Service.{repeated, lead}
@@ -16,6 +16,12 @@ use Rattle.model.specs.Wire.{Call, Carried, none, chain, wire, share, Sh
 unfoldable pub waiting : (ℕ → ℕ) → (ℕ → ℕ) → ℕ → ℕ
 waiting arrive scheduled zero = 0
 waiting arrive scheduled (suc t) = waiting arrive scheduled t + arrive t - scheduled t
+
+-- The same queue cell by cell, first in, first out: the cells that wait, in front the one that is next to leave. They are
+-- numbered as they arrive; those of a slot join at the back, and as many as are scheduled leave from the front.
+unfoldable pub queue : (ℕ → ℕ) → (ℕ → ℕ) → ℕ → List ℕ
+queue arrive scheduled zero = []
+queue arrive scheduled (suc t) = drop (scheduled t) (queue arrive scheduled t ++ upFrom (sumTo t arrive) (arrive t))
 
 -- The cells that a chain schedules for a flow in slot t.
 abbrev pub scheduledOn : Class → ℕ → List Carried → ℕ → ℕ

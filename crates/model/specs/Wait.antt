@@ -1,0 +1,58 @@
+-- The longest wait: how many slots it takes until a flow has had w cells, and until a cell that waits has left.
+use Prim.Native.Nat.{ℕ, _+_, _*_, _/_, _-_, _^_, _≤_, _<_}
+use mathlib.Core.Logic.{_≢_}
+use mathlib.Core.List.{List}
+use lib.ListN.{length, getD}
+use Rattle.model.specs.Words.{Every}
+use Rattle.model.specs.Loads.{Class, Of}
+use Rattle.model.specs.Frames.{cells, runOf}
+use Rattle.model.specs.Wire.{Call, Carried, none, chain, wire, Shape, deviation}
+use Rattle.model.specs.Queue.{waiting, queue, scheduledOn}
+
+-- The class has at least m cells in every frame of the chain.
+abbrev pub HasAtLeast : ℕ → Class → ℕ → List Carried → Type 0
+HasAtLeast m c ports frames = Every (λ f. m ≤ cells c ports (f .bytes)) frames
+
+-- How far a run of a chain may be from its share, in parts of 1 / (3 × 2 ^ k) of a cell: by demand 3 (2k + 1)/3 cells,
+abbrev pub byDemand3 : ℕ → ℕ
+byDemand3 k = (2 * k + 1) * 2 ^ k
+
+-- and by the sharp bound 2 × deviation k / 2 ^ k of them.
+abbrev pub bySharp : ℕ → ℕ
+bySharp k = 6 * deviation k
+
+-- A run of len slots is long enough for w cells if 3 × len × m is more than gap + 3 × slots × (w − 1).
+abbrev pub Enough : ℕ → ℕ → ℕ → ℕ → ℕ → Type 0
+Enough gap k m w len = gap + 3 * 2 ^ k * (w - 1) < 3 * len * m
+
+-- The cell that is w-th in the queue after the first t slots has left after the next len: it is nowhere in the queue then.
+abbrev pub Leaves : (ℕ → ℕ) → (ℕ → ℕ) → ℕ → ℕ → ℕ → Type 0
+Leaves arrive scheduled t w len = Every (λ cell. cell ≢ getD (queue arrive scheduled t) (w - 1) 0) (queue arrive scheduled (t + len))
+
+-- On a chain of frames of 2 ^ k slots any run of len slots has at least w cells of the class; and whatever arrives, a cell that
+-- is w-th in the class's queue after some slot has left after the next len.
+pub record Suffices (c : Class) (ports k : ℕ) (frames : List Carried) (w len : ℕ) : Type 0 where
+  pub runs : (start : ℕ) → start + len ≤ length frames * 2 ^ k → w ≤ cells c ports (runOf ports start len (wire frames))
+  pub leaves : (arrive : ℕ → ℕ) (t : ℕ) → t + len ≤ length frames * 2 ^ k → w ≤ waiting arrive (scheduledOn c ports frames) t
+      → Leaves arrive (scheduledOn c ports frames) t w len
+
+-- Of a class that has at least m cells in every frame of the chain, a length that is long enough for w cells suffices for them.
+abbrev pub WaitsOn : ℕ → ℕ → ℕ → List Carried → Type 0
+WaitsOn gap ports k frames =
+    (c : Class) → Of ports c → (m w : ℕ) → 1 ≤ m → 1 ≤ w → HasAtLeast m c ports frames
+    → (len : ℕ) → Enough gap k m w len → Suffices c ports k frames w len
+
+-- The longest wait, over every list of Build calls that demand 3 covers, seams, any first bytes and refused calls included.
+abbrev pub LongestWait : (ℕ → ℕ) → Type 0
+LongestWait gap =
+    (buffer : List ℕ) (calls : List Call) (ports k : ℕ) → Every (Shape ports (2 ^ k)) (chain none buffer calls)
+    → WaitsOn (gap k) ports k (chain none buffer calls)
+
+-- The least length that is long enough, by which a house goes,
+abbrev pub longest : ℕ → ℕ → ℕ → ℕ → ℕ
+longest gap k m w = (gap + 3 * 2 ^ k * (w - 1)) / (3 * m) + 1
+
+-- which is to say that it is long enough, and nothing that is long enough is less.
+pub record Least (gap k m w len : ℕ) : Type 0 where
+  pub enough : Enough gap k m w len
+  pub none-less : (other : ℕ) → Enough gap k m w other → len ≤ other
