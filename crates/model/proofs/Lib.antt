@@ -33,6 +33,7 @@ pub mod Integers
 pub mod Queues
 pub mod Rows
 pub mod Waits
+pub mod Heads
 pub mod Leads
 pub mod Inspected
 pub mod Answers

@@ -95,13 +95,15 @@ row-fits n d c h (suc zero) l = (omega arith, omega arith)
 row-fits n d c h (suc (suc x)) l = absurd (omega arith)
 
 -- the whole frame has the flow's count
-pub row-cells : (j d c : ℕ) → d + c ≤ 2 ^ j → cells flow 2 (runOf 2 0 (2 ^ j) (frameOf 2 j (row d c))) ≡ c
+pub row-whole : (j d c : ℕ) → d + c ≤ 2 ^ j → cells flow 2 (frameOf 2 j (row d c)) ≡ c
 unfolding load
-row-cells j d c h =
-    ap (cells flow 2) (run-all 2 (2 ^ j) (frameOf 2 j (row d c)) (frame-length 2 j (row d c)))
-    ∙ one-frame 2 j (row d c) refl (row-fits (2 ^ j) d c h) .legal .exact 0 1 (omega arith) (omega arith)
+row-whole j d c h = one-frame 2 j (row d c) refl (row-fits (2 ^ j) d c h) .legal .exact 0 1 (omega arith) (omega arith)
 
--- and so have the slots before one and those from it on, together
+-- and so have all its slots
+pub row-cells : (j d c : ℕ) → d + c ≤ 2 ^ j → cells flow 2 (runOf 2 0 (2 ^ j) (frameOf 2 j (row d c))) ≡ c
+row-cells j d c h = ap (cells flow 2) (run-all 2 (2 ^ j) (frameOf 2 j (row d c)) (frame-length 2 j (row d c))) ∙ row-whole j d c h
+
+-- those before one and those from it on, together, too
 pub row-parts : (j d c s t : ℕ) → d + c ≤ 2 ^ j → s + t ≡ 2 ^ j
     → cells flow 2 (runOf 2 0 s (frameOf 2 j (row d c))) + cells flow 2 (runOf 2 s t (frameOf 2 j (row d c))) ≡ c
 row-parts j d c s t h e =

@@ -12,7 +12,8 @@ use Rattle.model.specs.Frames.{cells, runOf}
 use Rattle.model.specs.Schedule.{walk, settleAt, favours, slotOf, frameOf}
 use Rattle.model.specs.Build.{buildChecks}
 use Rattle.model.specs.Wire.{Call, Carried, none, chain, wire, share, Shape, deviation}
-use Rattle.model.specs.Queue.{waiting, scheduledOn, arrived, Paced}
+use Rattle.model.specs.Queue.{waiting, queue, scheduledOn, arrived, Paced}
+use Rattle.model.specs.Wait.{byDemand3, bySharp, longest}
 use Rattle.model.specs.Row.{Hop, scheduledAt, Reserved, onward}
 use Rattle.model.proofs.Sums.{sum-append}
 
@@ -61,6 +62,16 @@ arriving-paced start len h =
 pub deepest : 2 ^ 1 * waiting arriving (scheduledOn (pair 0 1) 2 seam) 3 ≡ 2 + 2 * deviation 1
 unfolding waiting chain wire cells runOf buildChecks sumTo load walk settleAt favours slotOf frameOf deviation
 deepest = refl
+
+-- two cells arrive in the first slot, and one leaves in it
+abbrev pub twoAtOnce : ℕ → ℕ
+twoAtOnce t = 2 * (1 - t)
+
+-- the other is then at the head of its queue, and is so still after two slots more, which is one fewer than the longest wait
+pub latest : (queue twoAtOnce (scheduledOn (pair 0 1) 2 seam) 1 ≡ 1 ∷ []) × (queue twoAtOnce (scheduledOn (pair 0 1) 2 seam) 3 ≡ 1 ∷ [])
+    × (longest (byDemand3 1) 1 1 1 ≡ 3) × (longest (bySharp 1) 1 1 1 ≡ 3)
+unfolding queue chain wire cells runOf buildChecks sumTo load walk settleAt favours slotOf frameOf deviation
+latest = (refl, refl, refl, refl)
 
 -- A switch whose frames give the pair those two slots, and behind it, in step, one with the frames of the seam.
 abbrev pub ahead : Hop

@@ -1,5 +1,5 @@
 -- Waits: a run that is long enough has w cells, and a cell that was w-th in its queue has left after it.
-use Prim.Native.Nat.{ℕ, suc, zero, _+_, _*_, _/_, _-_, _^_, _≤_, _<_, min}
+use Prim.Native.Nat.{ℕ, suc, zero, _+_, _*_, _-_, _^_, _≤_, _<_, min}
 use mathlib.Core.Path.{_≡_, refl, ap, ap₂, sym, _∙_}
 use mathlib.Core.Logic.{_≢_}
 use mathlib.Core.List.{List, [], _∷_, _++_}
@@ -9,9 +9,9 @@ use lib.ListN.{length, getD, drop}
 use Rattle.model.specs.Words.{upFrom, sumTo, Every}
 use Rattle.model.specs.Loads.{Class, Of, load}
 use Rattle.model.specs.Frames.{cells, runOf}
-use Rattle.model.specs.Wire.{Carried, none, chain, wire, Shape, deviation}
-use Rattle.model.specs.Queue.{waiting, queue, scheduledOn, arrived}
-use Rattle.model.specs.Wait.{HasAtLeast, byDemand3, bySharp, Enough, Leaves, Suffices, WaitsOn, LongestWait, longest, Least}
+use Rattle.model.specs.Wire.{Carried, none, chain, wire, Shape}
+use Rattle.model.specs.Queue.{waiting, queue, arrived}
+use Rattle.model.specs.Wait.{HasAtLeast, byDemand3, bySharp, Leaves, Suffices, WaitsOn, LongestWait, longest, Least, LeastWait}
 use Rattle.model.specs.Row.{sent}
 use Rattle.model.proofs.Cases.{byLt}
 use Rattle.model.proofs.Sums.{sum-append}
@@ -119,10 +119,15 @@ module _ (c : Class) (ports k : ℕ) (of : Of ports c) where
   reserved m [] good has = tt
   reserved m (f ∷ fs) good has = (omega (arith, has .0, legal-exact (good .0 .legal) c of), reserved m fs (good .1) (has .1))
 
+  -- where every run has w cells, a cell that was w-th has left after it
+  pub suffices : (fs : List Carried) → Every (Good ports (2 ^ k)) fs → (w len : ℕ) → 1 ≤ w
+      → ((start : ℕ) → start + len ≤ length fs * 2 ^ k → w ≤ cells c ports (runOf ports start len (wire fs))) → Suffices c ports k fs w len
+  suffices fs good w len least runs =
+      record { runs = runs; leaves = λ arrive t fits many. leaves-after arrive _ t w many len least (omega (arith, runs t fits, served c ports k of fs good t len fits)) }
+
 -- Frames that are legal and balanced, whoever made them, keep the longest wait by the sharp bound, and so by any that is no less.
 pub sound-waits : (gap ports k : ℕ) → bySharp k ≤ gap → (fs : List Carried) → Every Sound fs → Every (Shape ports (2 ^ k)) fs → WaitsOn gap ports k fs
-sound-waits gap ports k wide fs sound shape c of m w one least has len enough =
-    record { runs = runs; leaves = λ arrive t fits many. leaves-after arrive _ t w many len least (omega (arith, runs t fits, served c ports k of fs good t len fits)) }
+sound-waits gap ports k wide fs sound shape c of m w one least has len enough = suffices c ports k of fs good w len least runs
   where
     good : Every (Good ports (2 ^ k)) fs
     good = good-of ports (2 ^ k) fs sound shape
@@ -142,3 +147,7 @@ sharp-wait buffer calls ports k shape = sound-waits (bySharp k) ports k (omega a
 
 pub longest-wait : LongestWait byDemand3
 longest-wait buffer calls ports k shape = sound-waits (byDemand3 k) ports k (deviation-most k) (chain none buffer calls) (chain-sound none buffer calls tt) shape
+
+-- So the least length that is long enough suffices, by the one and by the other.
+pub least-wait : (gap : ℕ → ℕ) → LongestWait gap → LeastWait gap
+least-wait gap waits buffer calls ports k shape c of m w one least has = waits buffer calls ports k shape c of m w one least has _ (longest-least (gap k) k m w one .enough)

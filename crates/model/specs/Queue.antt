@@ -9,7 +9,7 @@ use Rattle.model.specs.Words.{upFrom, sumTo, Every}
 use Rattle.model.specs.Loads.{Class, Of, load}
 use Rattle.model.specs.Frames.{cells, runOf}
 use Rattle.model.specs.Service.{repeated, lead}
-use Rattle.model.specs.Wire.{Call, Carried, none, chain, wire, share, Shape, deviation}
+use Rattle.model.specs.Wire.{Carried, wire, share, EveryChain, deviation}
 
 -- How many cells wait after the first t slots. The cells that arrive in a slot join before that slot's cell leaves, and a
 -- flow scheduled with none waiting sends nothing: what is taken away stops at 0.
@@ -52,15 +52,13 @@ HeldOn c ports k frames shareOf =
 -- of L slots being L × m / 2 ^ k.
 abbrev pub Buffers : Type 0
 Buffers =
-    (buffer : List ℕ) (calls : List Call) (ports k : ℕ) → Every (Shape ports (2 ^ k)) (chain none buffer calls)
-    → (c : Class) → Of ports c → (m : ℕ) → Every (λ f. load c ports (f .call .matrix) ≡ m) (chain none buffer calls)
-    → HeldOn c ports k (chain none buffer calls) (λ start len. len * m)
+    EveryChain
+    (λ ports k frames.
+    (c : Class) → Of ports c → (m : ℕ) → Every (λ f. load c ports (f .call .matrix) ≡ m) frames → HeldOn c ports k frames (λ start len. len * m))
 
 -- The same where the flow's load changes at a seam: its share is then demand 3's, each slot counted with its own frame's load.
 abbrev pub BuffersAtSeams : Type 0
-BuffersAtSeams =
-    (buffer : List ℕ) (calls : List Call) (ports k : ℕ) → Every (Shape ports (2 ^ k)) (chain none buffer calls)
-    → (c : Class) → Of ports c → HeldOn c ports k (chain none buffer calls) (share c 0 (chain none buffer calls))
+BuffersAtSeams = EveryChain (λ ports k frames. (c : Class) → Of ports c → HeldOn c ports k frames (share c 0 frames))
 
 -- What waits on one frame that repeats for ever, of any bytes, by the frame's own leads: after a slot at most a + b parts of
 -- 1 / slots of a cell, and just before its cell leaves at most the cells of a frame more.

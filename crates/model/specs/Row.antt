@@ -6,7 +6,7 @@ use lib.Dec.{ltb}
 use lib.ListN.{length}
 use Rattle.model.specs.Words.{if, Every}
 use Rattle.model.specs.Loads.{Class, Of, load}
-use Rattle.model.specs.Wire.{Call, Carried, none, chain, share, Shape, deviation}
+use Rattle.model.specs.Wire.{Call, Carried, none, chain, share, Shape, EveryChain, deviation}
 use Rattle.model.specs.Queue.{waiting, scheduledOn, Paced, Held}
 
 -- What a switch sends of a flow in slot t: as many of the cells that wait, and of those that arrive in the slot, as are scheduled.
@@ -16,10 +16,10 @@ sent arrive scheduled t = min (waiting arrive scheduled t + arrive t) (scheduled
 -- In no run of its chain does a switch send more than the run's share and 2 × deviation k, whatever came to it.
 abbrev pub Sends : Type 0
 Sends =
-    (buffer : List ℕ) (calls : List Call) (ports k : ℕ) → Every (Shape ports (2 ^ k)) (chain none buffer calls)
-    → (c : Class) → Of ports c → (arrive : ℕ → ℕ)
-    → let frames = chain none buffer calls in
-    Paced k (2 * deviation k) (length frames * 2 ^ k) (share c 0 frames) (sent arrive (scheduledOn c ports frames))
+    EveryChain
+    (λ ports k frames.
+    (c : Class) → Of ports c → (arrive : ℕ → ℕ)
+    → Paced k (2 * deviation k) (length frames * 2 ^ k) (share c 0 frames) (sent arrive (scheduledOn c ports frames)))
 
 -- A switch of the row: its frame buffer and its list of Build calls, its ports, the flow as it is counted there, and how many
 -- slots later what it sends is at the next switch.

@@ -6,7 +6,7 @@ use lib.ListN.{length, getD}
 use Rattle.model.specs.Words.{Every}
 use Rattle.model.specs.Loads.{Class, Of}
 use Rattle.model.specs.Frames.{cells, runOf}
-use Rattle.model.specs.Wire.{Call, Carried, none, chain, wire, Shape, deviation}
+use Rattle.model.specs.Wire.{Carried, wire, EveryChain, deviation}
 use Rattle.model.specs.Queue.{waiting, queue, scheduledOn}
 
 -- The class has at least m cells in every frame of the chain.
@@ -42,11 +42,9 @@ WaitsOn gap ports k frames =
     (c : Class) → Of ports c → (m w : ℕ) → 1 ≤ m → 1 ≤ w → HasAtLeast m c ports frames
     → (len : ℕ) → Enough gap k m w len → Suffices c ports k frames w len
 
--- The longest wait, over every list of Build calls that demand 3 covers, seams, any first bytes and refused calls included.
+-- The longest wait, on every chain that demand 3 covers.
 abbrev pub LongestWait : (ℕ → ℕ) → Type 0
-LongestWait gap =
-    (buffer : List ℕ) (calls : List Call) (ports k : ℕ) → Every (Shape ports (2 ^ k)) (chain none buffer calls)
-    → WaitsOn (gap k) ports k (chain none buffer calls)
+LongestWait gap = EveryChain (λ ports k. WaitsOn (gap k) ports k)
 
 -- The least length that is long enough, by which a house goes,
 abbrev pub longest : ℕ → ℕ → ℕ → ℕ → ℕ
@@ -56,3 +54,20 @@ longest gap k m w = (gap + 3 * 2 ^ k * (w - 1)) / (3 * m) + 1
 pub record Least (gap k m w len : ℕ) : Type 0 where
   pub enough : Enough gap k m w len
   pub none-less : (other : ℕ) → Enough gap k m w other → len ≤ other
+
+-- So it suffices.
+abbrev pub LeastWait : (ℕ → ℕ) → Type 0
+LeastWait gap =
+    EveryChain
+    (λ ports k frames.
+    (c : Class) → Of ports c → (m w : ℕ) → 1 ≤ m → 1 ≤ w → HasAtLeast m c ports frames → Suffices c ports k frames w (longest (gap k) k m w))
+
+-- At the head of the queue the wait is known exactly. Where the class has at least 2 ^ j cells in every frame, each block of
+-- 2 ^ (k − j) slots has one, and a run of one slot less than two such blocks has one of them whole.
+abbrev pub HeadOn : ℕ → ℕ → List Carried → Type 0
+HeadOn ports k frames =
+    (c : Class) → Of ports c → (j : ℕ) → j ≤ k → HasAtLeast (2 ^ j) c ports frames
+    → (len : ℕ) → 2 * 2 ^ (k - j) ≤ len + 1 → Suffices c ports k frames 1 len
+
+abbrev pub HeadWait : Type 0
+HeadWait = EveryChain HeadOn

@@ -73,12 +73,16 @@ Accurate ports k frames =
     (start len : ℕ) → start + len ≤ length frames * 2 ^ k → (c : Class) → Of ports c
     → Near ((2 * k + 1) * 2 ^ k) (3 * 2 ^ k * cells c ports (runOf ports start len (wire frames))) (3 * share c 0 frames start len)
 
--- Demand 3: for every first buffer and every list of Build calls, refused ones included, whose carried frames all have the
--- same ports and the same 2 ^ k slots.
-abbrev pub Demand3 : Type 0
-Demand3 =
+-- P holds of the chain, its ports and its k for every first buffer and every list of Build calls, refused ones included, whose
+-- carried frames all have the same ports and the same 2 ^ k slots.
+abbrev pub EveryChain : (ℕ → ℕ → List Carried → Type 0) → Type 0
+EveryChain P =
     (buffer : List ℕ) (calls : List Call) (ports k : ℕ)
-    → Every (Shape ports (2 ^ k)) (chain none buffer calls) → Accurate ports k (chain none buffer calls)
+    → Every (Shape ports (2 ^ k)) (chain none buffer calls) → P ports k (chain none buffer calls)
+
+-- Demand 3: each of those chains is accurate.
+abbrev pub Demand3 : Type 0
+Demand3 = EveryChain Accurate
 
 -- How far the cells of the first slots of a frame of 2 ^ k may be from their share, in parts of 1 / 2 ^ k of a cell: the middle of
 -- a block is within half a cell of the mean of its ends, one of which the halving before made, and the other an earlier one.
@@ -100,8 +104,6 @@ pub record SharpRun (c : Class) (ports k : ℕ) (frames : List Carried) (start l
 abbrev pub SharpOn : ℕ → ℕ → List Carried → Type 0
 SharpOn ports k frames = (start len : ℕ) → start + len ≤ length frames * 2 ^ k → (c : Class) → Of ports c → SharpRun c ports k frames start len
 
--- The sharp bound, for the lists of demand 3, which follows from it: 6 × deviation k is at most (2k + 1) × 2 ^ k.
+-- The sharp bound, for the chains of demand 3, which follows from it: 6 × deviation k is at most (2k + 1) × 2 ^ k.
 abbrev pub Sharp : Type 0
-Sharp =
-    (buffer : List ℕ) (calls : List Call) (ports k : ℕ)
-    → Every (Shape ports (2 ^ k)) (chain none buffer calls) → SharpOn ports k (chain none buffer calls)
+Sharp = EveryChain SharpOn

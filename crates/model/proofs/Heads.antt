@@ -1,0 +1,109 @@
+-- Heads: how long a cell at the head of its queue waits. Every block that is small enough has a cell, and every run that is long enough a block.
+use Prim.Native.Nat.{ℕ, suc, zero, _+_, _*_, _/_, _%_, _-_, _^_, _≤_, _<_}
+use mathlib.Core.Path.{_≡_, refl, ap, sym, _∙_}
+use mathlib.Core.List.{List, [], _∷_}
+use native.Mathlib.Nat.{two-pow-succ, mul-le-mul-right, mod-lt, div-add-mod'}
+use native.Mathlib.Omega.{arith}
+use lib.Pow.{pow-pos, pow-add}
+use lib.ListN.{length}
+use Rattle.model.specs.Words.{Every}
+use Rattle.model.specs.Loads.{Class, Of}
+use Rattle.model.specs.Frames.{cells, runOf, Balanced, Block}
+use Rattle.model.specs.Wire.{Carried, none, chain, wire, Shape}
+use Rattle.model.specs.Wait.{HasAtLeast, HeadOn, HeadWait}
+use Rattle.model.proofs.Cases.{byEq, byLt}
+use Rattle.model.proofs.Cells.{cells-run, run-first, run-second, run-all}
+use Rattle.model.proofs.Blocks.{block-fits, number-block}
+use Rattle.model.proofs.Demand3.{Sound, Good, good-of, wire-length, chain-sound}
+use Rattle.model.proofs.Waits.{suffices}
+
+-- ---- a balanced frame
+module _ (c : Class) (ports slots k : ℕ) (of : Of ports c) (bytes : List ℕ) (power : slots ≡ 2 ^ k) (size : length bytes ≡ slots * ports)
+    (balanced : Balanced ports slots bytes) where
+  -- both halves of a block that has 2 × x cells have x
+  half-least : (x start z : ℕ) → Block slots start (2 * z) → 2 * x ≤ cells c ports (runOf ports start (2 * z) bytes)
+      → (x ≤ cells c ports (runOf ports start z bytes)) × (x ≤ cells c ports (runOf ports (start + z) z bytes))
+  half-least x start z block most =
+      let two : 2 * z ≡ z + z = omega arith in
+      let long = mul-le-mul-right ports (block-fits slots start (2 * z) block) in
+      let sum = cells-run ports c start z z bytes (omega arith) in
+      let near = balanced c of start z block in
+      let all : 2 * x ≤ cells c ports (runOf ports start (z + z) bytes) = rw two at most in
+      (omega (arith, near .0, near .1), omega (arith, near .0, near .1))
+
+  -- so each block of depth t has x cells, where the frame has 2 ^ t × x
+  pub block-least : (t x b z : ℕ) → t ≤ k → b < 2 ^ t → z ≡ 2 ^ (k - t) → 2 ^ t * x ≤ cells c ports bytes → x ≤ cells c ports (runOf ports (b * z) z bytes)
+  block-least zero x b z h l d most =
+      let b0 : b * z ≡ 0 = (let a : b ≡ 0 = omega arith in rw a (omega arith)) in
+      let z0 : z ≡ slots = d ∙ ap (λ y. 2 ^ y) (omega arith) ∙ sym power in
+      rw (b0, z0, run-all ports slots bytes size) (omega arith)
+  block-least (suc t) x b z h l d most =
+      let up : 2 * z ≡ 2 ^ (k - t) = (let a : k - t ≡ suc (k - suc t) = omega arith in omega (arith, ap (λ y. 2 ^ y) a, two-pow-succ (k - suc t))) in
+      let p = two-pow-succ t in
+      let block = number-block slots k power t (b / 2) (2 * z) (omega arith) (omega arith) up in
+      let halves = half-least x (b / 2 * (2 * z)) z block (block-least t (2 * x) (b / 2) (2 * z) (omega arith) (omega arith) up (omega (arith, ap (λ y. y * x) p))) in
+      byEq (b % 2) 0
+      (λ e.
+      let a : b ≡ b / 2 * 2 = omega arith in
+      let at : b * z ≡ b / 2 * (2 * z) = omega (arith, ap (λ y. y * z) a) in
+      rw at (halves .0))
+      (λ e.
+      let a : b ≡ b / 2 * 2 + 1 = omega arith in
+      let at : b * z ≡ b / 2 * (2 * z) + z = omega (arith, ap (λ y. y * z) a) in
+      rw at (halves .1))
+
+-- ---- a chain of sound frames
+module _ (c : Class) (ports k j z : ℕ) (of : Of ports c) (low : j ≤ k) (is : z ≡ 2 ^ (k - j)) where
+  -- a frame is 2 ^ j blocks of z slots
+  frame-blocks : 2 ^ k ≡ 2 ^ j * z
+  frame-blocks = ap (λ y. 2 ^ y) (omega arith) ∙ pow-add 2 j (k - j) ∙ ap (λ y. 2 ^ j * y) (sym is)
+
+  -- each block of z slots has a cell
+  chain-block : (fs : List Carried) → Every (Good ports (2 ^ k)) fs → HasAtLeast (2 ^ j) c ports fs → (b : ℕ) → b < length fs * 2 ^ j
+      → 1 ≤ cells c ports (runOf ports (b * z) z (wire fs))
+  unfolding wire
+  chain-block [] good has b l = absurd (omega arith)
+  chain-block (f ∷ fs) good has b l =
+      let g = good .0 in
+      let size = g .legal .size in
+      byLt b (2 ^ j)
+      (λ h.
+      let fits : b * z + z ≤ 2 ^ k = omega (arith, frame-blocks, mul-le-mul-right z h) in
+      let one = block-least c ports (2 ^ k) k of (f .bytes) refl size (g .balanced) j 1 b z low h is (omega (arith, has .0)) in
+      rw (run-first ports (2 ^ k) (b * z) z (f .bytes) (wire fs) size fits) one)
+      (λ h.
+      let rest = b - 2 ^ j in
+      let parts : b ≡ 2 ^ j + rest = omega arith in
+      let at : b * z ≡ 2 ^ k + rest * z = omega (arith, frame-blocks, ap (λ y. y * z) parts) in
+      rw (at, run-second ports (2 ^ k) (rest * z) z (f .bytes) (wire fs) size) (chain-block fs (good .1) (has .1) rest (omega arith)))
+
+  -- and a run of two blocks less one slot has one of them
+  pub chain-head : (fs : List Carried) → Every (Good ports (2 ^ k)) fs → HasAtLeast (2 ^ j) c ports fs → (start len : ℕ) → 2 * z ≤ len + 1
+      → start + len ≤ length fs * 2 ^ k → 1 ≤ cells c ports (runOf ports start len (wire fs))
+  chain-head fs good has start len long fits =
+      let least : 1 ≤ z = rw is (pow-pos (k - j)) in
+      let b = (start + (z - 1)) / z in
+      let short = mod-lt (start + (z - 1)) least in
+      let whole = div-add-mod' (start + (z - 1)) z in
+      let before = b * z - start in
+      let after = start + len - (b * z + z) in
+      let first : start + before ≡ b * z = omega arith in
+      let all : before + (z + after) ≡ len = omega arith in
+      let long-enough : (start + len) * ports ≤ length (wire fs) = omega (arith, mul-le-mul-right ports fits, wire-length fs ports (2 ^ k) good) in
+      let begins : (start + before) * ports ≤ (start + len) * ports = mul-le-mul-right ports (omega arith) in
+      let ends : (b * z + z) * ports ≤ (start + len) * ports = mul-le-mul-right ports (omega arith) in
+      let one = cells-run ports c start before (z + after) (wire fs) (omega arith) in
+      let two = cells-run ports c (b * z) z after (wire fs) (omega arith) in
+      let in-chain : b < length fs * 2 ^ j = byLt b (length fs * 2 ^ j) (λ h. h)
+      (λ h. absurd (omega (arith, mul-le-mul-right z h, ap (λ y. length fs * y) frame-blocks))) in
+      omega (arith, rw (first, all) at one, two, chain-block fs good has b in-chain)
+
+-- Frames that are legal and balanced, whoever made them, have a cell in every run of that length,
+pub sound-head : (ports k : ℕ) (fs : List Carried) → Every Sound fs → Every (Shape ports (2 ^ k)) fs → HeadOn ports k fs
+sound-head ports k fs sound shape c of j low has len long =
+    let good = good-of ports (2 ^ k) fs sound shape in
+    suffices c ports k of fs good 1 len (omega arith) (λ start fits. chain-head c ports k j (2 ^ (k - j)) of low refl fs good has start len long fits)
+
+-- and so has every list of Build calls.
+pub head-wait : HeadWait
+head-wait buffer calls ports k shape = sound-head ports k (chain none buffer calls) (chain-sound none buffer calls tt) shape
