@@ -102,7 +102,7 @@ module _ (c : Class) (ports k j z : ℕ) (of : Of ports c) (low : j ≤ k) (is :
 pub sound-head : (ports k : ℕ) (fs : List Carried) → Every Sound fs → Every (Shape ports (2 ^ k)) fs → HeadOn ports k fs
 sound-head ports k fs sound shape c of j low has len long =
     let good = good-of ports (2 ^ k) fs sound shape in
-    suffices c ports k of fs good 1 len (omega arith) (λ start fits. chain-head c ports k j (2 ^ (k - j)) of low refl fs good has start len long fits)
+    suffices c ports k of fs good 1 len (omega arith) (λ start fits. chain-head c ports k j (2 ^ (k - j)) of low refl fs good has start len (omega (arith, long)) fits)
 
 -- and so has every list of Build calls.
 pub head-wait : HeadWait

@@ -76,6 +76,10 @@ module _ (arrive scheduled : ℕ → ℕ) where
   pub queue-waits : (t : ℕ) → length (queue arrive scheduled t) ≡ waiting arrive scheduled t
   queue-waits t = ap length (queue-is t) ∙ up-length (gone t) (waiting arrive scheduled t)
 
+  -- and one that was sent is none of them
+  nowhere : (t x : ℕ) → x < gone t → Every (λ cell. cell ≢ x) (queue arrive scheduled t)
+  nowhere t x h = rw (queue-is t) (up-above x (gone t) (waiting arrive scheduled t) h)
+
   module _ (t w : ℕ) (many : w ≤ waiting arrive scheduled t) where
     -- what waited has been sent or waits still
     waits-on : (len : ℕ) → w ≤ arrived (sent arrive scheduled) t len + waiting arrive scheduled (t + len)
@@ -95,8 +99,7 @@ module _ (arrive scheduled : ℕ → ℕ) where
     leaves-after len least enough =
         let is : getD (queue arrive scheduled t) (w - 1) 0 ≡ gone t + (w - 1)
         = ap (λ q. getD q (w - 1) 0) (queue-is t) ∙ up-at (gone t) (waiting arrive scheduled t) (w - 1) (omega arith) in
-        let more = sum-append t len (sent arrive scheduled) in
-        rw (is, queue-is (t + len)) (up-above (gone t + (w - 1)) (gone (t + len)) (waiting arrive scheduled (t + len)) (omega (arith, sent-least len)))
+        nowhere (t + len) _ (omega (arith, is, sent-least len, sum-append t len (sent arrive scheduled)))
 
 -- ---- lengths
 -- the least length that is long enough
