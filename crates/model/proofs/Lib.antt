@@ -34,6 +34,7 @@ pub mod Queues
 pub mod Rows
 pub mod Waits
 pub mod Heads
+pub mod Latest
 pub mod Leads
 pub mod Inspected
 pub mod Answers

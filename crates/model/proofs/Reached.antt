@@ -1,23 +1,19 @@
 -- The bound of accuracy is reached at every k: two frames of 2 ^ k slots with one load of a pair, and a run over their seam that is 2 × deviation k
 -- from its share. In the first frame the pair is alone and leans to the first half of every block that the run cuts; in the second it comes
 -- behind another that fills the row, and leans to the second half.
-use Prim.Native.Nat.{ℕ, suc, zero, _+_, _*_, _/_, _-_, _^_, _≤_, _<_}
+use Prim.Native.Nat.{ℕ, suc, zero, _+_, _*_, _-_, _^_, _≤_, _<_}
 use mathlib.Core.Path.{_≡_, refl, ap, ap₂, _∙_}
 use mathlib.Core.List.{List, [], _∷_, _++_}
-use native.Mathlib.Nat.{mul-le-mul-left, mul-le-mul-right, div-eq-of-lt-le}
 use native.Mathlib.Omega.{arith}
-use lib.Pow.{pow-pos, pow-add}
 use lib.ListN.{length, replicate, length-replicate}
 use Rattle.model.specs.Words.{sumTo, Near, Every}
 use Rattle.model.specs.Loads.{Class, Of, load}
 use Rattle.model.specs.Frames.{cells, runOf}
 use Rattle.model.specs.Schedule.{slotOf, frameOf}
 use Rattle.model.specs.Wire.{Call, Carried, none, chain, wire, inside, share, Shape, deviation}
-use Rattle.model.specs.Wait.{HasAtLeast, byDemand3, bySharp, longest}
 use Rattle.model.proofs.Cells.{run-first, run-second}
 use Rattle.model.proofs.OneFrame.{double, frame-length}
-use Rattle.model.proofs.Queues.{share-is}
-use Rattle.model.proofs.OneInput.{row, flow, alone-halves, full-halves, row-whole, row-cells, row-parts, seam-cells, once, framed, rows-framed}
+use Rattle.model.proofs.OneInput.{row, flow, alone-halves, full-halves, row-cells, row-parts, seam-cells, once, framed, rows-framed}
 
 -- ---- the numbers
 -- the load of the pair at k: 0, 1, 1, 5, 5, 21, 21, 85, ..
@@ -31,7 +27,7 @@ edge zero = 0
 edge (suc j) = 2 ^ j - edge j
 
 -- the pair does not fill the frame
-count-less : (j : ℕ) → count j < 2 ^ j
+pub count-less : (j : ℕ) → count j < 2 ^ j
 unfolding count
 count-less zero = omega arith
 count-less (suc j) = omega (arith, count-less j)
@@ -54,44 +50,13 @@ pub deviations : (deviation 1 ≡ 1) × (deviation 2 ≡ 3) × (deviation 3 ≡ 
 unfolding deviation
 deviations = (refl, refl, refl, refl, refl, refl, refl, refl, refl, refl)
 
--- the load is about a third of the frame or two thirds
-count-third : (j : ℕ) → (2 ^ j ≤ 3 * count j + 1) × (3 * count j + 1 ≤ 2 * 2 ^ j)
-unfolding count
-count-third zero = (omega arith, omega arith)
-count-third (suc j) = let r = count-third j in (omega (arith, r .1, double j, count-less j), omega (arith, r .0, double j, count-less j))
-
--- demand 3's bound is less than one such load above the sharp bound
-near-demand : (j : ℕ) → byDemand3 (suc j) ≤ bySharp (suc j) + 2 ^ j
-unfolding deviation
-near-demand zero = omega arith
-near-demand (suc zero) = omega arith
-near-demand (suc (suc j)) =
-    let n = 2 ^ j in
-    let one : 2 ^ suc j ≡ 2 * n = double j in
-    let two : 2 ^ suc (suc j) ≡ 4 * n = omega (arith, double (suc j)) in
-    let three : 2 ^ suc (suc (suc j)) ≡ 8 * n = omega (arith, double (suc (suc j))) in
-    omega (
-      arith,
-      near-demand (suc j),
-      near-demand j,
-      ap (λ z. (2 * suc j + 1) * z) one,
-      ap (λ z. (2 * suc (suc j) + 1) * z) two,
-      ap (λ z. (2 * suc (suc (suc j)) + 1) * z) three,
-    )
-
-near-count : (k : ℕ) → 1 ≤ k → byDemand3 k < bySharp k + 3 * count k
-near-count zero h = absurd (omega arith)
-near-count (suc j) h =
-    let least : 1 ≤ count (suc j) = omega (arith, count-third (suc j) .0, double j, pow-pos j) in
-    omega (arith, near-demand j, count-third (suc j) .0, double j)
-
 -- ---- counts that lean to one end of every block
 -- a j c t is the cells of a count c in the t slots at one end of a block of 2 ^ j slots; of an odd count the half at that end gets one more.
-record Leans (a : ℕ → ℕ → ℕ → ℕ) : Type 0 where
-  idle : a 0 0 0 ≡ 0
-  busy : a 0 1 1 ≡ 1
-  near : (j x t : ℕ) → x < 2 ^ j → t ≤ 2 ^ j → a (suc j) (2 * x + 1) t ≡ a j (x + 1) t
-  far : (j x t : ℕ) → x < 2 ^ j → t ≤ 2 ^ j → a (suc j) (2 * x + 1) (2 ^ j + t) ≡ x + 1 + a j x t
+pub record Leans (a : ℕ → ℕ → ℕ → ℕ) : Type 0 where
+  pub idle : a 0 0 0 ≡ 0
+  pub busy : a 0 1 1 ≡ 1
+  pub near : (j x t : ℕ) → x < 2 ^ j → t ≤ 2 ^ j → a (suc j) (2 * x + 1) t ≡ a j (x + 1) t
+  pub far : (j x t : ℕ) → x < 2 ^ j → t ≤ 2 ^ j → a (suc j) (2 * x + 1) (2 ^ j + t) ≡ x + 1 + a j x t
 
 -- the deviation is reached by count at edge, where the edge is in the near half, and by what they leave of 2 ^ j, where it is in the far one
 module _ (a : ℕ → ℕ → ℕ → ℕ) (l : Leans a) where
@@ -122,46 +87,6 @@ module _ (a : ℕ → ℕ → ℕ → ℕ) (l : Leans a) where
         let r = peak j x t refl refl in
         omega (arith, ap (λ y. y * a (suc j) c e) (double j), ap (λ y. 2 ^ j * y) half, ap (λ y. y * e) c-is, ap (λ y. (2 * x + 1) * y) e-is, deviation-more j)
 
--- a count of 2 ^ (d + 1) - 1 has 1 in the last of the blocks of 2 ^ i slots, and that in its first slot: it is all in the slots but for the
--- 2 ^ i - 1 farthest
-abbrev most : ℕ → ℕ
-most d = 2 ^ suc d - 1
-
-abbrev filled : ℕ → ℕ → ℕ
-filled i d = 2 ^ (d + i) - (2 ^ i - 1)
-
--- it does not fill the frame
-most-less : (i d : ℕ) → 1 ≤ i → most d < 2 ^ (d + i)
-most-less i d h =
-    let power : 2 ^ (d + i) ≡ 2 ^ suc d * 2 ^ (i - 1) = ap (λ z. 2 ^ z) (omega arith) ∙ pow-add 2 (suc d) (i - 1) in
-    let least = mul-le-mul-left (2 ^ suc d) (pow-pos (i - 1)) in
-    omega (arith, pow-pos (suc d))
-
--- nor is a block longer than the frame
-block-most : (i d : ℕ) → 2 ^ i ≤ 2 ^ (d + i)
-block-most i d = omega (arith, pow-add 2 d i, mul-le-mul-right (2 ^ i) (pow-pos d))
-
-module _ (a : ℕ → ℕ → ℕ → ℕ) (l : Leans a) where
-  first-slot : (j : ℕ) → a j 1 1 ≡ 1
-  first-slot zero = l .busy
-  first-slot (suc j) = l .near j 0 1 (pow-pos j) (pow-pos j) ∙ first-slot j
-
-  all-in : (i d : ℕ) → 1 ≤ i → a (d + i) (most d) (filled i d) ≡ most d
-  all-in i zero h =
-      let z : 0 + i ≡ i = omega arith in
-      let p : 2 ^ i - (2 ^ i - 1) ≡ 1 = omega (arith, pow-pos i) in
-      rw (z, p) (first-slot i)
-  all-in i (suc d) h =
-      let x = most d in
-      let t = filled i d in
-      let p = pow-pos (suc d) in
-      let q = block-most i d in
-      let low = most-less i d h in
-      let next : suc d + i ≡ suc (d + i) = omega arith in
-      let twice : most (suc d) ≡ 2 * x + 1 = omega (arith, double (suc d)) in
-      let later : filled i (suc d) ≡ 2 ^ (d + i) + t = omega (arith, ap (λ z. 2 ^ z) next, double (d + i)) in
-      ap₂ (a (suc d + i)) twice later ∙ ap (λ z. a z (2 * x + 1) (2 ^ (d + i) + t)) next ∙ l .far (d + i) x t low (omega arith) ∙ omega (arith, all-in i d h)
-
 -- ---- the two frames
 -- the pair alone, and behind another that fills the row
 abbrev pub alone : ℕ → List ℕ
@@ -171,14 +96,14 @@ abbrev pub behind : ℕ → ℕ → List ℕ
 behind j c = row (2 ^ j - c) c
 
 -- its cells in the first t slots of the one and in the last t slots of the other
-abbrev first-of : ℕ → ℕ → ℕ → ℕ
+abbrev pub first-of : ℕ → ℕ → ℕ → ℕ
 first-of j c t = cells flow 2 (runOf 2 0 t (frameOf 2 j (alone c)))
 
-abbrev last-of : ℕ → ℕ → ℕ → ℕ
+abbrev pub last-of : ℕ → ℕ → ℕ → ℕ
 last-of j c t = cells flow 2 (runOf 2 (2 ^ j - t) t (frameOf 2 j (behind j c)))
 
 -- the pair alone leans to the first slots
-first-leans : Leans first-of
+pub first-leans : Leans first-of
 unfolding cells runOf sumTo slotOf frameOf
 first-leans = record { idle = refl; busy = refl; near = near; far = far }
   where
@@ -202,7 +127,7 @@ behind-halves j x h =
     ap (λ d. frameOf 2 (suc j) (row d (2 * x + 1))) e ∙ full-halves j y x ∙ ap (λ d. frameOf 2 j (row d x) ++ frameOf 2 j (row y (x + 1))) f
 
 -- so it leans to the last slots
-last-leans : Leans last-of
+pub last-leans : Leans last-of
 unfolding cells runOf sumTo slotOf frameOf
 last-leans = record { idle = refl; busy = refl; near = near; far = far }
   where
@@ -233,7 +158,7 @@ module _ (k m s t r : ℕ) (a b : List ℕ) (la : load flow 2 a ≡ m) (lb : loa
       rw (la, lb) (omega (arith, ap (λ z. m * z) x, ap (λ z. m * z) y))
 
   -- the cells are those of the two sides
-  over-cells : cells flow 2 (runOf 2 s (t + r) (wire (framed k a b)))
+  pub over-cells : cells flow 2 (runOf 2 s (t + r) (wire (framed k a b)))
       ≡ cells flow 2 (runOf 2 s t (frameOf 2 k a)) + cells flow 2 (runOf 2 0 r (frameOf 2 k b))
   unfolding wire
   over-cells =
@@ -257,7 +182,7 @@ Long k start len frames =
     Steady k start len frames × (2 ^ k * cells flow 2 (runOf 2 start len (wire frames)) ≡ share flow 0 frames start len + 2 * deviation k)
 
 -- the two frames have one shape
-framed-shape : (k : ℕ) (a b : List ℕ) → Every (Shape 2 (2 ^ k)) (framed k a b)
+pub framed-shape : (k : ℕ) (a b : List ℕ) → Every (Shape 2 (2 ^ k)) (framed k a b)
 framed-shape k a b = (record { ports-are = refl; slots-are = refl }, (record { ports-are = refl; slots-are = refl }, tt))
 
 -- the run that is left of the first frame after its edge, and of the second before its edge
@@ -299,65 +224,6 @@ frames-long k =
       omega (arith, ap (λ z. n * z) r),
     )
 
--- ---- waits
--- A run of len slots that has fewer than w cells of the flow, in frames that each have at least m of them.
-pub record Fewer (k m w start len : ℕ) (frames : List Carried) : Type 0 where
-  pub shape : Every (Shape 2 (2 ^ k)) frames
-  pub has : HasAtLeast m flow 2 frames
-  pub fits : start + len ≤ length frames * 2 ^ k
-  pub few : cells flow 2 (runOf 2 start len (wire frames)) < w
-
--- both frames have m cells of it
-framed-has : (k m : ℕ) → m ≤ 2 ^ k → HasAtLeast m flow 2 (framed k (alone m) (behind k m))
-framed-has k m h = (omega (arith, row-whole k 0 m (omega arith)), (omega (arith, row-whole k (2 ^ k - m) m (omega arith)), tt))
-
--- the run that is short by all of the bound is one slot shorter than the longest wait for one cell more than it has
-frames-wait : (k gap : ℕ) → 1 ≤ k → bySharp k ≤ gap → gap ≤ byDemand3 k
-    → (w : ℕ) × (1 ≤ w) × Fewer k (count k) w (edge k) (longest gap k (count k) w - 1) (framed k (alone (count k)) (behind k (count k)))
-frames-wait k gap h low high =
-    let m = count k in
-    let rest = 2 ^ k - edge k in
-    let len = rest + rest in
-    let frames = framed k (alone m) (behind k m) in
-    let short = frames-short k in
-    let n = cells flow 2 (runOf 2 (edge k) len (wire frames)) in
-    let share-of = share-is flow 2 k m frames (short .0 .shape) (short .0 .same) (edge k) len (short .0 .fits) in
-    let near = near-count k h in
-    let before : 3 * 2 ^ k * (suc n - 1) ≡ 3 * 2 ^ k * n = ap (λ z. 3 * 2 ^ k * z) (omega arith) in
-    let same : (gap + 3 * 2 ^ k * (suc n - 1)) / (3 * m) ≡ len = div-eq-of-lt-le (3 * m) (omega (arith, short .1)) (omega (arith, short .1)) in
-    let is : longest gap k m (suc n) - 1 ≡ len = omega arith in
-    let small = count-less k in (
-      suc n,
-      omega arith,
-      record { shape = short .0 .shape; has = framed-has k m (omega arith); fits = rw is (short .0 .fits); few = rw is (omega arith) },
-    )
-
--- between the blocks of 2 ^ i slots in which the flow has 1 at the outer end nothing is sent
-frames-head : (i d : ℕ) → 1 ≤ i → let k = d + i in let m = most d in
-    Fewer k m 1 (filled i d) (2 * 2 ^ i - 2) (framed k (alone m) (behind k m))
-unfolding load
-frames-head i d h =
-    let k = d + i in
-    let m = most d in
-    let f = filled i d in
-    let u = 2 ^ i - 1 in
-    let low = most-less i d h in
-    let q = block-most i d in
-    let p = pow-pos i in
-    let len : 2 * 2 ^ i - 2 ≡ u + u = omega arith in
-    let a = all-in first-of first-leans i d h in
-    let b = all-in last-of last-leans i d h in
-    let x = row-parts k 0 m f u (omega arith) (omega arith) in
-    let y = row-parts k (2 ^ k - m) m u f (omega arith) (omega arith) in
-    let back : 2 ^ k - f ≡ u = omega arith in
-    let r = over-cells k m f u u (alone m) (behind k m) refl refl (omega arith) (omega arith) in
-    rw len (record {
-      shape = framed-shape k (alone m) (behind k m);
-      has = framed-has k m (omega arith);
-      fits = omega arith;
-      few = omega (arith, r, rw back at b);
-    })
-
 -- ---- Build
 -- The bound is reached: two calls of Build, both accepted and carried once, and a run over their seam that is short by all of it.
 pub reached : (k : ℕ) → k ≤ 10 → (buffer : List ℕ) → length buffer ≡ 2 ^ k * 2
@@ -372,22 +238,6 @@ pub reached-above : (k : ℕ) → k ≤ 10 → (buffer : List ℕ) → length bu
 reached-above k h buffer e =
     let small = count-less k in
     rw (rows-framed k (2 ^ k - count k) (count k) 0 (count k) buffer h (omega arith) (omega arith) e) (frames-long k)
-
--- The longest wait is reached, by demand 3 and by the sharp bound: two calls of Build, both accepted and carried once, each with m cells of the
--- flow, and a run over their seam that is one slot shorter and has fewer than w.
-pub wait-reached : (k : ℕ) → 1 ≤ k → k ≤ 10 → (buffer : List ℕ) → length buffer ≡ 2 ^ k * 2 → (gap : ℕ) → bySharp k ≤ gap → gap ≤ byDemand3 k
-    → let m = count k in
-    (w : ℕ) × (1 ≤ w) × Fewer k m w (edge k) (longest gap k m w - 1) (chain none buffer (once k (alone m) ∷ once k (behind k m) ∷ []))
-wait-reached k least h buffer e gap low high =
-    let small = count-less k in
-    rw (rows-framed k 0 (count k) (2 ^ k - count k) (count k) buffer h (omega arith) (omega arith) e) (frames-wait k gap least low high)
-
--- So is the wait at the head of the queue, for whatever has fewer than twice 2 ^ d cells, which is 1 cell less than that.
-pub head-reached : (i d : ℕ) → 1 ≤ i → d + i ≤ 10 → (buffer : List ℕ) → length buffer ≡ 2 ^ (d + i) * 2
-    → let k = d + i in let m = most d in Fewer k m 1 (filled i d) (2 * 2 ^ i - 2) (chain none buffer (once k (alone m) ∷ once k (behind k m) ∷ []))
-head-reached i d least h buffer e =
-    let low = most-less i d least in
-    rw (rows-framed (d + i) 0 (most d) (2 ^ (d + i) - most d) (most d) buffer h (omega arith) (omega arith) e) (frames-head i d least)
 
 -- So whatever bound holds of every list of Build calls is at least 2 × deviation k.
 pub none-sharper : (k bound : ℕ) → k ≤ 10
