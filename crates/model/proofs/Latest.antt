@@ -159,7 +159,7 @@ wait-reached k least h buffer e gap low high =
     rw (rows-framed k 0 (count k) (2 ^ k - count k) (count k) buffer h (omega arith) (omega arith) e) (frames-wait k gap least low high)
 
 -- So is the wait at the head of the queue: two such calls, each with as many cells of the flow as there are below 2 ^ (d + 1), and a run of two
--- blocks of 2 ^ i slots, less two slots, that has none. One slot more always has one: `head-wait`.
+-- blocks of 2 ^ i slots, less two slots, that has none. One slot more always has one: `block-wait`.
 pub head-reached : (i d : ℕ) → 1 ≤ i → d + i ≤ 10 → (buffer : List ℕ) → length buffer ≡ 2 ^ (d + i) * 2
     → let k = d + i in let m = most d in Fewer k m 1 (filled i d) (2 * 2 ^ i - 2) (chain none buffer (once k (alone m) ∷ once k (behind k m) ∷ []))
 head-reached i d least h buffer e =

@@ -33,7 +33,7 @@ pub mod Integers
 pub mod Queues
 pub mod Rows
 pub mod Waits
-pub mod Heads
+pub mod WholeBlocks
 pub mod Latest
 pub mod Leads
 pub mod Inspected

@@ -62,12 +62,12 @@ LeastWait gap =
     (λ ports k frames.
     (c : Class) → Of ports c → (m w : ℕ) → 1 ≤ m → 1 ≤ w → HasAtLeast m c ports frames → Suffices c ports k frames w (longest (gap k) k m w))
 
--- At the head of the queue the wait is known exactly. Where the class has at least 2 ^ j cells in every frame, each block of
--- 2 ^ (k − j) slots has one, and a run of one slot less than two such blocks has one of them whole.
-abbrev pub HeadOn : ℕ → ℕ → List Carried → Type 0
-HeadOn ports k frames =
-    (c : Class) → Of ports c → (j : ℕ) → j ≤ k → HasAtLeast (2 ^ j) c ports frames
-    → (len : ℕ) → 2 * 2 ^ (k - j) ≤ len + 1 → Suffices c ports k frames 1 len
+-- By blocks: where the class has at least 2 ^ j cells in every frame, each block of 2 ^ (k − j) slots has one, and a run of one slot
+-- less than w + 1 such blocks has w of them whole. At the head of the queue, where w is 1, that is exact.
+abbrev pub BlocksOn : ℕ → ℕ → List Carried → Type 0
+BlocksOn ports k frames =
+    (c : Class) → Of ports c → (j w : ℕ) → j ≤ k → 1 ≤ w → HasAtLeast (2 ^ j) c ports frames
+    → (len : ℕ) → (w + 1) * 2 ^ (k - j) ≤ len + 1 → Suffices c ports k frames w len
 
-abbrev pub HeadWait : Type 0
-HeadWait = EveryChain HeadOn
+abbrev pub BlockWait : Type 0
+BlockWait = EveryChain BlocksOn

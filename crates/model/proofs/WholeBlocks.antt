@@ -1,4 +1,4 @@
--- Heads: how long a cell at the head of its queue waits. Every block that is small enough has a cell, and every run that is long enough a block.
+-- WholeBlocks: waits by blocks. Every block that is long enough has a cell, and a run has so many whole blocks.
 use Prim.Native.Nat.{ℕ, suc, zero, _+_, _*_, _/_, _%_, _-_, _^_, _≤_, _<_}
 use mathlib.Core.Path.{_≡_, refl, ap, sym, _∙_}
 use mathlib.Core.List.{List, [], _∷_}
@@ -10,7 +10,7 @@ use Rattle.model.specs.Words.{Every}
 use Rattle.model.specs.Loads.{Class, Of}
 use Rattle.model.specs.Frames.{cells, runOf, Balanced, Block}
 use Rattle.model.specs.Wire.{Carried, none, chain, wire, Shape}
-use Rattle.model.specs.Wait.{HasAtLeast, HeadOn, HeadWait}
+use Rattle.model.specs.Wait.{HasAtLeast, BlocksOn, BlockWait}
 use Rattle.model.proofs.Cases.{byEq, byLt}
 use Rattle.model.proofs.Cells.{cells-run, run-first, run-second, run-all}
 use Rattle.model.proofs.Blocks.{block-fits, number-block}
@@ -77,33 +77,44 @@ module _ (c : Class) (ports k j z : ℕ) (of : Of ports c) (low : j ≤ k) (is :
       let at : b * z ≡ 2 ^ k + rest * z = omega (arith, frame-blocks, ap (λ y. y * z) parts) in
       rw (at, run-second ports (2 ^ k) (rest * z) z (f .bytes) (wire fs) size) (chain-block fs (good .1) (has .1) rest (omega arith)))
 
-  -- and a run of two blocks less one slot has one of them
-  pub chain-head : (fs : List Carried) → Every (Good ports (2 ^ k)) fs → HasAtLeast (2 ^ j) c ports fs → (start len : ℕ) → 2 * z ≤ len + 1
-      → start + len ≤ length fs * 2 ^ k → 1 ≤ cells c ports (runOf ports start len (wire fs))
-  chain-head fs good has start len long fits =
-      let least : 1 ≤ z = rw is (pow-pos (k - j)) in
-      let b = (start + (z - 1)) / z in
-      let short = mod-lt (start + (z - 1)) least in
-      let whole = div-add-mod' (start + (z - 1)) z in
-      let before = b * z - start in
-      let after = start + len - (b * z + z) in
-      let first : start + before ≡ b * z = omega arith in
-      let all : before + (z + after) ≡ len = omega arith in
-      let long-enough : (start + len) * ports ≤ length (wire fs) = omega (arith, mul-le-mul-right ports fits, wire-length fs ports (2 ^ k) good) in
-      let begins : (start + before) * ports ≤ (start + len) * ports = mul-le-mul-right ports (omega arith) in
-      let ends : (b * z + z) * ports ≤ (start + len) * ports = mul-le-mul-right ports (omega arith) in
-      let one = cells-run ports c start before (z + after) (wire fs) (omega arith) in
-      let two = cells-run ports c (b * z) z after (wire fs) (omega arith) in
-      let in-chain : b < length fs * 2 ^ j = byLt b (length fs * 2 ^ j) (λ h. h)
-      (λ h. absurd (omega (arith, mul-le-mul-right z h, ap (λ y. length fs * y) frame-blocks))) in
-      omega (arith, rw (first, all) at one, two, chain-block fs good has b in-chain)
+  module _ (fs : List Carried) (good : Every (Good ports (2 ^ k)) fs) (has : HasAtLeast (2 ^ j) c ports fs) where
+    -- so w blocks in a row have w
+    blocks-least : (w b : ℕ) → b + w ≤ length fs * 2 ^ j → w ≤ cells c ports (runOf ports (b * z) (w * z) (wire fs))
+    blocks-least zero b fits = omega arith
+    blocks-least (suc w) b fits =
+        let next : b * z + w * z ≡ (b + w) * z = omega arith in
+        let more : suc w * z ≡ w * z + z = omega arith in
+        let bytes = wire-length fs ports (2 ^ k) good in
+        let low : (b + w) * z * ports ≤ length fs * 2 ^ k * ports = mul-le-mul-right ports (omega (arith, mul-le-mul-right z fits, ap (λ y. length fs * y) frame-blocks)) in
+        let sum = cells-run ports c (b * z) (w * z) z (wire fs) (omega arith) in
+        rw more (omega (arith, rw next at sum, blocks-least w b (omega arith), chain-block fs good has (b + w) (omega arith)))
 
--- Frames that are legal and balanced, whoever made them, have a cell in every run of that length,
-pub sound-head : (ports k : ℕ) (fs : List Carried) → Every Sound fs → Every (Shape ports (2 ^ k)) fs → HeadOn ports k fs
-sound-head ports k fs sound shape c of j low has len long =
+    -- and a run of w + 1 blocks less one slot has w of them
+    pub run-least : (w start len : ℕ) → (w + 1) * z ≤ len + 1 → start + len ≤ length fs * 2 ^ k → w ≤ cells c ports (runOf ports start len (wire fs))
+    run-least w start len long fits =
+        let least : 1 ≤ z = rw is (pow-pos (k - j)) in
+        let b = (start + (z - 1)) / z in
+        let short = mod-lt (start + (z - 1)) least in
+        let whole = div-add-mod' (start + (z - 1)) z in
+        let before = b * z - start in
+        let after = start + len - (b * z + w * z) in
+        let first : start + before ≡ b * z = omega arith in
+        let all : before + (w * z + after) ≡ len = omega arith in
+        let bytes : (start + len) * ports ≤ length (wire fs) = omega (arith, mul-le-mul-right ports fits, wire-length fs ports (2 ^ k) good) in
+        let begins : (start + before) * ports ≤ (start + len) * ports = mul-le-mul-right ports (omega arith) in
+        let ends : (b * z + w * z) * ports ≤ (start + len) * ports = mul-le-mul-right ports (omega arith) in
+        let one = cells-run ports c start before (w * z + after) (wire fs) (omega arith) in
+        let two = cells-run ports c (b * z) (w * z) after (wire fs) (omega arith) in
+        let in-chain : b + w ≤ length fs * 2 ^ j = byLt (length fs * 2 ^ j) (b + w)
+        (λ h. absurd (omega (arith, mul-le-mul-right z h, ap (λ y. length fs * y) frame-blocks))) (λ h. h) in
+        omega (arith, rw (first, all) at one, two, blocks-least w b in-chain)
+
+-- Frames that are legal and balanced, whoever made them, have w cells in every run of that length,
+pub sound-blocks : (ports k : ℕ) (fs : List Carried) → Every Sound fs → Every (Shape ports (2 ^ k)) fs → BlocksOn ports k fs
+sound-blocks ports k fs sound shape c of j w low least has len long =
     let good = good-of ports (2 ^ k) fs sound shape in
-    suffices c ports k of fs good 1 len (omega arith) (λ start fits. chain-head c ports k j (2 ^ (k - j)) of low refl fs good has start len (omega (arith, long)) fits)
+    suffices c ports k of fs good w len least (λ start fits. run-least c ports k j (2 ^ (k - j)) of low refl fs good has w start len (omega (arith, long)) fits)
 
 -- and so has every list of Build calls.
-pub head-wait : HeadWait
-head-wait buffer calls ports k shape = sound-head ports k (chain none buffer calls) (chain-sound none buffer calls tt) shape
+pub block-wait : BlockWait
+block-wait buffer calls ports k shape = sound-blocks ports k (chain none buffer calls) (chain-sound none buffer calls tt) shape
