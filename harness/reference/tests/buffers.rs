@@ -1,6 +1,9 @@
 //! The tables and examples of docs/BUFFERS.md, held to their formula; the seam at which its bound is reached, and a frame
 //! that breaks it.
 
+mod page;
+
+use page::grouped;
 use reference::queue::{pass, Depth, Source};
 use reference::wire::{demanded, deviation, Course, Frame};
 use reference::{build, Class};
@@ -25,14 +28,6 @@ fn first_more(k: u32, ahead: u64) -> u64 {
     let more = |m: &u64| sharp_cells(k, ahead, *m) > sharp_cells(k, ahead, 0);
     let first = (0..=1 << k).find(more);
     first.expect("a whole cell more at the latest where every slot is reserved")
-}
-
-/// A number with a comma before its last three digits.
-fn grouped(number: u64) -> String {
-    match number {
-        0..1_000 => number.to_string(),
-        _ => format!("{},{:03}", number / 1_000, number % 1_000),
-    }
 }
 
 /// Three numbers, for a = 0, 1 and 2.
