@@ -9,6 +9,7 @@ mod query;
 pub mod queue;
 mod refusal;
 mod sheet;
+pub mod wait;
 pub mod wire;
 pub mod work;
 
