@@ -39,5 +39,5 @@ pub use load::{
     full_load, junk_number, load, load_of_shape, load_of_total, random_shape, Call, LoadKind, Shape,
 };
 pub use random::Random;
-pub use seam::{Seam, SEAMS};
+pub use seam::{load_alone, load_beside, Seam, SEAMS};
 pub use sheet::{sheet, SheetKind};

@@ -1,5 +1,8 @@
 //! The flows that stray furthest from their share.
 
+use crate::load::Shape;
+use crate::random::Random;
+
 /// Two frames of two ports and 2^k slots: pair (1, 2) alone with m cells, then the same m cells of it beside pair (1, 1),
 /// which has all other slots of input 1. In the run from slot t of the one to slot 2^k - t of the other the flow gets
 /// 2 × deviation less than its share, in parts of 1/2^k of a cell, and no flow of any chain gets less than that.
@@ -54,13 +57,40 @@ impl Seam {
         seams.find(|seam| seam.slots == slots as u64)
     }
 
+    /// The same for a switch, which has to have room for a partner.
+    pub fn of_shape(shape: Shape) -> Option<Seam> {
+        Seam::of_slots(shape.slots).filter(|_| shape.ports > 1)
+    }
+
     /// The load of the first frame.
     pub fn alone(self) -> [u16; 4] {
-        [0, self.cells, 0, 0]
+        load_alone(self.cells)
     }
 
     /// The load of the second.
     pub fn beside(self) -> [u16; 4] {
-        [self.slots as u16 - self.cells, self.cells, 0, 0]
+        load_beside(self.slots, self.cells)
     }
+
+    /// Other cells for the flow, one or more, that leave a slot or more to its partner. At such a seam the first cell of a queue
+    /// waits as long as any does; it comes nearest to what the sharp bound allows where the cells are a power of two less 1, and to
+    /// all of it with half of the slots less 1, for k from 2 to 4.
+    pub fn other_cells(self, random: &mut Random) -> u16 {
+        let cells = match random.below(4) {
+            0 | 1 => (self.slots / 2).max(2) - 1,
+            2 => (1 << random.between(1, self.k.into())) - 1,
+            _ => random.between(1, self.slots - 1),
+        };
+        cells as u16
+    }
+}
+
+/// The load of two ports with pair (1, 2) alone.
+pub fn load_alone(cells: u16) -> [u16; 4] {
+    [0, cells, 0, 0]
+}
+
+/// The same beside pair (1, 1), which has all other slots of input 1.
+pub fn load_beside(slots: u64, cells: u16) -> [u16; 4] {
+    [slots as u16 - cells, cells, 0, 0]
 }

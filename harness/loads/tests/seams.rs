@@ -72,3 +72,26 @@ fn a_partner_has_the_other_slots_and_comes_first() {
         assert_eq!(load.matrix[partner], 11);
     }
 }
+
+#[test]
+fn other_cells_leave_a_slot_to_the_partner() {
+    let mut random = Random::new(23);
+    for seam in SEAMS {
+        let drawn = [(); 500].map(|()| u64::from(seam.other_cells(&mut random)));
+        let fits = |&cells: &u64| 0 < cells && cells < seam.slots;
+        assert!(drawn.iter().all(fits), "{seam:?}");
+        let half = (seam.slots / 2).max(2) - 1;
+        let powers = (1..=seam.k).map(|power| (1 << power) - 1);
+        for cells in powers.chain([half]) {
+            assert!(drawn.contains(&cells), "{cells} cells, {seam:?}");
+        }
+    }
+}
+
+#[test]
+fn a_seam_needs_a_slot_and_a_port_for_the_partner() {
+    let of_shape = |ports, slots| Seam::of_shape(Shape { ports, slots });
+    assert_eq!(of_shape(1, 16), None);
+    assert_eq!(of_shape(2, 1), None);
+    assert_eq!(of_shape(2, 16), Some(SEAMS[3]));
+}
