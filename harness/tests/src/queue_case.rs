@@ -47,3 +47,20 @@ fn random_allowance(course: &Course, behind: Run, random: &mut Random) -> u64 {
         _ => filling_up(most_behind + load),
     }
 }
+
+/// Cells that come in the slots of a chain as they like, from some slot of its first two frames on: now and then or often, each
+/// time up to one of these numbers.
+pub fn random_bursts(chain: u64, frame: u64, numbers: &[u64], random: &mut Random) -> Vec<u64> {
+    let later = random.below(2 * frame);
+    let from = random.pick(&[0, later, later]);
+    let gap = random.pick(&[1, 3, 10, frame]);
+    let most = random.pick(numbers);
+    let burst = |slot: u64| {
+        if slot >= from && random.one_in(gap) {
+            random.between(0, most)
+        } else {
+            0
+        }
+    };
+    (0..chain).map(burst).collect()
+}

@@ -7,6 +7,7 @@ use reference::wire::{Course, Frame, Whose};
 
 use crate::build_case::{build_and_compare, lend_bytes, wire_frame};
 use crate::hits::Hits;
+use crate::queue_case::random_bursts;
 use crate::share_case::class_of;
 use crate::verdict::{expect, Verdict};
 
@@ -46,7 +47,7 @@ pub fn check_row(candidate: &dyn Calls, random: &mut Random, hits: &mut Hits) ->
     if matches!(row.passing, Passing::Total { .. }) {
         hits.add("row of all cells together");
     }
-    let passed = pass_row(&switches, &random_bursts(&row, random));
+    let passed = pass_row(&switches, &row.arrivals(random));
     let k = row.slots.trailing_zeros();
     for (place, passed) in (1..).zip(passed).skip(1) {
         let depth = passed.depth(ahead_behind_a_switch(k));
@@ -79,6 +80,13 @@ impl Row {
             cells: cells as usize,
             frames: random.between(2, 8) as usize,
         }
+    }
+
+    /// What comes to the first switch: as it likes, and now and then more than it can send.
+    fn arrivals(&self, random: &mut Random) -> Vec<u64> {
+        let chain = (self.frames * self.slots) as u64;
+        let numbers = [1, 3, self.cells as u64, chain];
+        random_bursts(chain, self.slots as u64, &numbers, random)
     }
 
     /// A switch with its own ports and chain; what comes to it is a few slots late, or up to a frame.
@@ -162,21 +170,4 @@ impl Counted {
             Counted::Total => load_of_total(shape, cells, random),
         }
     }
-}
-
-/// Cells that come to the first switch as they like, from some slot on: now and then, often, or more than it can send.
-fn random_bursts(row: &Row, random: &mut Random) -> Vec<u64> {
-    let slots = (row.frames * row.slots) as u64;
-    let later = random.below(2 * row.slots as u64);
-    let from = random.pick(&[0, later, later]);
-    let gap = random.pick(&[1, 3, 10, row.slots as u64]);
-    let most = random.pick(&[1, 3, row.cells as u64, slots]);
-    let burst = |slot: u64| {
-        if slot >= from && random.one_in(gap) {
-            random.between(0, most)
-        } else {
-            0
-        }
-    };
-    (0..slots).map(burst).collect()
 }
