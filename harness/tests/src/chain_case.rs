@@ -7,8 +7,11 @@ use reference::wire::{Course, Frame, Whose};
 use crate::build_case::{build_and_compare, lend_bytes, wire_frame};
 use crate::hits::Hits;
 use crate::queue_case::check_queue;
-use crate::share_case::{check_every_share, check_share, class_of, expect_chain, random_class};
+use crate::share_case::{
+    check_share, class_of, every_class, expect_chain, expect_share, random_class,
+};
 use crate::verdict::Verdict;
+use crate::wait_case::{check_first_waits, check_waits};
 
 /// The pairs, inputs and outputs whose queues and other runs are looked at on a chain, besides those of the total.
 const CLASSES: usize = 8;
@@ -30,12 +33,39 @@ pub fn check_chain(
     hits: &mut Hits,
 ) -> Verdict {
     let shape = chain_shape(kind, random);
-    let flow = straying_flow(shape, random);
+    let flow = flow_on_chain(shape, random);
+    let chain = carry(candidate, kind, shape, flow, random, hits)?;
+    expect_chain(&chain)?;
+    check_every_class(&chain, shape.ports as u64, hits)?;
+    for whose in counted_on_chain(shape, flow, random) {
+        let course = Course::of(&chain, whose);
+        check_share(&course, whose, random, hits)?;
+        check_queue(&course, whose, random, hits)?;
+        check_waits(&course, whose, 1, random, hits)?;
+    }
+    let Some(flow) = flow else { return Ok(()) };
+    let class = class_of(flow);
+    let course = Course::of(&chain, class);
+    check_waits(&course, class.into(), flow.cells.into(), random, hits)
+}
+
+/// The frames that the wire carries during a list of calls.
+fn carry(
+    candidate: &dyn Calls,
+    kind: ChainKind,
+    shape: Shape,
+    flow: Option<Flow>,
+    random: &mut Random,
+    hits: &mut Hits,
+) -> Result<Vec<Frame>, String> {
     let mut buffer = lend_bytes(&random.bytes(shape.frame_length()), random);
     let mut chain: Vec<Frame> = Vec::new();
     let mut accepted: Option<Call> = None;
-    for _ in 0..random.between(1, 12) {
-        let call = next_call(kind, shape, flow, random);
+    for later in (0..random.between(1, 12)).rev() {
+        let call = match flow {
+            Some(flow) if later < 2 => last_load(flow, later, shape, random),
+            _ => next_call(kind, shape, flow, random),
+        };
         let refused = build_and_compare(candidate, &call, &mut buffer, random, hits)?.is_err();
         hits.add(event_of(refused, accepted.is_some()));
         if !refused {
@@ -46,25 +76,42 @@ pub fn check_chain(
         let frame = wire_frame(last, buffer.part());
         chain.extend(std::iter::repeat_n(frame, times));
     }
-    expect_chain(&chain)?;
-    check_every_share(&chain, shape.ports as u64)?;
-    for whose in counted_on_chain(shape, flow, random) {
-        let course = Course::of(&chain, whose);
-        check_share(&course, whose, random, hits)?;
-        check_queue(&course, whose, random, hits)?;
-    }
-    Ok(())
+    Ok(chain)
 }
 
-/// In some cases, a flow that has the cells of a seam.
-pub fn straying_flow(shape: Shape, random: &mut Random) -> Option<Flow> {
-    let seam = Seam::of_slots(shape.slots).filter(|_| shape.ports > 1 && random.one_in(3));
-    seam.map(|seam| Flow::random(shape, seam.cells, random))
+/// Holds every pair, input and output of a chain to the bounds on the run that strays furthest, and the first in its queue to
+/// the longest wait.
+fn check_every_class(chain: &[Frame], ports: u64, hits: &mut Hits) -> Verdict {
+    every_class(ports).try_for_each(|class| {
+        let course = Course::of(chain, class);
+        expect_share(&course, class.into(), course.furthest_run())?;
+        check_first_waits(&course, class.into(), hits)
+    })
+}
+
+/// In one chain of three a flow that has the cells of a seam, and in another one with other cells.
+fn flow_on_chain(shape: Shape, random: &mut Random) -> Option<Flow> {
+    let seam = Seam::of_shape(shape)?;
+    let cells = match random.below(3) {
+        0 => seam.cells,
+        1 => seam.other_cells(random),
+        _ => return None,
+    };
+    Some(Flow::random(shape, cells, random))
 }
 
 /// A load of the seam: the flow alone at its ports, or beside a partner.
 pub fn straying_load(flow: Flow, shape: Shape, random: &mut Random) -> Call {
     let company = random.pick(&[Company::Nobody, Company::Partner]);
+    flow.load(company, shape, random)
+}
+
+/// The last two loads of a chain with such a flow, by how many calls come after: the two of the seam, one after the other.
+fn last_load(flow: Flow, later: u64, shape: Shape, random: &mut Random) -> Call {
+    let company = match later {
+        0 => Company::Partner,
+        _ => Company::Nobody,
+    };
     flow.load(company, shape, random)
 }
 

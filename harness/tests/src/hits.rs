@@ -1,5 +1,6 @@
 //! Counts of what the random cases came upon.
 
+use std::cmp::Ordering;
 use std::collections::BTreeMap;
 
 use crate::kind::Kind;
@@ -29,18 +30,51 @@ pub const TOTAL_REACHED: &str = "half the sharp bound reached by the total";
 /// A block of 2^k slots had halves that differed by more than one cell in all, and the frame had no other fault before it.
 pub const TOTAL_UNBALANCED: &str = "block of 2^k slots unbalanced in its total alone";
 
+/// The longest run of a chain with fewer than so many cells was held to both bounds.
+pub const WAIT_COMPARED: &str = "longest wait compared";
+/// A queue was run cell by cell, and each held to the sharp bound.
+pub const QUEUE_BY_CELLS: &str = "queue run cell by cell";
+/// A wait was as long as the sharp bound allows.
+pub const WAIT_REACHED: &str = "longest wait as long as the sharp bound allows";
+/// The same of the first in the queue.
+pub const FIRST_WAIT_REACHED: &str = "longest wait of the first as long as the sharp bound allows";
+
 /// What is counted for each k from 1 to 10; with k = 0 nothing strays.
-pub const FOR_EACH_K: [&str; 6] = [
+pub const FOR_EACH_K: [&str; 10] = [
     TOTAL_UNBALANCED,
     RUN_REACHED,
     TOTAL_REACHED,
     LEAD_REACHED,
     QUEUE_REACHED_AFTER,
     QUEUE_REACHED_BEFORE,
+    WAIT_COMPARED,
+    QUEUE_BY_CELLS,
+    WAIT_REACHED,
+    FIRST_WAIT_REACHED,
 ];
 
-/// How many times each named thing happened, how deep queues stood, how far leads were from 0, and how many odd counts were
-/// settled.
+/// The longest wait, in slots, of a cell that is w-th in its queue, where every frame has m cells or more, beside the longest
+/// that the sharp bound allows.
+#[derive(Clone, Copy, Debug)]
+pub struct Waited {
+    pub slots: u64,
+    pub allowed: u128,
+    pub m: u64,
+    pub w: u64,
+}
+
+impl Waited {
+    /// Greater is nearer to what is allowed; of those that are as near, that of fewer cells, then of the lower place.
+    fn nearness(&self, other: &Waited) -> Ordering {
+        let part = |one: &Waited, of: &Waited| u128::from(one.slots) * of.allowed;
+        let nearer = part(self, other).cmp(&part(other, self));
+        let fewer = other.m.cmp(&self.m);
+        nearer.then(fewer).then(other.w.cmp(&self.w))
+    }
+}
+
+/// How many times each named thing happened, how deep queues stood, how far leads were from 0, how long cells waited, and how many
+/// odd counts were settled.
 #[derive(Clone, Debug, Default)]
 pub struct Hits {
     counts: BTreeMap<String, u64>,
@@ -49,6 +83,8 @@ pub struct Hits {
     depths: BTreeMap<(u32, usize), i128>,
     /// By k, the furthest from 0 of the leads of built frames.
     leads: BTreeMap<u32, i128>,
+    /// By k, for the first in the queue and for others, the wait that came nearest to what is allowed.
+    waits: BTreeMap<(u32, bool), Waited>,
     /// By k, the most odd counts that a build of 16 ports settled.
     settled: BTreeMap<u32, u64>,
 }
@@ -75,6 +111,14 @@ impl Hits {
         *furthest = parts.max(*furthest);
     }
 
+    /// A cell waited so long on frames of 2^k slots.
+    pub fn wait(&mut self, k: u32, waited: Waited) {
+        let nearest = self.waits.entry((k, waited.w == 1)).or_insert(waited);
+        if waited.nearness(nearest).is_gt() {
+            *nearest = waited;
+        }
+    }
+
     /// A build of 16 ports and 2^k slots settled so many odd counts.
     pub fn settle(&mut self, k: u32, settled: u64) {
         let most = self.settled.entry(k).or_insert(settled);
@@ -94,6 +138,9 @@ impl Hits {
         for (k, parts) in other.leads {
             self.stray(k, parts);
         }
+        for ((k, _), waited) in other.waits {
+            self.wait(k, waited);
+        }
         for (k, settled) in other.settled {
             self.settle(k, settled);
         }
@@ -111,6 +158,11 @@ impl Hits {
     /// The lead that was furthest from 0, where a built frame was counted.
     pub fn furthest_lead(&self, k: u32) -> Option<i128> {
         self.leads.get(&k).copied()
+    }
+
+    /// The wait of the first in the queue, or of another, that came nearest to what is allowed, where one was noted.
+    pub fn nearest_wait(&self, k: u32, first: bool) -> Option<Waited> {
+        self.waits.get(&(k, first)).copied()
     }
 
     /// The most odd counts that were settled, where a load of 16 ports was built.
@@ -151,6 +203,10 @@ impl Hits {
         names.extend((1..=10).map(|k| name_at(RUN_REACHED, k)));
         names.extend((1..=10).map(|k| name_at(TOTAL_REACHED, k)));
         names.extend((1..=10).map(|k| name_at(LEAD_REACHED, k)));
+        names.extend((0..=10).map(|k| name_at(WAIT_COMPARED, k)));
+        names.extend((0..=10).map(|k| name_at(QUEUE_BY_CELLS, k)));
+        names.extend((1..=10).map(|k| name_at(WAIT_REACHED, k)));
+        names.extend((1..=4).map(|k| name_at(FIRST_WAIT_REACHED, k)));
         names.push(name_at(QUEUE_REACHED_AFTER, 1));
         names.push(name_at(QUEUE_REACHED_BEFORE, 1));
         names.extend((2..=5).map(|switches| format!("row of {switches} switches")));

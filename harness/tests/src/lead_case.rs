@@ -1,13 +1,13 @@
 //! Cases of the lead: in a frame that the candidate built, the runs that stray furthest from their share.
 
 use calls::{Calls, Class, Count, Service};
-use loads::{load_of_shape, random_shape, Call, Flow, LoadKind, Random, Shape};
+use loads::{load_of_shape, random_shape, Call, Flow, LoadKind, Random, Seam, Shape};
 use reference::queue::{pass, Source};
 use reference::wire::{deviation, Course, Run, Whose};
 use reference::LONGEST_RUN;
 
 use crate::build_case::{lend_bytes, wire_frame};
-use crate::chain_case::{straying_flow, straying_load};
+use crate::chain_case::straying_load;
 use crate::hits::{Hits, LEAD_REACHED};
 use crate::lent::Lent;
 use crate::share_case::class_of;
@@ -47,6 +47,12 @@ pub fn check_leads(candidate: &dyn Calls, random: &mut Random, hits: &mut Hits) 
     }
     built.check_total(&Course::of(&turns, Whose::Total), random, hits)?;
     frame.expect_same("frame after counts", &before)
+}
+
+/// In one case of three, a flow that has the cells of a seam.
+fn straying_flow(shape: Shape, random: &mut Random) -> Option<Flow> {
+    let seam = Seam::of_shape(shape).filter(|_| random.one_in(3));
+    seam.map(|seam| Flow::random(shape, seam.cells, random))
 }
 
 /// Every pair, input and output in random order, the flow of the seam first; fewer where the frame is long.

@@ -21,6 +21,7 @@ mod share_case;
 mod sheet_case;
 mod summary;
 mod verdict;
+mod wait_case;
 
 pub use hits::Hits;
 pub use hostile_call::HostileKind;
@@ -28,3 +29,4 @@ pub use hostile_case::{run_hostile, Face};
 pub use kind::Kind;
 pub use query_case::any_bytes;
 pub use runner::{run, Report, Settings};
+pub use wait_case::{check_each_cell, check_waits};

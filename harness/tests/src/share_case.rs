@@ -35,16 +35,8 @@ pub fn check_share(course: &Course, whose: Whose, random: &mut Random, hits: &mu
     Ok(())
 }
 
-/// Holds the furthest run of every pair, input and output of a chain to the bounds.
-pub fn check_every_share(chain: &[Frame], ports: u64) -> Verdict {
-    every_class(ports).try_for_each(|class| {
-        let course = Course::of(chain, class);
-        expect_share(&course, class.into(), course.furthest_run())
-    })
-}
-
 /// Fails where the run is too far from its share.
-fn expect_share(course: &Course, whose: Whose, run: Run) -> Verdict {
+pub fn expect_share(course: &Course, whose: Whose, run: Run) -> Verdict {
     expect(course.has_its_share(run), || {
         let cells = course.cells(run);
         format!("{whose:?} has {cells} cells, too far from its share, in {run:?}")
@@ -52,7 +44,7 @@ fn expect_share(course: &Course, whose: Whose, run: Run) -> Verdict {
 }
 
 /// Every pair, input and output of a switch with so many ports.
-fn every_class(ports: u64) -> impl Iterator<Item = Class> {
+pub fn every_class(ports: u64) -> impl Iterator<Item = Class> {
     let pairs = (1..=ports)
         .flat_map(move |input| (1..=ports).map(move |output| Class::Pair { input, output }));
     let inputs = (1..=ports).map(|port| Class::Input { port });

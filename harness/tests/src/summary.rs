@@ -1,15 +1,16 @@
 //! What is said of the bounds at the end of a run.
 
+use reference::wait::Allowed;
 use reference::wire::{demanded, deviation};
 use reference::work::bound;
 
-use crate::hits::{Hits, FOR_EACH_K};
+use crate::hits::{Hits, Waited, FOR_EACH_K};
 
 /// The places of a row that have a column: one switch by itself, then the second to the fifth of a row.
 const PLACES: [usize; 5] = [1, 2, 3, 4, 5];
 
-/// A line for each thing that is counted for each k, then the tables of the furthest leads, the deepest queues and the most odd
-/// counts settled.
+/// A line for each thing that is counted for each k, then the tables of the furthest leads, the deepest queues, the longest waits
+/// and the most odd counts settled.
 pub fn summary(hits: &Hits) -> Vec<String> {
     let mut lines: Vec<String> = FOR_EACH_K
         .iter()
@@ -17,6 +18,7 @@ pub fn summary(hits: &Hits) -> Vec<String> {
         .collect();
     lines.extend(leads(hits));
     lines.extend(depths(hits));
+    lines.extend(waits(hits));
     lines.extend(settled(hits));
     lines
 }
@@ -82,6 +84,49 @@ fn depths(hits: &Hits) -> Vec<String> {
         "k", "2p(k)", "seen", "4p(k)", "2nd", "3rd", "4th", "5th"
     );
     table(title, head, rows)
+}
+
+/// The waits that came nearest to what is allowed, in slots; nothing where no chain was counted.
+fn waits(hits: &Hits) -> Vec<String> {
+    let rows = (0..=10).filter_map(|k| {
+        let nearest = [true, false].map(|first| hits.nearest_wait(k, first));
+        let any = nearest.iter().any(Option::is_some);
+        let slots = 1 << k;
+        let [first, other] = nearest.map(|waited| wait_columns(k, waited));
+        any.then(|| format!("{k:>3} {slots:>6} |{first} |{other}"))
+    });
+    let title = "longest waits in slots, nearest to the sharp bound: of the first in the queue; of the w-th";
+    let columns = wait_row(["wait", "allowed", "(2k+1)/3", "ratio", "m", "w"].map(String::from));
+    let head = format!("{:>3} {:>6} |{columns} |{columns}", "k", "slots");
+    table(title, head, rows)
+}
+
+/// A wait beside both bounds.
+fn wait_columns(k: u32, waited: Option<Waited>) -> String {
+    let Some(Waited {
+        slots,
+        allowed,
+        m,
+        w,
+    }) = waited
+    else {
+        return wait_row([(); 6].map(|()| "-".into()));
+    };
+    let demanded = Allowed::demanded(k, m).longest(w);
+    let ratio = slots as f64 / allowed as f64;
+    wait_row([
+        slots.to_string(),
+        allowed.to_string(),
+        demanded.to_string(),
+        format!("{ratio:.4}"),
+        m.to_string(),
+        w.to_string(),
+    ])
+}
+
+fn wait_row(columns: [String; 6]) -> String {
+    let columns = columns.iter().map(|column| format!(" {column:>8}"));
+    columns.collect()
 }
 
 /// The most odd counts that builds of 16 ports settled, beside their bound; nothing where there was no such build.
