@@ -8,7 +8,7 @@ use calls::{
 use reference::work::odd_counts;
 
 type AdmitCall = fn(u64, u64, &[u16]) -> Answer;
-type BuildCall = fn(u64, u64, &[u16], &mut [u8]) -> Built;
+pub type BuildCall = fn(u64, u64, &[u16], &mut [u8]) -> Built;
 type InspectCall = fn(u64, u64, &[u16], &[u8]) -> Inspection;
 type ViewCall = for<'f> fn(u64, u64, &'f [u8], u64, &mut u64) -> &'f [u8];
 type CountCall = fn(u64, u64, &[u8], Class, u64, u64) -> Service;

@@ -1,10 +1,12 @@
 //! Builders that would be sent back are sent back.
 
 use calls::{Calls, Class, Inspection, Reference};
+use loads::{load_beside, Random};
 use reference::queue::{ahead_behind_a_switch, pass_row, Depth, Switch};
+use reference::wait::{stretches, Allowed};
 use reference::wire::{Course, Frame, Whose};
-use tests::broken::{self, Broken};
-use tests::{run, Settings};
+use tests::broken::{self, Broken, BuildCall};
+use tests::{check_each_cell, check_waits, run, Hits, Settings};
 
 /// The number of cases of the named kinds that a builder fails.
 fn failures(builder: &(impl Calls + calls::SheetProgram + Sync), kind: &str) -> usize {
@@ -23,6 +25,16 @@ fn frame_of(builder: &Broken, ports: u64, slots: u64, matrix: &[u16]) -> Vec<u8>
     let answer = builder.build(ports, slots, matrix, &mut frame);
     assert!(answer.is_ok(), "{answer:?}");
     frame
+}
+
+/// The same as the wire carries it.
+fn carried(builder: &Broken, ports: u64, slots: u64, matrix: &[u16]) -> Frame {
+    Frame {
+        ports,
+        slots,
+        bytes: frame_of(builder, ports, slots, matrix),
+        matrix: matrix.to_vec(),
+    }
 }
 
 /// What the inspector finds in a broken builder's frame.
@@ -89,12 +101,7 @@ fn first_count_of_each_group_to_the_first_half() {
     let fault = Inspection::UnbalancedBlock { slot: 1, size: 4 };
     assert_eq!(inspected(&builder, 4, 4, &OWN_NUMBERS), fault);
 
-    let frame = Frame {
-        ports: 4,
-        slots: 4,
-        bytes: frame_of(&builder, 4, 4, &OWN_NUMBERS),
-        matrix: OWN_NUMBERS.to_vec(),
-    };
+    let frame = carried(&builder, 4, 4, &OWN_NUMBERS);
     assert_eq!(frame.bytes[..4], [1, 2, 3, 4], "all cells are in slot 1");
     let course = Course::of(&[frame], Whose::Total);
     assert!(!course.has_its_share(course.furthest_run()));
@@ -199,13 +206,7 @@ fn legal_but_bunched() {
 
 /// What one input is given that sends in half of the slots, its frame carried so many times.
 fn half_load(builder: &Broken, slots: u64, times: usize) -> Course {
-    let matrix = vec![slots as u16 / 2];
-    let frame = Frame {
-        ports: 1,
-        slots,
-        bytes: frame_of(builder, 1, slots, &matrix),
-        matrix,
-    };
+    let frame = carried(builder, 1, slots, &[slots as u16 / 2]);
     Course::of(&vec![frame; times], Class::Input { port: 1 })
 }
 
@@ -230,6 +231,101 @@ fn a_bunched_switch_in_a_row() {
     assert!(depth.after > 0 && depth.before > 0, "{depth:?}");
     let depth = second_of_two([&even, &even]);
     assert!(depth.after <= 0 && depth.before <= 0, "{depth:?}");
+}
+
+/// What the wait check by itself says of a chain.
+fn waits(chain: &[Frame], whose: impl Into<Whose>) -> Result<(), String> {
+    let whose = whose.into();
+    let (mut random, mut hits) = (Random::new(1), Hits::default());
+    check_waits(&Course::of(chain, whose), whose, 1, &mut random, &mut hits)
+}
+
+const FIRST_PAIR: Class = Class::Pair {
+    input: 1,
+    output: 1,
+};
+
+/// Pair (1, 1) alone in 16 slots, then beside pair (1, 2), which has all other slots. Bunched, its cells are at the beginning of
+/// the one frame and at the end of the other.
+fn first_pair(build: BuildCall, cells: u16) -> [Frame; 2] {
+    let builder = Broken {
+        build,
+        ..Broken::default()
+    };
+    let loads = [[cells, 0, 0, 0], load_beside(16, 16 - cells)];
+    loads.map(|load| carried(&builder, 2, 16, &load))
+}
+
+#[test]
+fn a_bunched_flow_waits_too_long() {
+    for cells in 2..15 {
+        let even = first_pair(reference::build, cells);
+        assert_eq!(waits(&even, FIRST_PAIR), Ok(()));
+        let bunched = first_pair(broken::bunched, cells);
+        let complaint = waits(&bunched, FIRST_PAIR).unwrap_err();
+        let idle = 2 * (16 - u64::from(cells));
+        let said = format!(
+            "{cells} cells or more in each frame has fewer than 1 in Run {{ start: {cells}, length: {idle} }}"
+        );
+        assert!(complaint.contains(&said), "{complaint}");
+        let allowed = Allowed::sharp(4, cells.into()).longest(1);
+        assert!(u128::from(idle) + 1 > allowed, "{complaint}");
+    }
+}
+
+/// Of a hundred queues of a chain, run cell by cell, the number of those in which a cell waits too long.
+fn queues_too_slow(chain: &[Frame]) -> usize {
+    let course = Course::of(chain, FIRST_PAIR);
+    let stretch = &stretches(&course, 1)[0];
+    let mut hits = Hits::default();
+    let verdicts = (0..100).map(|seed| {
+        let random = &mut Random::new(seed);
+        check_each_cell(stretch, FIRST_PAIR.into(), random, &mut hits)
+    });
+    verdicts.filter(Result::is_err).count()
+}
+
+#[test]
+fn cells_of_a_bunched_flow_wait_too_long() {
+    assert_eq!(queues_too_slow(&first_pair(reference::build, 8)), 0);
+    assert!(queues_too_slow(&first_pair(broken::bunched, 8)) > 10);
+}
+
+/// Builders whose pairs, inputs and outputs are as they should be: all cells together wait too long.
+#[test]
+fn a_total_waits_too_long() {
+    let chain = |build| {
+        let builder = Broken {
+            build,
+            ..Broken::default()
+        };
+        vec![carried(&builder, 4, 4, &OWN_NUMBERS); 2]
+    };
+    assert_eq!(waits(&chain(reference::build), Whose::Total), Ok(()));
+    for build in [
+        broken::first_count_to_first_half,
+        broken::larger_share_to_first_half,
+    ] {
+        let chain = chain(build);
+        for port in 1..=4 {
+            assert_eq!(waits(&chain, Class::Input { port }), Ok(()));
+        }
+        let complaint = waits(&chain, Whose::Total).unwrap_err();
+        let said = "4 cells or more in each frame has fewer than 1 in Run { start: 1, length: 3 }";
+        assert!(complaint.contains(said), "{complaint}");
+        assert_eq!(Allowed::sharp(2, 4).longest(1), 2);
+    }
+}
+
+/// Frames with no cells of a class have nothing to wait for.
+#[test]
+fn an_idle_frame_is_asked_for_nothing() {
+    let builder = Broken {
+        build: broken::idle_frame,
+        ..Broken::default()
+    };
+    let chain = [carried(&builder, 4, 4, &OWN_NUMBERS)];
+    assert_eq!(waits(&chain, Whose::Total), Ok(()));
 }
 
 #[test]
