@@ -1,0 +1,143 @@
+//! The longest waits are reached on frames that the proved Build made.
+
+use std::slice;
+
+use calls::{Calls, Class, Library};
+use loads::{load_alone, load_beside, SEAMS};
+use reference::wait::{at_head, stretches, Allowed};
+use reference::wire::{Course, Frame, Run};
+
+const FLOW: Class = Class::Pair {
+    input: 1,
+    output: 2,
+};
+
+const PARTNER: Class = Class::Pair {
+    input: 1,
+    output: 1,
+};
+
+fn built(k: u32, matrix: [u16; 4]) -> Frame {
+    let slots = 1 << k;
+    let mut bytes = vec![0xa5; 2 << k];
+    let answer = Library.build(2, slots, &matrix, &mut bytes);
+    assert!(answer.is_ok(), "{answer:?}");
+    Frame {
+        ports: 2,
+        slots,
+        matrix: matrix.to_vec(),
+        bytes,
+    }
+}
+
+/// What the two frames of a seam give the flow, where it has so many cells in each.
+fn seam(k: u32, cells: u64) -> Course {
+    let cells = cells as u16;
+    let loads = [load_alone(cells), load_beside(1 << k, cells)];
+    Course::of(&loads.map(|load| built(k, load)), FLOW)
+}
+
+/// The fewest cells of a frame, and the longest wait of the w-th in the queue; none where some frame has no cells.
+fn longest(course: &Course, w: u64) -> Option<(u64, u128)> {
+    let stretches = stretches(course, 1);
+    let [stretch] = &stretches[..] else {
+        return None;
+    };
+    let whole = stretch.given.len() == course.given.len();
+    whole.then(|| (stretch.fewest, stretch.wait(w).into()))
+}
+
+/// In the run in which the flow falls furthest behind it has cells for all places before the w-th.
+#[test]
+fn the_longest_wait_of_both_bounds() {
+    println!("  k  slots     m     w      wait     sharp  (2k+1)/3");
+    for of in SEAMS {
+        let (k, m) = (of.k, u64::from(of.cells));
+        let course = seam(k, m);
+        let run = Run {
+            start: of.turn,
+            length: 2 * (of.slots as usize - of.turn),
+        };
+        let w = course.cells(run) as u64 + 1;
+        let [sharp, demanded] =
+            [Allowed::sharp(k, m), Allowed::demanded(k, m)].map(|allowed| allowed.longest(w));
+        let found = longest(&course, w).expect("the flow has cells in both frames");
+        let (slots, wait) = (of.slots, found.1);
+        println!("{k:>3} {slots:>6} {m:>5} {w:>5} {wait:>9} {sharp:>9} {demanded:>9}");
+        assert_eq!(found, (m, run.length as u128 + 1), "{of:?}");
+        assert_eq!((wait, wait), (sharp, demanded), "{of:?}");
+        assert_eq!(stretches(&course, 1)[0].hardest_place(), w, "{of:?}");
+    }
+}
+
+/// With any m the two frames of a seam have the longest wait that there is of the first in a queue; how near it comes to what
+/// the sharp bound allows, and for which m it comes to all of that.
+#[test]
+fn the_longest_wait_of_the_first_in_the_queue() {
+    println!("  k  slots  nearest m     wait  allowed   ratio  as long as allowed for m");
+    for k in 0..=10 {
+        let slots = 1_u64 << k;
+        let wait = |m: u64| at_head(k, m);
+        let allowed = |m: u64| Allowed::sharp(k, m).longest(1);
+        for m in 1..=slots {
+            assert_eq!(longest(&seam(k, m), 1), Some((m, wait(m))), "k = {k}");
+            assert!(wait(m) <= allowed(m), "k = {k}, m = {m}");
+        }
+        let ratio = |m: u64| wait(m) as f64 / allowed(m) as f64;
+        let by_ratio = |one: &u64, other: &u64| ratio(*one).total_cmp(&ratio(*other));
+        let m = (1..=slots).rev().max_by(by_ratio).expect("a slot");
+        let equal = (1..=slots).filter(|&m| wait(m) == allowed(m));
+        let equal: Vec<u64> = equal.collect();
+        let (wait, allowed, ratio) = (wait(m), allowed(m), ratio(m));
+        println!("{k:>3} {slots:>6} {m:>10} {wait:>8} {allowed:>8} {ratio:>7.4}  {equal:?}");
+        let reached: &[u64] = match k {
+            0 | 1 => &[1],
+            2 => &[1, 3],
+            3 => &[3, 7],
+            4 => &[7],
+            _ => &[],
+        };
+        assert_eq!(equal, reached, "k = {k}");
+    }
+}
+
+/// Every frame of two ports whose first input has any cells and whose second has none.
+fn frames_of_one_input(k: u32) -> Vec<Frame> {
+    let slots = 1_u16 << k;
+    let loads = (0..=slots).flat_map(|one| (0..=slots - one).map(move |other| [one, other, 0, 0]));
+    loads.map(|load| built(k, load)).collect()
+}
+
+/// Chains of two and of three of these frames.
+fn chains(frames: &[Frame]) -> impl Iterator<Item = Vec<Frame>> + '_ {
+    let of_two = frames.iter().flat_map(move |first| {
+        frames
+            .iter()
+            .map(move |second| vec![first.clone(), second.clone()])
+    });
+    of_two.flat_map(move |chain| {
+        let longer = frames
+            .iter()
+            .map(|third| [&chain[..], slice::from_ref(third)].concat());
+        let longer: Vec<_> = longer.collect();
+        [chain].into_iter().chain(longer)
+    })
+}
+
+/// No chain of two or three frames of one input has a longer wait, and for each m some chain has one as long.
+#[test]
+fn no_longer_wait_on_any_short_chain() {
+    for k in 0..=3 {
+        let mut longest_by_cells = vec![0; (1 << k) + 1];
+        for chain in chains(&frames_of_one_input(k)) {
+            for class in [PARTNER, FLOW, Class::Input { port: 1 }] {
+                let found = longest(&Course::of(&chain, class), 1);
+                let Some((m, wait)) = found else { continue };
+                let seen: &mut u128 = &mut longest_by_cells[m as usize];
+                *seen = wait.max(*seen);
+            }
+        }
+        let exact: Vec<u128> = (1..=1 << k).map(|m| at_head(k, m)).collect();
+        assert_eq!(longest_by_cells[1..], exact, "k = {k}");
+    }
+}
