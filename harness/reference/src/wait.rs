@@ -44,11 +44,11 @@ impl Allowed {
     }
 }
 
-/// The same for the first in the queue, and exactly: every block of 2^i slots has a cell, where 2^(k - i) is the greatest power
-/// of two not above m, and a run of up to 2 × (2^i - 1) slots need not have a whole one.
-pub fn at_head(k: u32, m: u64) -> u128 {
+/// The same by blocks: every block of 2^i slots has a cell, where 2^(k - i) is the greatest power of two not above m, and a run of
+/// w + 1 blocks less one slot has w whole ones. Some cell that is first in its queue waits as long, w being 1.
+pub fn by_blocks(k: u32, m: u64, w: u64) -> u128 {
     let i = k.saturating_sub(m.ilog2());
-    (2 << i) - 1
+    ((u128::from(w) + 1) << i) - 1
 }
 
 /// Frames that follow on each other in a chain and all have cells of a class, or of all together: a chain by themselves.

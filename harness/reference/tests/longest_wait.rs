@@ -2,7 +2,7 @@
 
 use loads::Random;
 use reference::queue::pass;
-use reference::wait::{at_head, pass_each, stretches, Allowed, Stretch, Wait};
+use reference::wait::{by_blocks, pass_each, stretches, Allowed, Stretch, Wait};
 use reference::wire::{demanded, deviation, Course, Frame, Run, Slot};
 use reference::Class;
 
@@ -33,7 +33,8 @@ fn numbers_of_any_size() {
     let longest = Allowed::sharp(10, 1).longest(most);
     assert_eq!(longest, 7_055 + 1_024 * u128::from(most - 1));
     assert_eq!(Allowed::demanded(10, most).longest(most), 1_025);
-    assert_eq!(at_head(10, most), 1);
+    assert_eq!(by_blocks(10, most, 1), 1);
+    assert_eq!(by_blocks(10, 1, most), 1_024 * (u128::from(most) + 1) - 1);
 }
 
 #[test]
@@ -41,10 +42,12 @@ fn at_the_head_no_more_than_the_sharp_bound_allows() {
     for k in 0..=10 {
         for m in 1..=1 << k {
             let sharp = Allowed::sharp(k, m).longest(1);
-            assert!(at_head(k, m) <= sharp, "{k}, {m}");
+            assert!(by_blocks(k, m, 1) <= sharp, "{k}, {m}");
         }
-        assert_eq!(at_head(k, 1), (2 << k) - 1, "one cell in a frame");
-        assert_eq!(at_head(k, 1 << k), 1, "a cell in every slot");
+        assert_eq!(by_blocks(k, 1, 1), (2 << k) - 1, "one cell in a frame");
+        assert_eq!(by_blocks(k, 1, 2), (3 << k) - 1, "one cell in a frame");
+        assert_eq!(by_blocks(k, 1 << k, 1), 1, "a cell in every slot");
+        assert_eq!(by_blocks(k, 1 << k, 7), 7, "a cell in every slot");
     }
 }
 
@@ -74,7 +77,7 @@ fn the_seam_of_two_slots() {
     assert_eq!((stretch.wait(1), stretch.hardest_place()), (3, 1));
     let allowed = [Allowed::sharp(1, 1), Allowed::demanded(1, 1)];
     assert_eq!(allowed.map(|allowed| allowed.longest(1)), [3, 3]);
-    assert_eq!(at_head(1, 1), 3);
+    assert_eq!(by_blocks(1, 1, 1), 3);
 }
 
 /// The one stretch of a chain.

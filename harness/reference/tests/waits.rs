@@ -2,8 +2,9 @@
 
 mod page;
 
+use loads::SEAMS;
 use page::grouped;
-use reference::wait::{at_head, Allowed};
+use reference::wait::{by_blocks, Allowed};
 
 const TEXT: &str = include_str!("../../../docs/WAITS.md");
 
@@ -20,18 +21,52 @@ const TABLES: [(&str, Longest); 3] = [
     ("exactly", at_head),
 ];
 
-/// Words of the page, wherever its lines end, each with a number that stands in them.
-fn examples() -> Vec<(&'static str, u128)> {
+/// By blocks, which is exact for the first in its queue.
+fn at_head(k: u32, m: u64) -> u128 {
+    by_blocks(k, m, 1)
+}
+
+/// The longest waits by the sharp bound and by demand 3.
+fn by_rate(k: u32, m: u64, w: u64) -> [u128; 2] {
+    [Allowed::sharp(k, m), Allowed::demanded(k, m)].map(|allowed| allowed.longest(w))
+}
+
+/// Slots of 0.52 microseconds as milliseconds, to three digits after the point.
+fn in_milliseconds(slots: u128) -> String {
+    let microseconds = (52 * slots + 50) / 100;
+    let (whole, rest) = (microseconds / 1_000, microseconds % 1_000);
+    format!("{whole}.{rest:03} milliseconds")
+}
+
+/// Words of the page, wherever its lines end: those of the example, 1,024 slots and 100 cells.
+fn examples() -> Vec<String> {
+    let blocks = |w| by_blocks(10, 100, w);
+    let rate = |w| by_rate(10, 100, w);
+    let (first, seventh, asked) = (blocks(1), blocks(7), rate(1)[1]);
+    assert_eq!(rate(8)[0], blocks(8), "the eighth has as many by both");
     vec![
-        (
-            "In frames of 1,024 slots, a flow of 100 cells per frame has one in any 71 slots",
-            Allowed::sharp(10, 100).longest(1),
+        format!("has left after **{first} more slots** at most"),
+        format!(
+            "{first} slots are 16.12 microseconds, {}",
+            in_milliseconds(first)
         ),
-        (
-            "by (2k + 1)/3 it would be 72",
-            Allowed::demanded(10, 100).longest(1),
+        format!("a whole frame takes {}", in_milliseconds(1_024)),
+        format!("it would be {asked} slots, {}", in_milliseconds(asked)),
+        format!(
+            "has left after **{seventh} more slots**, {}",
+            in_milliseconds(seventh)
         ),
-        ("exactly it is 31", at_head(10, 100)),
+        format!(
+            "makes {} slots by the rate ({} by (2k + 1)/3) and {seventh} by blocks",
+            rate(7)[0],
+            rate(7)[1]
+        ),
+        format!("the eighth has {} by both", blocks(8)),
+        format!(
+            "from the ninth on, with {} and {}, the rate is better",
+            rate(9)[0],
+            blocks(9)
+        ),
     ]
 }
 
@@ -86,22 +121,64 @@ fn tables() {
     }
 }
 
+/// A line of a table that has a column for each k.
+fn line(says: &str, numbers: impl Iterator<Item = u128>) -> String {
+    let numbers = numbers.map(|number| grouped(number as u64));
+    format!("| {says} | {} |", numbers.collect::<Vec<_>>().join(" | "))
+}
+
+/// The waits of the seams: in the run that falls furthest behind there are cells for all places before the w-th.
+fn reached() -> Vec<String> {
+    let waits = SEAMS.map(|seam| {
+        let (slots, m) = (u128::from(seam.slots), u128::from(seam.cells));
+        let length = 2 * (slots - seam.turn as u128);
+        let w = (length * m - 2 * seam.deviation as u128) / slots + 1;
+        assert_eq!(by_rate(seam.k, m as u64, w as u64), [length + 1; 2]);
+        [seam.k.into(), m, w, length + 1]
+    });
+    let lines = ["k", "m", "w", "slots"].into_iter().enumerate();
+    let lines = lines.map(|(column, says)| line(says, waits.iter().map(|wait| wait[column])));
+    lines.collect()
+}
+
+/// The first in the queue where it comes nearest to what the sharp bound allows, for those k for which it never comes to that.
+fn nearest() -> Vec<String> {
+    let waits = [5, 6, 7, 8, 9, 10].map(|k| {
+        let ratio = |m: u64| at_head(k, m) as f64 / by_rate(k, m, 1)[0] as f64;
+        let by_ratio = |one: &u64, other: &u64| ratio(*one).total_cmp(&ratio(*other));
+        let m = (1..=1 << k).rev().max_by(by_ratio).expect("a cell");
+        let [sharp, demanded] = by_rate(k, m, 1);
+        assert!(at_head(k, m) < sharp);
+        [k.into(), m.into(), at_head(k, m), sharp, demanded]
+    });
+    let lines = ["k", "m", "exactly", "by 2p(k)", "by (2k + 1)/3"]
+        .into_iter()
+        .enumerate();
+    let lines = lines.map(|(column, says)| line(says, waits.iter().map(|wait| wait[column])));
+    lines.collect()
+}
+
+#[test]
+fn tables_of_how_near() {
+    for right in [reached(), nearest()] {
+        let mut given = table_under(&right[0]);
+        given.remove(1);
+        assert_eq!(given, right, "the table should be\n{}\n", right.join("\n"));
+    }
+}
+
 #[test]
 fn no_other_tables() {
     let heads = TEXT.lines().filter(|line| line.starts_with("| k |"));
-    assert_eq!(heads.count(), TABLES.len());
+    assert_eq!(heads.count(), TABLES.len() + 2);
 }
 
 #[test]
 fn sentences() {
     let lines: Vec<&str> = TEXT.lines().collect();
     let text = lines.join(" ");
-    for (sentence, number) in examples() {
-        assert!(text.contains(sentence), "missing: {sentence}");
-        let words = sentence.split(|c: char| !c.is_ascii_digit() && c != ',');
-        let numbers: Vec<&str> = words.map(|word| word.trim_matches(',')).collect();
-        let number = grouped(number as u64);
-        assert!(numbers.contains(&number.as_str()), "{number}: {sentence}");
+    for sentence in examples() {
+        assert!(text.contains(&sentence), "missing: {sentence}");
     }
 }
 

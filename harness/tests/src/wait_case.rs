@@ -1,7 +1,7 @@
 //! How long cells wait on a chain.
 
 use loads::Random;
-use reference::wait::{at_head, pass_each, stretches, Allowed, Stretch};
+use reference::wait::{by_blocks, pass_each, stretches, Allowed, Stretch};
 use reference::wire::{Course, Run, Whose};
 
 use crate::hits::{Hits, Waited, FIRST_WAIT_REACHED, QUEUE_BY_CELLS, WAIT_COMPARED, WAIT_REACHED};
@@ -32,14 +32,13 @@ pub fn check_first_waits(course: &Course, whose: Whose, hits: &mut Hits) -> Verd
     stretches.try_for_each(|stretch| check_wait(&stretch, whose, 1, hits))
 }
 
-/// Holds the longest run with fewer than w cells to both bounds, and to the exact one where w is 1.
+/// Holds the longest run with fewer than w cells to both bounds, and to what blocks allow.
 fn check_wait(stretch: &Stretch, whose: Whose, w: u64, hits: &mut Hits) -> Verdict {
     let (k, m) = (stretch.k(), stretch.fewest);
     let run = stretch.longest_run(w);
     let slots = run.length as u64 + 1;
     let [allowed, demanded] =
         [Allowed::sharp(k, m), Allowed::demanded(k, m)].map(|allowed| allowed.longest(w));
-    let exact = if w == 1 { at_head(k, m) } else { allowed };
     let waited = Waited {
         slots,
         allowed,
@@ -47,7 +46,7 @@ fn check_wait(stretch: &Stretch, whose: Whose, w: u64, hits: &mut Hits) -> Verdi
         w,
     };
     note_wait(k, waited, hits);
-    let most = allowed.min(demanded).min(exact);
+    let most = allowed.min(demanded).min(by_blocks(k, m, w));
     expect(u128::from(slots) <= most, || {
         let start = stretch.start + run.start;
         let run = Run { start, ..run };
@@ -92,7 +91,7 @@ pub fn check_each_cell(
     hits.add_at(QUEUE_BY_CELLS, k);
     let mut waits = pass_each(stretch.given, &arrivals).into_iter();
     waits.try_for_each(|cell| {
-        let most = allowed.longest(cell.place);
+        let most = allowed.longest(cell.place).min(by_blocks(k, m, cell.place));
         expect(u128::from(cell.slots) <= most, || {
             format!("a cell of {whose:?} with {m} cells or more in each frame: {cell:?}, and {most} slots are allowed")
         })

@@ -4,7 +4,7 @@ use std::slice;
 
 use calls::{Calls, Class, Library};
 use loads::{load_alone, load_beside, SEAMS};
-use reference::wait::{at_head, stretches, Allowed};
+use reference::wait::{by_blocks, stretches, Allowed};
 use reference::wire::{Course, Frame, Run};
 
 const FLOW: Class = Class::Pair {
@@ -77,7 +77,7 @@ fn the_longest_wait_of_the_first_in_the_queue() {
     println!("  k  slots  nearest m     wait  allowed   ratio  as long as allowed for m");
     for k in 0..=10 {
         let slots = 1_u64 << k;
-        let wait = |m: u64| at_head(k, m);
+        let wait = |m: u64| by_blocks(k, m, 1);
         let allowed = |m: u64| Allowed::sharp(k, m).longest(1);
         for m in 1..=slots {
             assert_eq!(longest(&seam(k, m), 1), Some((m, wait(m))), "k = {k}");
@@ -98,6 +98,23 @@ fn the_longest_wait_of_the_first_in_the_queue() {
             _ => &[],
         };
         assert_eq!(equal, reached, "k = {k}");
+    }
+}
+
+/// With a power of two for m each block of 2^i slots has one cell, in its first slot or in its last, and every place waits as long
+/// as blocks allow.
+#[test]
+fn the_longest_wait_by_blocks_of_every_place() {
+    for (k, j) in (0..=10).flat_map(|k| (0..=k).map(move |j| (k, j))) {
+        let m = 1 << j;
+        let course = seam(k, m);
+        for w in 1..=m {
+            assert_eq!(
+                longest(&course, w),
+                Some((m, by_blocks(k, m, w))),
+                "{k}, {w}"
+            );
+        }
     }
 }
 
@@ -137,7 +154,7 @@ fn no_longer_wait_on_any_short_chain() {
                 *seen = wait.max(*seen);
             }
         }
-        let exact: Vec<u128> = (1..=1 << k).map(|m| at_head(k, m)).collect();
+        let exact: Vec<u128> = (1..=1 << k).map(|m| by_blocks(k, m, 1)).collect();
         assert_eq!(longest_by_cells[1..], exact, "k = {k}");
     }
 }
