@@ -16,14 +16,14 @@ use Rattle.model.specs.Inspect.{byteTooLarge, outputTwice, pairCount, un
 use Rattle.model.specs.Wire.{Carried, share, Shape, Accurate, SharpOn}
 use Rattle.model.specs.Lead.{Led}
 use Rattle.model.specs.Queue.{HeldOn}
-use Rattle.model.specs.Wait.{bySharp, WaitsOn, BlocksOn}
+use Rattle.model.specs.Wait.{bySharp, WaitsOn, BlocksOn, PacedOn}
 use Rattle.model.proofs.Cases.{byBool}
 use Rattle.model.proofs.Reports.{report-found, report-on}
 use Rattle.model.proofs.Demand2.{WellFormed, past-frame, accepts-is, build-sound}
 use Rattle.model.proofs.Demand3.{Sound, sound-sharp, sound-accurate}
 use Rattle.model.proofs.Leads.{sound-lead}
 use Rattle.model.proofs.Queues.{sound-held}
-use Rattle.model.proofs.Waits.{sound-waits}
+use Rattle.model.proofs.Waits.{sound-waits, sound-paced}
 use Rattle.model.proofs.WholeBlocks.{sound-blocks}
 use Rattle.model.proofs.Answers.{Throughout, ByteLow, OutputOnce, CountRight, Finds, byte-101, output-102, pair-103, block-104, clean-0}
 use Rattle.model.proofs.Faults.{bytes-search, outputs-search, counts-search, block-tells, block-reported, byBlock, place-of}
@@ -150,9 +150,13 @@ pub clean-waits : (gap ports k : ℕ) → bySharp k ≤ gap → (frames : List C
     → WaitsOn gap ports k frames
 clean-waits gap ports k wide frames clean shape = sound-waits gap ports k wide frames (all-sound frames clean) shape
 
--- and the one by blocks;
+-- the one by blocks,
 pub clean-blocks : (ports k : ℕ) (frames : List Carried) → Every Inspected frames → Every (Shape ports (2 ^ k)) frames → BlocksOn ports k frames
 clean-blocks ports k frames clean shape = sound-blocks ports k frames (all-sound frames clean) shape
+
+-- and that of a flow that keeps to its share;
+pub clean-paced : (ports k : ℕ) (frames : List Carried) → Every Inspected frames → Every (Shape ports (2 ^ k)) frames → PacedOn ports k frames
+clean-paced ports k frames clean shape = sound-paced ports k frames (all-sound frames clean) shape
 
 -- one of them that repeats for ever has the leads of a built frame.
 pub clean-lead : (f : Carried) → Inspected f → (k : ℕ) → f .call .slots ≡ 2 ^ k → (c : Class) → Of (f .call .ports) c → (start len : ℕ)

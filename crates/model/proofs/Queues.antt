@@ -14,7 +14,7 @@ use Rattle.model.specs.Frames.{cells, runOf}
 use Rattle.model.specs.Service.{repeated, lead}
 use Rattle.model.specs.Wire.{Carried, none, chain, wire, inside, share, Shape, deviation}
 use Rattle.model.specs.Queue.{waiting, scheduledOn, arrived, Paced, HeldOn, Buffers, BuffersAtSeams, BuffersByLead}
-use Rattle.model.proofs.Sums.{sum-more, sum-ext}
+use Rattle.model.proofs.Sums.{sum-more, sum-ext, sum-append}
 use Rattle.model.proofs.Cells.{cells-none, cells-run, run-none}
 use Rattle.model.proofs.Runs.{cells-repeated, cells-once}
 use Rattle.model.proofs.Integers.{minus-least}
@@ -103,11 +103,19 @@ pub share-least : (c : Class) (ports k m : ℕ) (fs : List Carried) → Every (S
     → (start len : ℕ) → start + len ≤ length fs * 2 ^ k → len * m ≤ share c 0 fs start len
 share-least = share-run (λ a b. b ≤ a) (omega arith) (λ a b x y p q. omega arith) (λ z a b p. mul-le-mul-right z p)
 
-share-more : (c : Class) (fs : List Carried) (start len : ℕ) → share c 0 fs start (len + 1) ≡ share c 0 fs start len + share c 0 fs (start + len) 1
-share-more c fs start len =
-    let all : share c 0 fs 0 (start + (len + 1)) ≡ share c 0 fs 0 (start + len) + share c 0 fs (start + len) 1
-    = ap (λ z. share c 0 fs 0 z) (omega arith) ∙ share-split c fs 0 (start + len) 1 in
-    omega (arith, all, share-split c fs 0 start (len + 1), share-split c fs 0 start len)
+-- a run is two runs end to end
+pub share-more : (c : Class) (fs : List Carried) (start len more : ℕ)
+    → share c 0 fs start (len + more) ≡ share c 0 fs start len + share c 0 fs (start + len) more
+share-more c fs start len more =
+    let all : share c 0 fs 0 (start + (len + more)) ≡ share c 0 fs 0 (start + len) + share c 0 fs (start + len) more
+    = ap (λ z. share c 0 fs 0 z) (omega arith) ∙ share-split c fs 0 (start + len) more in
+    omega (arith, all, share-split c fs 0 start (len + more), share-split c fs 0 start len)
+
+pub arrived-append : (arrive : ℕ → ℕ) (start len more : ℕ) → arrived arrive start (len + more) ≡ arrived arrive start len + arrived arrive (start + len) more
+unfolding arrived
+arrived-append arrive start len more =
+    let same = sum-ext more (λ t. arrive (start + (len + t))) (λ t. arrive (start + len + t)) (λ t l. ap arrive (omega arith)) in
+    omega (arith, sum-append len more (λ t. arrive (start + t)))
 
 arrived-more : (arrive : ℕ → ℕ) (start len : ℕ) → arrived arrive start (len + 1) ≡ arrived arrive start len + arrive (start + len)
 unfolding arrived
@@ -145,7 +153,7 @@ module _ (c : Class) (ports k : ℕ) (of : Of ports c) (fs : List Carried) (good
         let last : arrived arrive (s .start) (s .len + 1) ≡ arrived arrive (s .start) (s .len) + arrive t
         = arrived-more arrive (s .start) (s .len) ∙ ap (λ z. arrived arrive (s .start) (s .len) + arrive z) (s .ends) in
         let shares : share c 0 fs (s .start) (s .len + 1) ≡ share c 0 fs (s .start) (s .len) + share c 0 fs t 1
-        = share-more c fs (s .start) (s .len) ∙ ap (λ z. share c 0 fs (s .start) (s .len) + share c 0 fs z 1) (s .ends) in
+        = share-more c fs (s .start) (s .len) 1 ∙ ap (λ z. share c 0 fs (s .start) (s .len) + share c 0 fs z 1) (s .ends) in
         omega (
           arith,
           near .1,

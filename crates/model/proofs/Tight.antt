@@ -63,6 +63,13 @@ pub deepest : 2 ^ 1 * waiting arriving (scheduledOn (pair 0 1) 2 seam) 3 ≡ 2 +
 unfolding waiting chain wire cells runOf buildChecks sumTo load walk settleAt favours slotOf frameOf deviation
 deepest = refl
 
+-- the last of them is there still after two slots more, and by how long it may take it must have left in the third: 2 × m + 2 ^ k is as much as
+-- a + 2 × deviation k, where m and k are 1
+pub slowest : (queue arriving (scheduledOn (pair 0 1) 2 seam) 3 ≡ 0 ∷ 1 ∷ []) × (queue arriving (scheduledOn (pair 0 1) 2 seam) 5 ≡ 1 ∷ [])
+    × (2 * 1 + 2 ^ 1 ≡ 2 + 2 * deviation 1)
+unfolding queue chain wire cells runOf buildChecks sumTo load walk settleAt favours slotOf frameOf deviation
+slowest = (refl, refl, refl)
+
 -- two cells arrive in the first slot, and one leaves in it
 abbrev pub twoAtOnce : ℕ → ℕ
 twoAtOnce t = 2 * (1 - t)

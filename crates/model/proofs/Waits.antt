@@ -9,16 +9,16 @@ use lib.ListN.{length, getD, drop}
 use Rattle.model.specs.Words.{upFrom, sumTo, Every}
 use Rattle.model.specs.Loads.{Class, Of, load}
 use Rattle.model.specs.Frames.{cells, runOf}
-use Rattle.model.specs.Wire.{Carried, none, chain, wire, Shape}
-use Rattle.model.specs.Queue.{waiting, queue, arrived}
-use Rattle.model.specs.Wait.{HasAtLeast, byDemand3, bySharp, Leaves, Suffices, WaitsOn, LongestWait, longest, Least, LeastWait}
+use Rattle.model.specs.Wire.{Carried, none, chain, wire, share, Shape}
+use Rattle.model.specs.Queue.{waiting, queue, scheduledOn, arrived}
+use Rattle.model.specs.Wait.{HasAtLeast, byDemand3, bySharp, Leaves, Suffices, WaitsOn, LongestWait, longest, Least, LeastWait, PacedOn, PacedWait}
 use Rattle.model.specs.Row.{sent}
 use Rattle.model.proofs.Cases.{byLt}
 use Rattle.model.proofs.Sums.{sum-append}
 use Rattle.model.proofs.Legal.{legal-exact}
 use Rattle.model.proofs.Accuracy.{deviation-most}
 use Rattle.model.proofs.Demand3.{Sound, Good, good-of, run-sharp, chain-sound}
-use Rattle.model.proofs.Queues.{share-least, served}
+use Rattle.model.proofs.Queues.{since, share-least, share-more, arrived-append, served}
 use Rattle.model.proofs.Rows.{kept}
 
 -- ---- numbers in a row
@@ -154,3 +154,50 @@ longest-wait buffer calls ports k shape = sound-waits (byDemand3 k) ports k (dev
 -- So the least length that is long enough suffices, by the one and by the other.
 pub least-wait : (gap : ℕ → ℕ) → LongestWait gap → LeastWait gap
 least-wait gap waits buffer calls ports k shape c of m w one least has = waits buffer calls ports k shape c of m w one least has _ (longest-least (gap k) k m w one .enough)
+
+-- ---- a flow that keeps to its share
+-- Of a flow that keeps to its share with an allowance no cell waits longer than its allowance and the sharp bound come to.
+pub sound-paced : (ports k : ℕ) (fs : List Carried) → Every Sound fs → Every (Shape ports (2 ^ k)) fs → PacedOn ports k fs
+sound-paced ports k fs sound shape c of m has a arrive paced len enough t w fits least many =
+    leaves-after arrive scheduled t w many len least (omega (arith, all-sent))
+  where
+    good : Every (Good ports (2 ^ k)) fs
+    good = good-of ports (2 ^ k) fs sound shape
+
+    scheduled : ℕ → ℕ
+    scheduled = scheduledOn c ports fs
+
+    -- since the queue was last empty no more came than the share of those slots and the allowance, and from then to the end of the next len no
+    -- less is given than their share, less the sharp bound
+    all-sent : waiting arrive scheduled t ≤ arrived scheduled t len
+    all-sent =
+        let s = since arrive scheduled t in
+        let within : s .start + (s .len + len) ≤ length fs * 2 ^ k = omega (arith, s .ends, fits) in
+        let near = run-sharp c ports k of fs good (s .start) (s .len + len) within .any in
+        let given : arrived scheduled (s .start) (s .len) + arrived scheduled t len ≡ cells c ports (runOf ports (s .start) (s .len + len) (wire fs))
+        = omega (
+          arith,
+          served c ports k of fs good (s .start) (s .len + len) within,
+          arrived-append scheduled (s .start) (s .len) len,
+          ap (λ z. arrived scheduled z len) (s .ends),
+        ) in
+        let most = share-least c ports k m fs shape (reserved c ports k of m fs good has) t len fits in
+        byLt (arrived scheduled t len) (waiting arrive scheduled t)
+        (λ h.
+        absurd
+        (omega (
+          arith,
+          near .1,
+          most,
+          enough,
+          paced (s .start) (s .len) (omega (arith, within)),
+          share-more c fs (s .start) (s .len) len,
+          ap (λ z. share c 0 fs z len) (s .ends),
+          mul-le-mul-left (2 ^ k) (s .waits),
+          mul-le-mul-left (2 ^ k) h,
+          ap (λ z. 2 ^ k * z) given,
+        )))
+        (λ h. h)
+
+pub paced-wait : PacedWait
+paced-wait buffer calls ports k shape = sound-paced ports k (chain none buffer calls) (chain-sound none buffer calls tt) shape

@@ -6,8 +6,8 @@ use lib.ListN.{length, getD}
 use Rattle.model.specs.Words.{Every}
 use Rattle.model.specs.Loads.{Class, Of}
 use Rattle.model.specs.Frames.{cells, runOf}
-use Rattle.model.specs.Wire.{Carried, wire, EveryChain, deviation}
-use Rattle.model.specs.Queue.{waiting, queue, scheduledOn}
+use Rattle.model.specs.Wire.{Carried, wire, share, EveryChain, deviation}
+use Rattle.model.specs.Queue.{waiting, queue, scheduledOn, Paced}
 
 -- The class has at least m cells in every frame of the chain.
 abbrev pub HasAtLeast : ℕ → Class → ℕ → List Carried → Type 0
@@ -71,3 +71,16 @@ BlocksOn ports k frames =
 
 abbrev pub BlockWait : Type 0
 BlockWait = EveryChain BlocksOn
+
+-- Of a flow that keeps to its share with an allowance a, in parts of 1 / 2 ^ k of a cell, every cell that waits after a slot, at
+-- whatever place, has left after the next len, if len × m + 2 ^ k is more than a + 2 × deviation k.
+abbrev pub PacedOn : ℕ → ℕ → List Carried → Type 0
+PacedOn ports k frames =
+    (c : Class) → Of ports c → (m : ℕ) → HasAtLeast m c ports frames
+    → (a : ℕ) (arrive : ℕ → ℕ) → Paced k a (length frames * 2 ^ k) (share c 0 frames) arrive
+    → (len : ℕ) → a + 2 * deviation k < len * m + 2 ^ k
+    → (t w : ℕ) → t + len ≤ length frames * 2 ^ k → 1 ≤ w → w ≤ waiting arrive (scheduledOn c ports frames) t
+    → Leaves arrive (scheduledOn c ports frames) t w len
+
+abbrev pub PacedWait : Type 0
+PacedWait = EveryChain PacedOn
