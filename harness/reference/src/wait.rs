@@ -51,6 +51,14 @@ pub fn by_blocks(k: u32, m: u64, w: u64) -> u128 {
     ((u128::from(w) + 1) << i) - 1
 }
 
+/// The slots after which every cell has left that waited after some slot, at whatever place, where no more than their share and
+/// `ahead` come in, in parts of 1/2^k of a cell.
+pub fn paced(k: u32, m: u64, ahead: u64) -> u128 {
+    let waiting = u128::from(ahead) + 2 * deviation(k) as u128;
+    let more = waiting.checked_sub(1 << k);
+    more.map_or(0, |parts| parts / u128::from(m) + 1)
+}
+
 /// Frames that follow on each other in a chain and all have cells of a class, or of all together: a chain by themselves.
 #[derive(Clone, Debug)]
 pub struct Stretch<'c> {
@@ -102,6 +110,14 @@ impl Stretch<'_> {
         self.slots.trailing_zeros()
     }
 
+    /// What it gives the class, by itself.
+    pub fn course(&self) -> Course {
+        Course {
+            slots: self.slots,
+            given: self.given.to_vec(),
+        }
+    }
+
     /// The longest run with fewer than w cells, w being 1 or more. It begins after a cell, and ends before the w-th from there on,
     /// or it begins or ends with the stretch.
     pub fn longest_run(&self, w: u64) -> Run {
@@ -129,12 +145,10 @@ impl Stretch<'_> {
     /// The place at which a wait comes nearest to what is allowed: the cells of the run that falls furthest behind m cells a
     /// frame, and one more.
     pub fn hardest_place(&self) -> u64 {
-        let load = self.fewest;
-        let given = self.given.iter().map(|slot| Slot { load, ..*slot });
-        let course = Course {
-            slots: self.slots,
-            given: given.collect(),
-        };
+        let mut course = self.course();
+        for slot in &mut course.given {
+            slot.load = self.fewest;
+        }
         course.cells(course.furthest_behind()) as u64 + 1
     }
 }

@@ -2,7 +2,7 @@
 
 use loads::Random;
 use reference::queue::pass;
-use reference::wait::{by_blocks, pass_each, stretches, Allowed, Stretch, Wait};
+use reference::wait::{by_blocks, paced, pass_each, stretches, Allowed, Stretch, Wait};
 use reference::wire::{demanded, deviation, Course, Frame, Run, Slot};
 use reference::Class;
 
@@ -22,6 +22,21 @@ fn least_lengths_by_their_inequalities() {
             let enough = |length: i128| 3 * length * m > demand + 3 * before;
             assert!(enough(by_demand) && !enough(by_demand - 1), "{k}, {m}, {w}");
             assert!(by_sharp <= by_demand, "{k}, {m}, {w}");
+        }
+    }
+}
+
+/// The same of a source that may be ahead by any number of parts of a cell.
+#[test]
+fn least_lengths_of_a_paced_queue() {
+    for k in 0..=10 {
+        let (slots, sharp) = (1_i128 << k, 2 * deviation(k));
+        let cases = (1..=1 << k).flat_map(|m| [0, 1, 3, 1 << k, 5 << k].map(|ahead| (m, ahead)));
+        for (m, ahead) in cases {
+            let least = paced(k, m, ahead) as i128;
+            let enough = |length: i128| i128::from(ahead) + sharp < length * i128::from(m) + slots;
+            assert!(enough(least), "{k}, {m}, {ahead}");
+            assert!(least == 0 || !enough(least - 1), "{k}, {m}, {ahead}");
         }
     }
 }

@@ -4,7 +4,8 @@ mod page;
 
 use loads::SEAMS;
 use page::grouped;
-use reference::wait::{by_blocks, Allowed};
+use reference::queue::ahead_behind_a_switch;
+use reference::wait::{by_blocks, paced, Allowed};
 
 const TEXT: &str = include_str!("../../../docs/WAITS.md");
 
@@ -16,7 +17,7 @@ type Longest = fn(u32, u64) -> u128;
 
 /// What the first column of waits of each table says, and the waits of the table.
 const TABLES: [(&str, Longest); 3] = [
-    ("longest wait", |k, m| Allowed::sharp(k, m).longest(1)),
+    ("longest wait", |k, m| paced(k, m, 1 << k)),
     ("by (2k + 1)/3", |k, m| Allowed::demanded(k, m).longest(1)),
     ("exactly", at_head),
 ];
@@ -42,24 +43,27 @@ fn in_milliseconds(slots: u128) -> String {
 fn examples() -> Vec<String> {
     let blocks = |w| by_blocks(10, 100, w);
     let rate = |w| by_rate(10, 100, w);
-    let (first, seventh, asked) = (blocks(1), blocks(7), rate(1)[1]);
+    let [even, behind] = [1_024, ahead_behind_a_switch(10)].map(|ahead| paced(10, 100, ahead));
     assert_eq!(rate(8)[0], blocks(8), "the eighth has as many by both");
     vec![
-        format!("has left after **{first} more slots** at most"),
+        format!("has left after **{even} more slots** at most"),
         format!(
-            "{first} slots are 16.12 microseconds, {}",
-            in_milliseconds(first)
+            "{even} slots are 36.92 microseconds, {}",
+            in_milliseconds(even)
         ),
         format!("a whole frame takes {}", in_milliseconds(1_024)),
-        format!("it would be {asked} slots, {}", in_milliseconds(asked)),
         format!(
-            "has left after **{seventh} more slots**, {}",
-            in_milliseconds(seventh)
+            "has left after **{} more slots**, {}",
+            blocks(1),
+            in_milliseconds(blocks(1))
         ),
+        format!("further down, that would be {}.", rate(1)[1]),
+        format!("which makes {behind} slots."),
         format!(
-            "makes {} slots by the rate ({} by (2k + 1)/3) and {seventh} by blocks",
+            "makes {} slots by the rate ({} by (2k + 1)/3) and {} by blocks",
             rate(7)[0],
-            rate(7)[1]
+            rate(7)[1],
+            blocks(7)
         ),
         format!("the eighth has {} by both", blocks(8)),
         format!(
@@ -118,6 +122,14 @@ fn tables() {
         let right = table(says, wait);
         let given = table_under(&right[0]);
         assert_eq!(given, right, "the table should be\n{}\n", right.join("\n"));
+    }
+}
+
+/// What the page says of the first table: for the first in a queue it is that of the sharp bound, too.
+#[test]
+fn an_even_source_and_the_first_in_a_queue() {
+    for (k, m) in (0..=10).flat_map(|k| (1..=1 << k).map(move |m| (k, m))) {
+        assert_eq!(paced(k, m, 1 << k), by_rate(k, m, 1)[0]);
     }
 }
 

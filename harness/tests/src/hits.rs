@@ -39,8 +39,13 @@ pub const WAIT_REACHED: &str = "longest wait as long as the sharp bound allows";
 /// The same of the first in the queue.
 pub const FIRST_WAIT_REACHED: &str = "longest wait of the first as long as the sharp bound allows";
 
+/// The cells of a queue that was fed as fast as it may be were held to what its source may be ahead by and the sharp bound.
+pub const PACED_COMPARED: &str = "longest wait of a paced queue compared";
+/// One of them waited as long as that.
+pub const PACED_REACHED: &str = "longest wait of a paced queue as long as is allowed";
+
 /// What is counted for each k from 1 to 10; with k = 0 nothing strays.
-pub const FOR_EACH_K: [&str; 10] = [
+pub const FOR_EACH_K: [&str; 12] = [
     TOTAL_UNBALANCED,
     RUN_REACHED,
     TOTAL_REACHED,
@@ -51,10 +56,20 @@ pub const FOR_EACH_K: [&str; 10] = [
     QUEUE_BY_CELLS,
     WAIT_REACHED,
     FIRST_WAIT_REACHED,
+    PACED_COMPARED,
+    PACED_REACHED,
 ];
 
+/// Whose wait it is: that of the first in a queue, of one further back, or of any cell of a queue that is fed as fast as it may be.
+#[derive(Clone, Copy, Debug, PartialEq, Eq, PartialOrd, Ord)]
+pub enum Queued {
+    First,
+    Further,
+    Paced,
+}
+
 /// The longest wait, in slots, of a cell that is w-th in its queue, where every frame has m cells or more, beside the longest
-/// that the sharp bound allows.
+/// that the sharp bound allows. In a paced queue w stands for what its source may be ahead by, in parts of 1/2^k of a cell.
 #[derive(Clone, Copy, Debug)]
 pub struct Waited {
     pub slots: u64,
@@ -83,8 +98,8 @@ pub struct Hits {
     depths: BTreeMap<(u32, usize), i128>,
     /// By k, the furthest from 0 of the leads of built frames.
     leads: BTreeMap<u32, i128>,
-    /// By k, for the first in the queue and for others, the wait that came nearest to what is allowed.
-    waits: BTreeMap<(u32, bool), Waited>,
+    /// By k, the waits that came nearest to what is allowed.
+    waits: BTreeMap<(u32, Queued), Waited>,
     /// By k, the most odd counts that a build of 16 ports settled.
     settled: BTreeMap<u32, u64>,
 }
@@ -112,8 +127,8 @@ impl Hits {
     }
 
     /// A cell waited so long on frames of 2^k slots.
-    pub fn wait(&mut self, k: u32, waited: Waited) {
-        let nearest = self.waits.entry((k, waited.w == 1)).or_insert(waited);
+    pub fn wait(&mut self, k: u32, queued: Queued, waited: Waited) {
+        let nearest = self.waits.entry((k, queued)).or_insert(waited);
         if waited.nearness(nearest).is_gt() {
             *nearest = waited;
         }
@@ -138,8 +153,8 @@ impl Hits {
         for (k, parts) in other.leads {
             self.stray(k, parts);
         }
-        for ((k, _), waited) in other.waits {
-            self.wait(k, waited);
+        for ((k, queued), waited) in other.waits {
+            self.wait(k, queued, waited);
         }
         for (k, settled) in other.settled {
             self.settle(k, settled);
@@ -160,9 +175,9 @@ impl Hits {
         self.leads.get(&k).copied()
     }
 
-    /// The wait of the first in the queue, or of another, that came nearest to what is allowed, where one was noted.
-    pub fn nearest_wait(&self, k: u32, first: bool) -> Option<Waited> {
-        self.waits.get(&(k, first)).copied()
+    /// The wait that came nearest to what is allowed, where one was noted.
+    pub fn nearest_wait(&self, k: u32, queued: Queued) -> Option<Waited> {
+        self.waits.get(&(k, queued)).copied()
     }
 
     /// The most odd counts that were settled, where a load of 16 ports was built.
@@ -207,6 +222,8 @@ impl Hits {
         names.extend((0..=10).map(|k| name_at(QUEUE_BY_CELLS, k)));
         names.extend((1..=10).map(|k| name_at(WAIT_REACHED, k)));
         names.extend((1..=4).map(|k| name_at(FIRST_WAIT_REACHED, k)));
+        names.extend((0..=10).map(|k| name_at(PACED_COMPARED, k)));
+        names.extend((1..=10).map(|k| name_at(PACED_REACHED, k)));
         names.push(name_at(QUEUE_REACHED_AFTER, 1));
         names.push(name_at(QUEUE_REACHED_BEFORE, 1));
         names.extend((2..=5).map(|switches| format!("row of {switches} switches")));

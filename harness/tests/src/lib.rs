@@ -29,4 +29,4 @@ pub use hostile_case::{run_hostile, Face};
 pub use kind::Kind;
 pub use query_case::any_bytes;
 pub use runner::{run, Report, Settings};
-pub use wait_case::{check_each_cell, check_waits};
+pub use wait_case::{check_each_cell, check_paced, check_waits};

@@ -7,14 +7,19 @@ use reference::wire::{deviation, Course, Run, Whose};
 use crate::hits::{Hits, QUEUE_REACHED_AFTER, QUEUE_REACHED_BEFORE};
 use crate::verdict::{expect, Verdict};
 
-/// Runs a queue that is fed as fast as it may be, from where it begins to fall behind or from anywhere.
-pub fn check_queue(course: &Course, whose: Whose, random: &mut Random, hits: &mut Hits) -> Verdict {
+/// Cells that come in as fast as they may, from where the class begins to fall behind or from anywhere.
+pub fn random_source(course: &Course, random: &mut Random) -> Source {
     let behind = course.furthest_behind();
     let anywhere = random.between(0, course.given.len() as u64) as usize;
-    let source = Source {
+    Source {
         from: random.pick(&[behind.start, anywhere]),
         ahead: random_allowance(course, behind, random),
-    };
+    }
+}
+
+/// Runs a queue that is fed as fast as it may be.
+pub fn check_queue(course: &Course, whose: Whose, random: &mut Random, hits: &mut Hits) -> Verdict {
+    let source = random_source(course, random);
     let passed = pass(course, &source.arrivals(course));
     let depth = passed.depth(source.ahead);
     let above = i128::from(course.slots * passed.waiting) - i128::from(source.ahead);

@@ -4,7 +4,7 @@ use reference::wait::Allowed;
 use reference::wire::{demanded, deviation};
 use reference::work::bound;
 
-use crate::hits::{Hits, Waited, FOR_EACH_K};
+use crate::hits::{Hits, Queued, Waited, FOR_EACH_K};
 
 /// The places of a row that have a column: one switch by itself, then the second to the fifth of a row.
 const PLACES: [usize; 5] = [1, 2, 3, 4, 5];
@@ -19,6 +19,7 @@ pub fn summary(hits: &Hits) -> Vec<String> {
     lines.extend(leads(hits));
     lines.extend(depths(hits));
     lines.extend(waits(hits));
+    lines.extend(paced_waits(hits));
     lines.extend(settled(hits));
     lines
 }
@@ -89,7 +90,7 @@ fn depths(hits: &Hits) -> Vec<String> {
 /// The waits that came nearest to what is allowed, in slots; nothing where no chain was counted.
 fn waits(hits: &Hits) -> Vec<String> {
     let rows = (0..=10).filter_map(|k| {
-        let nearest = [true, false].map(|first| hits.nearest_wait(k, first));
+        let nearest = [Queued::First, Queued::Further].map(|queued| hits.nearest_wait(k, queued));
         let any = nearest.iter().any(Option::is_some);
         let slots = 1 << k;
         let [first, other] = nearest.map(|waited| wait_columns(k, waited));
@@ -127,6 +128,30 @@ fn wait_columns(k: u32, waited: Option<Waited>) -> String {
 fn wait_row(columns: [String; 6]) -> String {
     let columns = columns.iter().map(|column| format!(" {column:>8}"));
     columns.collect()
+}
+
+/// The same of queues that were fed as fast as they may be, with what their sources may be ahead by.
+fn paced_waits(hits: &Hits) -> Vec<String> {
+    let rows = (0..=10).filter_map(|k| {
+        let waited = hits.nearest_wait(k, Queued::Paced)?;
+        let Waited {
+            slots,
+            allowed,
+            m,
+            w,
+        } = waited;
+        let (ratio, ahead) = (slots as f64 / allowed as f64, w as f64 / f64::from(1 << k));
+        Some(format!(
+            "{k:>3} {slots:>8} {allowed:>8} {ratio:>8.4} {m:>8} {ahead:>8.3}"
+        ))
+    });
+    let title =
+        "longest waits in slots of queues fed as fast as they may be, nearest to what is allowed";
+    let head = format!(
+        "{:>3} {:>8} {:>8} {:>8} {:>8} {:>8}",
+        "k", "wait", "allowed", "ratio", "m", "a"
+    );
+    table(title, head, rows)
 }
 
 /// The most odd counts that builds of 16 ports settled, beside their bound; nothing where there was no such build.

@@ -1,11 +1,14 @@
 //! How long cells wait on a chain.
 
 use loads::Random;
-use reference::wait::{by_blocks, pass_each, stretches, Allowed, Stretch};
+use reference::wait::{by_blocks, paced, pass_each, stretches, Allowed, Stretch};
 use reference::wire::{Course, Run, Whose};
 
-use crate::hits::{Hits, Waited, FIRST_WAIT_REACHED, QUEUE_BY_CELLS, WAIT_COMPARED, WAIT_REACHED};
-use crate::queue_case::random_bursts;
+use crate::hits::{
+    Hits, Queued, Waited, FIRST_WAIT_REACHED, PACED_COMPARED, PACED_REACHED, QUEUE_BY_CELLS,
+    WAIT_COMPARED, WAIT_REACHED,
+};
+use crate::queue_case::{random_bursts, random_source};
 use crate::verdict::{expect, Verdict};
 
 /// Holds the longest waits of a class, or of all cells, to what is allowed, wherever the frames of a chain have so many of its
@@ -22,7 +25,8 @@ pub fn check_waits(
         let places = [1, 2, 3, stretch.hardest_place(), larger];
         let mut places = places.into_iter();
         places.try_for_each(|place| check_wait(stretch, whose, place, hits))?;
-        check_each_cell(stretch, whose, random, hits)
+        check_each_cell(stretch, whose, random, hits)?;
+        check_paced(stretch, whose, random, hits)
     })
 }
 
@@ -61,7 +65,12 @@ fn note_wait(k: u32, waited: Waited, hits: &mut Hits) {
     if waited.m > 1 << k {
         return;
     }
-    hits.wait(k, waited);
+    let queued = if waited.w == 1 {
+        Queued::First
+    } else {
+        Queued::Further
+    };
+    hits.wait(k, queued, waited);
     if u128::from(waited.slots) == waited.allowed {
         hits.add_at(WAIT_REACHED, k);
         if waited.w == 1 {
@@ -95,5 +104,40 @@ pub fn check_each_cell(
         expect(u128::from(cell.slots) <= most, || {
             format!("a cell of {whose:?} with {m} cells or more in each frame: {cell:?}, and {most} slots are allowed")
         })
+    })
+}
+
+/// Runs a queue that is fed as fast as it may be: every cell, whatever its place, must have left when the source's allowance says so.
+pub fn check_paced(
+    stretch: &Stretch,
+    whose: Whose,
+    random: &mut Random,
+    hits: &mut Hits,
+) -> Verdict {
+    let (k, m) = (stretch.k(), stretch.fewest);
+    let course = stretch.course();
+    let source = random_source(&course, random);
+    let waits = pass_each(&course.given, &source.arrivals(&course));
+    let slots = waits.iter().map(|cell| cell.slots).max().unwrap_or(0);
+    let allowed = paced(k, m, source.ahead);
+    hits.add_at(PACED_COMPARED, k);
+    if slots > 0 && m <= 1 << k {
+        let w = source.ahead;
+        hits.wait(
+            k,
+            Queued::Paced,
+            Waited {
+                slots,
+                allowed,
+                m,
+                w,
+            },
+        );
+        if u128::from(slots) == allowed {
+            hits.add_at(PACED_REACHED, k);
+        }
+    }
+    expect(u128::from(slots) <= allowed, || {
+        format!("a cell of {whose:?} with {m} cells or more in each frame, fed by {source:?}, waits {slots} slots, and {allowed} are allowed")
     })
 }

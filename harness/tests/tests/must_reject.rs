@@ -3,10 +3,10 @@
 use calls::{Calls, Class, Inspection, Reference};
 use loads::{load_beside, Random};
 use reference::queue::{ahead_behind_a_switch, pass_row, Depth, Switch};
-use reference::wait::{stretches, Allowed};
+use reference::wait::{stretches, Allowed, Stretch};
 use reference::wire::{Course, Frame, Whose};
 use tests::broken::{self, Broken, BuildCall};
-use tests::{check_each_cell, check_waits, run, Hits, Settings};
+use tests::{check_each_cell, check_paced, check_waits, run, Hits, Settings};
 
 /// The number of cases of the named kinds that a builder fails.
 fn failures(builder: &(impl Calls + calls::SheetProgram + Sync), kind: &str) -> usize {
@@ -273,22 +273,31 @@ fn a_bunched_flow_waits_too_long() {
     }
 }
 
+/// A check of one queue on a chain, fed at random.
+type QueueCheck = fn(&Stretch, Whose, &mut Random, &mut Hits) -> Result<(), String>;
+
 /// Of a hundred queues of a chain, run cell by cell, the number of those in which a cell waits too long.
-fn queues_too_slow(chain: &[Frame]) -> usize {
+fn queues_too_slow(chain: &[Frame], check: QueueCheck) -> usize {
     let course = Course::of(chain, FIRST_PAIR);
     let stretch = &stretches(&course, 1)[0];
     let mut hits = Hits::default();
     let verdicts = (0..100).map(|seed| {
-        let random = &mut Random::new(seed);
-        check_each_cell(stretch, FIRST_PAIR.into(), random, &mut hits)
+        check(
+            stretch,
+            FIRST_PAIR.into(),
+            &mut Random::new(seed),
+            &mut hits,
+        )
     });
     verdicts.filter(Result::is_err).count()
 }
 
 #[test]
 fn cells_of_a_bunched_flow_wait_too_long() {
-    assert_eq!(queues_too_slow(&first_pair(reference::build, 8)), 0);
-    assert!(queues_too_slow(&first_pair(broken::bunched, 8)) > 10);
+    for check in [check_each_cell, check_paced] {
+        assert_eq!(queues_too_slow(&first_pair(reference::build, 8), check), 0);
+        assert!(queues_too_slow(&first_pair(broken::bunched, 8), check) > 10);
+    }
 }
 
 /// Builders whose pairs, inputs and outputs are as they should be: all cells together wait too long.

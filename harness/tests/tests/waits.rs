@@ -4,7 +4,8 @@ use std::slice;
 
 use calls::{Calls, Class, Library};
 use loads::{load_alone, load_beside, SEAMS};
-use reference::wait::{by_blocks, stretches, Allowed};
+use reference::queue::Source;
+use reference::wait::{by_blocks, paced, pass_each, stretches, Allowed};
 use reference::wire::{Course, Frame, Run};
 
 const FLOW: Class = Class::Pair {
@@ -67,6 +68,26 @@ fn the_longest_wait_of_both_bounds() {
         assert_eq!(found, (m, run.length as u128 + 1), "{of:?}");
         assert_eq!((wait, wait), (sharp, demanded), "{of:?}");
         assert_eq!(stretches(&course, 1)[0].hardest_place(), w, "{of:?}");
+    }
+}
+
+/// A source that sends evenly from where the flow begins to fall behind, one cell ahead: on the two frames of a seam, the second
+/// carried twice, some cell waits as long as any of such a source may, and that is as long as the sharp bound allows the first.
+#[test]
+fn the_longest_wait_of_an_even_source() {
+    for of in SEAMS {
+        let (k, m) = (of.k, u64::from(of.cells));
+        let loads = [of.alone(), of.beside(), of.beside()];
+        let course = Course::of(&loads.map(|load| built(k, load)), FLOW);
+        let source = Source {
+            from: of.turn,
+            ahead: of.slots,
+        };
+        let waits = pass_each(&course.given, &source.arrivals(&course));
+        let longest = waits.iter().map(|cell| cell.slots).max();
+        let allowed = paced(k, m, source.ahead);
+        assert_eq!(longest.map(u128::from), Some(allowed), "{of:?}");
+        assert_eq!(allowed, Allowed::sharp(k, m).longest(1), "{of:?}");
     }
 }
 
