@@ -7,7 +7,7 @@ use native.Mathlib.Omega.{arith}
 use native.Mathlib.Decide.{decLe}
 use lib.Pow.{pow-add}
 use Rattle.model.specs.Words.{Near}
-use Rattle.model.specs.Loads.{Class, Of, load}
+use Rattle.model.specs.Flows.{Class, Of, load}
 use Rattle.model.specs.Frames.{cells, runOf, Legal, Block, whole, front, back, Balanced}
 use Rattle.model.specs.Wire.{deviation}
 use Rattle.model.proofs.Cells.{cells-none, cells-run, run-none, run-all}

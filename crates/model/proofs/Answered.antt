@@ -8,7 +8,7 @@ use lib.IntN.{ℤ, pos, _-ℤ_}
 use lib.ListN.{length, getD}
 use borrow.Author.Tests.{not-false}
 use Rattle.model.specs.Words.{within}
-use Rattle.model.specs.Loads.{Class, pair, output, input}
+use Rattle.model.specs.Flows.{Class, pair, output, input}
 use Rattle.model.specs.Frames.{cells}
 use Rattle.model.specs.Refusals.{Check, report, clear, bad-ports, bad-slots, bad-matrix, bad-frame, bad-slot, admitted}
 use Rattle.model.specs.Schedule.{frameOf}

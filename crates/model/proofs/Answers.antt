@@ -7,7 +7,7 @@ use mathlib.Core.List.{List, [], _∷_, _++_, map}
 use lib.IntN.{pos, negsuc}
 use lib.ListN.{length, getD, take, drop, set, replicate}
 use Rattle.model.specs.Words.{Near}
-use Rattle.model.specs.Loads.{Class, pair, output, Of, load, input, Fits}
+use Rattle.model.specs.Flows.{Class, pair, output, Of, load, input, Fits}
 use Rattle.model.specs.Frames.{cells, runOf, Legal, Block, Balanced}
 use Rattle.model.specs.Refusals.{admitted, refusal, answered}
 use Rattle.model.specs.Rules.{Scheduled}

@@ -7,7 +7,7 @@ use native.Mathlib.Nat.{mul-le-mul-right, mul-add-mod-self-right, mod-eq-of-lt}
 use lib.ListN.{length, getD, drop, length-append, length-take, length-drop, drop-of-length-le, List·getD-append}
 use lib.Seq.{getD-append-add, take-nil, take-add, drop-drop, take-all, take-append-le, drop-append-le, drop-append-add}
 use Rattle.model.specs.Words.{bit, sumTo}
-use Rattle.model.specs.Loads.{Class}
+use Rattle.model.specs.Flows.{Class}
 use Rattle.model.specs.Frames.{counts, cells, runOf}
 use Rattle.model.proofs.Sums.{sum-ext, sum-append}
 

@@ -8,7 +8,7 @@ use native.Mathlib.Omega.{arith}
 use lib.Arith.{digits-lt}
 use lib.ListN.{length, getD}
 use Rattle.model.specs.Words.{Every}
-use Rattle.model.specs.Loads.{Class, Of}
+use Rattle.model.specs.Flows.{Class, Of}
 use Rattle.model.specs.Frames.{Legal, Balanced}
 use Rattle.model.specs.Refusals.{Check, report}
 use Rattle.model.specs.Build.{buildAccepts, left}

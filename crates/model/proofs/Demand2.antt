@@ -7,7 +7,7 @@ use mathlib.Core.Bool.{true, false, not}
 use native.Mathlib.Omega.{arith}
 use lib.ListN.{length, getD}
 use borrow.Author.Tests.{not-true}
-use Rattle.model.specs.Loads.{input, output, load, Fits}
+use Rattle.model.specs.Flows.{input, output, load, Fits}
 use Rattle.model.specs.Frames.{Legal, Balanced}
 use Rattle.model.specs.Refusals.{Check, report, clear, accepted, bad-ports, bad-slots, bad-matrix, bad-frame, overload, levels, admitted}
 use Rattle.model.specs.Rules.{Scheduled}

@@ -8,7 +8,7 @@ use native.Mathlib.Omega.{arith}
 use lib.Pow.{pow-pos}
 use lib.ListN.{length, length-append, replicate}
 use Rattle.model.specs.Words.{Near, Every}
-use Rattle.model.specs.Loads.{Class, Of, load}
+use Rattle.model.specs.Flows.{Class, Of, load}
 use Rattle.model.specs.Frames.{cells, runOf, Legal, Balanced}
 use Rattle.model.specs.Build.{buildAccepts, left}
 use Rattle.model.specs.Wire.{Call, Carried, Last, none, last, carry, next, chain, wire, inside, share, Shape, Accurate, Demand3, deviation, NearShare, SharpRun, SharpOn, Sharp}

@@ -11,7 +11,7 @@ use lib.ListN.{getD}
 use lib.Pow.{pow-pos}
 use borrow.Author.Tests.{lt-ltb, le-ltb, ltb-true, ltb-false, eq-eqb, eqb-true, not-false}
 use Rattle.model.specs.Words.{first}
-use Rattle.model.specs.Loads.{pair, output, load}
+use Rattle.model.specs.Flows.{pair, output, load}
 use Rattle.model.specs.Frames.{cells, runOf, Block, Balanced}
 use Rattle.model.specs.Refusals.{Check, levels}
 use Rattle.model.specs.Inspect.{firstPlace, tooLarge, twiceIn, usedTwice, wrongCount, unbalancedNumber, firstAt, unbalancedAt, byteTooLarge, outputTwice, pairCount, unbalancedBlock}

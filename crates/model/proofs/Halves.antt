@@ -12,7 +12,7 @@ use lib.Dec.{eqb}
 use lib.ListN.{length, getD}
 use borrow.Author.Tests.{eq-eqb, ne-eqb}
 use Rattle.model.specs.Words.{if, both, bit, Near, sumTo, Every}
-use Rattle.model.specs.Loads.{Class, pair, input, output, total, Of, countOf, load, Fits}
+use Rattle.model.specs.Flows.{Class, pair, input, output, total, Of, countOf, load, Fits}
 use Rattle.model.specs.Rules.{Side, inputs, outputs, portOf, odd, oddsAt, Partners, these, later, favoursFirst, Split}
 use Rattle.model.specs.Schedule.{favouring, favours, halfOf}
 use Rattle.model.proofs.Cases.{byBool}

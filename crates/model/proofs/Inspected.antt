@@ -9,7 +9,7 @@ use lib.Arith.{digits-div, digits-mod, digits-lt}
 use lib.Dec.{leb}
 use borrow.Author.Tests.{leb-true, le-leb}
 use Rattle.model.specs.Words.{both, near, Near, upFrom}
-use Rattle.model.specs.Loads.{Class, pair, input, output, total, Of}
+use Rattle.model.specs.Flows.{Class, pair, input, output, total, Of}
 use Rattle.model.specs.Frames.{cells, runOf}
 use Rattle.model.specs.Inspect.{classes, all, unbalanced}
 use Rattle.model.proofs.Cases.{byBool, byEq, both-true}

@@ -7,7 +7,7 @@ use native.Mathlib.Omega.{arith}
 use lib.Pow.{pow-pos, pow-add}
 use lib.ListN.{length}
 use Rattle.model.specs.Words.{Every}
-use Rattle.model.specs.Loads.{load}
+use Rattle.model.specs.Flows.{load}
 use Rattle.model.specs.Frames.{cells, runOf}
 use Rattle.model.specs.Wire.{Carried, none, chain, wire, Shape, deviation}
 use Rattle.model.specs.Wait.{HasAtLeast, byDemand3, bySharp, longest}

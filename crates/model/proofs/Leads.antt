@@ -9,7 +9,7 @@ use lib.IntN.{pos, _-ℤ_, natAbs}
 use lib.ListN.{length}
 use lib.Pow.{pow-pos}
 use Rattle.model.specs.Words.{Near}
-use Rattle.model.specs.Loads.{Class, Of, load}
+use Rattle.model.specs.Flows.{Class, Of, load}
 use Rattle.model.specs.Frames.{cells, runOf, Legal, Balanced}
 use Rattle.model.specs.Refusals.{clear}
 use Rattle.model.specs.Build.{left}

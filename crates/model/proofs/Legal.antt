@@ -9,7 +9,7 @@ use lib.Dec.{eqb}
 use lib.ListN.{length, getD}
 use borrow.Author.Tests.{eq-eqb, ne-eqb}
 use Rattle.model.specs.Words.{both, bit, sumTo}
-use Rattle.model.specs.Loads.{Class, pair, input, output, total, Of, load}
+use Rattle.model.specs.Flows.{Class, pair, input, output, total, Of, load}
 use Rattle.model.specs.Frames.{cells, Legal}
 use Rattle.model.proofs.Cases.{byBool, byEq}
 use Rattle.model.proofs.Sums.{sum-ext, sum-zero, sum-one, sum-swap, sum-rows}

@@ -10,7 +10,7 @@ use lib.ListN.{length, getD, set, take, drop, replicate, length-append, length-s
 use lib.Seq.{getD-take, getD-drop, drop-drop, set-out, getD-set-same, getD-set-other}
 use borrow.Author.Tests.{eq-eqb, ne-eqb, eqb-false, le-leb, lt-leb, leb-true, ltb-false, not-true, not-false}
 use Rattle.model.specs.Words.{if, both, bit, within, sumTo, Every}
-use Rattle.model.specs.Loads.{Class, input, output, load, Fits}
+use Rattle.model.specs.Flows.{Class, input, output, load, Fits}
 use Rattle.model.specs.Frames.{cells, runOf, Legal}
 use Rattle.model.specs.Refusals.{Check, report, clear, bad-ports, bad-slots, levels, lowestAbove, overload}
 use Rattle.model.specs.Schedule.{frameOf}

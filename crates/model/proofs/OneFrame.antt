@@ -8,7 +8,7 @@ use native.Mathlib.Nat.{two-pow-succ}
 use lib.ListN.{length, getD, length-append, List·getD-append}
 use lib.Seq.{getD-append-add}
 use Rattle.model.specs.Words.{Near}
-use Rattle.model.specs.Loads.{Class, pair, output, Of, Fits}
+use Rattle.model.specs.Flows.{Class, pair, output, Of, Fits}
 use Rattle.model.specs.Frames.{cells, runOf, Legal, Block, Balanced}
 use Rattle.model.specs.Rules.{portOf, Split, Slot, Scheduled}
 use Rattle.model.specs.Schedule.{halfOf, frameOf}

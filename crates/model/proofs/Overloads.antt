@@ -7,7 +7,7 @@ use native.Mathlib.Omega.{arith}
 use native.Mathlib.Numerals.{add-one}
 use lib.Dec.{ltb}
 use borrow.Author.Tests.{lt-ltb, le-ltb, ltb-true, ltb-false}
-use Rattle.model.specs.Loads.{Class, load}
+use Rattle.model.specs.Flows.{Class, load}
 use Rattle.model.specs.Refusals.{Check, report, lowestAbove, aboveSlots, overload}
 use Rattle.model.proofs.Cases.{byBool, byLt}
 use Rattle.model.proofs.Searches.{first-found, first-before, first-is, first-none}

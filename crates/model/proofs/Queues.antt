@@ -9,7 +9,7 @@ use lib.IntN.{pos, negℤ}
 use lib.ListN.{length}
 use lib.Signed.{_≤ℤ_}
 use Rattle.model.specs.Words.{sumTo, Every}
-use Rattle.model.specs.Loads.{Class, Of, load}
+use Rattle.model.specs.Flows.{Class, Of, load}
 use Rattle.model.specs.Frames.{cells, runOf}
 use Rattle.model.specs.Service.{repeated, lead}
 use Rattle.model.specs.Wire.{Carried, none, chain, wire, inside, share, Shape, deviation}

@@ -7,7 +7,7 @@ use mathlib.Core.List.{List, [], _∷_, _++_}
 use native.Mathlib.Omega.{arith}
 use lib.ListN.{length, replicate, length-replicate}
 use Rattle.model.specs.Words.{sumTo, Near, Every}
-use Rattle.model.specs.Loads.{Class, Of, load}
+use Rattle.model.specs.Flows.{Class, Of, load}
 use Rattle.model.specs.Frames.{cells, runOf}
 use Rattle.model.specs.Schedule.{slotOf, frameOf}
 use Rattle.model.specs.Wire.{Call, Carried, none, chain, wire, inside, share, Shape, deviation}

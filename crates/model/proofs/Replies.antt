@@ -9,7 +9,7 @@ use lib.IntN.{ℤ, pos}
 use lib.ListN.{getD}
 use borrow.Author.Tests.{not-true, not-false}
 use Rattle.model.specs.Words.{if, within}
-use Rattle.model.specs.Loads.{Of}
+use Rattle.model.specs.Flows.{Of}
 use Rattle.model.specs.Frames.{cells}
 use Rattle.model.specs.Refusals.{Check, report, clear, bad-ports, bad-slots, bad-frame, bad-slot}
 use Rattle.model.specs.Service.{classOf, portsWithin, bad-who, repeated, lead, Reply, countChecks, service}

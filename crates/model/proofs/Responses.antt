@@ -8,7 +8,7 @@ use native.Mathlib.Omega.{arith}
 use lib.ListN.{length-set, length-replicate, length, getD, set, replicate}
 use borrow.Author.Tests.{eq-eqb, not-false, ne-eqb}
 use Rattle.model.specs.Words.{within}
-use Rattle.model.specs.Loads.{output, load, input}
+use Rattle.model.specs.Flows.{output, load, input}
 use Rattle.model.specs.Refusals.{Check, report, overload}
 use Rattle.model.specs.Schedule.{frameOf}
 use Rattle.model.specs.Sheet.{printFrame, digits, portsLine, slotsLine, pairLine, lines, bad-port, bad-pair, Asked, loads, readPairs, readPorts, readSheet, response}

@@ -8,7 +8,7 @@ use lib.Dec.{ltb}
 use lib.ListN.{length}
 use borrow.Author.Tests.{le-ltb, lt-ltb}
 use Rattle.model.specs.Words.{if, sumTo, Every}
-use Rattle.model.specs.Loads.{Class, Of}
+use Rattle.model.specs.Flows.{Class, Of}
 use Rattle.model.specs.Wire.{Carried, none, chain, wire, share, deviation}
 use Rattle.model.specs.Queue.{waiting, scheduledOn, arrived, Paced}
 use Rattle.model.specs.Row.{sent, Sends, Hop, framesAt, scheduledAt, Reserved, onward, HeldAlong, Row}

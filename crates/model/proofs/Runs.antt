@@ -7,7 +7,7 @@ use native.Mathlib.Omega.{arith}
 use native.Mathlib.Nat.{mod-eq-of-lt, add-mul-mod-self-right, mul-le-mul-right, div-add-mod', add-mod-left, mod-add-mod, mod-lt}
 use lib.ListN.{length, length-append, getD, drop, length-take}
 use Rattle.model.specs.Words.{bit, sumTo}
-use Rattle.model.specs.Loads.{Class}
+use Rattle.model.specs.Flows.{Class}
 use Rattle.model.specs.Frames.{counts, cells, runOf}
 use Rattle.model.specs.Service.{repeated}
 use Rattle.model.proofs.Cases.{byBool}

@@ -12,7 +12,7 @@ use lib.ListN.{length, getD, set, replicate, length-set, length-replicate}
 use lib.Seq.{getD-set-same, getD-set-other, ext-getD}
 use borrow.Author.Tests.{eqb-true, eq-eqb, ne-eqb}
 use Rattle.model.specs.Words.{both, bit, upFrom, keep, sumTo}
-use Rattle.model.specs.Loads.{Class, pair, input, output, total, Of, countOf, load, Fits}
+use Rattle.model.specs.Flows.{Class, pair, input, output, total, Of, countOf, load, Fits}
 use Rattle.model.specs.Frames.{counts, cells}
 use Rattle.model.specs.Rules.{odd, Slot}
 use Rattle.model.specs.Schedule.{put, slotOf}

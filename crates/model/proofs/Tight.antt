@@ -7,7 +7,7 @@ use mathlib.Core.List.{List, [], _∷_}
 use native.Mathlib.Omega.{arith}
 use lib.ListN.{length}
 use Rattle.model.specs.Words.{sumTo, Every}
-use Rattle.model.specs.Loads.{pair, load}
+use Rattle.model.specs.Flows.{pair, load}
 use Rattle.model.specs.Frames.{cells, runOf}
 use Rattle.model.specs.Schedule.{walk, settleAt, favours, slotOf, frameOf}
 use Rattle.model.specs.Build.{buildChecks}

@@ -7,7 +7,7 @@ use native.Mathlib.Nat.{mul-le-mul-left, div-lt-iff-lt-mul, lt-mul-div-succ, add
 use native.Mathlib.Omega.{arith}
 use lib.ListN.{length, getD, drop}
 use Rattle.model.specs.Words.{upFrom, sumTo, Every}
-use Rattle.model.specs.Loads.{Class, Of, load}
+use Rattle.model.specs.Flows.{Class, Of, load}
 use Rattle.model.specs.Frames.{cells, runOf}
 use Rattle.model.specs.Wire.{Carried, none, chain, wire, share, Shape}
 use Rattle.model.specs.Queue.{waiting, queue, scheduledOn, arrived}

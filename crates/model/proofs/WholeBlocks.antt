@@ -7,7 +7,7 @@ use native.Mathlib.Omega.{arith}
 use lib.Pow.{pow-pos, pow-add}
 use lib.ListN.{length}
 use Rattle.model.specs.Words.{Every}
-use Rattle.model.specs.Loads.{Class, Of}
+use Rattle.model.specs.Flows.{Class, Of}
 use Rattle.model.specs.Frames.{cells, runOf, Balanced, Block}
 use Rattle.model.specs.Wire.{Carried, none, chain, wire, Shape}
 use Rattle.model.specs.Wait.{HasAtLeast, BlocksOn, BlockWait}

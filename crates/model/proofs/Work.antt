@@ -12,7 +12,7 @@ use lib.Pow.{pow-pos}
 use lib.ListN.{length, getD, replicate, length-append, length-replicate, getD-replicate}
 use borrow.Author.Tests.{eq-eqb, ne-eqb}
 use Rattle.model.specs.Words.{both, bit, Near, sumTo}
-use Rattle.model.specs.Loads.{pair, total, load, Fits}
+use Rattle.model.specs.Flows.{pair, total, load, Fits}
 use Rattle.model.specs.Frames.{counts, cells, runOf, Legal, Block}
 use Rattle.model.specs.Refusals.{levels}
 use Rattle.model.specs.Rules.{Side, inputs, outputs, portOf, Split, Scheduled}

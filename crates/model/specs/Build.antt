@@ -1,32 +1,29 @@
--- Build: its answer, and the bytes that it leaves.
+-- Build: its answer, and the entries that it leaves.
 use Prim.Native.Nat.{ℕ}
-use mathlib.Core.List.{List, [], _∷_}
+use mathlib.Core.List.{List, [], _∷_, _++_}
 use mathlib.Core.Bool.{Bool}
 use Rattle.model.specs.Words.{if}
-use Rattle.model.specs.Loads.{input, output}
-use Rattle.model.specs.Refusals.{Check, report, clear, refusal, bad-ports, bad-slots, bad-matrix, bad-frame, overload, levels}
+use Rattle.model.specs.Flows.{portOf, countsOf}
+use Rattle.model.specs.Refusals.{Check, report, clear, refusal, listChecks, bad-frame, overloads, levels}
 use Rattle.model.specs.Schedule.{frameOf}
 use Rattle.model.specs.Work.{work}
 use Rattle.model.specs.declared.Built.{Built}
 use Rattle.model.specs.declared.Built.the-variants.{Accepted, Refused}
 
--- Build: 1, 2, 3, 4, 5, 6.
+-- Build: 1, 2, 3, 21, 22, 4, 5, 6.
 unfoldable pub buildChecks : ℕ → ℕ → List ℕ → List ℕ → List Check
-buildChecks ports slots matrix buffer =
-    bad-ports ports
-    ∷ bad-slots slots
-    ∷ bad-matrix ports matrix
-    ∷ bad-frame ports slots buffer
-    ∷ overload 5 input ports slots matrix
-    ∷ overload 6 output ports slots matrix
-    ∷ []
+buildChecks ports slots list buffer = listChecks ports slots list ++ (bad-frame ports slots buffer ∷ overloads ports slots list)
 
 abbrev pub buildAccepts : ℕ → ℕ → List ℕ → List ℕ → Bool
-buildAccepts ports slots matrix buffer = clear (buildChecks ports slots matrix buffer)
+buildAccepts ports slots list buffer = clear (buildChecks ports slots list buffer)
 
--- The bytes that Build leaves: the rules' frame where it accepts, and the bytes that it was lent where it refuses.
+-- The rules' frame of a list.
+abbrev pub frameFor : ℕ → ℕ → List ℕ → List ℕ
+frameFor ports slots list = frameOf ports (portOf list) (levels slots) (countsOf list)
+
+-- The entries that Build leaves: the rules' frame where it accepts, and those that it was lent where it refuses.
 abbrev pub left : ℕ → ℕ → List ℕ → List ℕ → List ℕ
-left ports slots matrix buffer = if (buildAccepts ports slots matrix buffer) (frameOf ports (levels slots) matrix) buffer
+left ports slots list buffer = if (buildAccepts ports slots list buffer) (frameFor ports slots list) buffer
 
 -- An answer as numbers: acceptance's is 0 and then the odd counts settled, a refusal's its own numbers.
 abbrev pub outcome : Built → List ℕ
@@ -35,7 +32,7 @@ outcome (Refused r) = refusal r
 
 -- Build's acceptance: the odd counts settled are those of the frame that it leaves.
 abbrev pub acceptance : ℕ → ℕ → List ℕ → List ℕ → List ℕ
-acceptance ports slots matrix buffer = 0 ∷ work ports slots (left ports slots matrix buffer) ∷ []
+acceptance ports slots list buffer = 0 ∷ work ports slots list (left ports slots list buffer) ∷ []
 
 abbrev pub built : ℕ → ℕ → List ℕ → List ℕ → List ℕ
-built ports slots matrix buffer = report (buildChecks ports slots matrix buffer) (acceptance ports slots matrix buffer)
+built ports slots list buffer = report (buildChecks ports slots list buffer) (acceptance ports slots list buffer)

@@ -4,34 +4,34 @@ use mathlib.Core.Path.{_≡_}
 use mathlib.Core.List.{List}
 use mathlib.Core.Bool.{true}
 use lib.IntN.{pos, _-ℤ_, natAbs}
-use Rattle.model.specs.Loads.{Class, Of, load}
+use Rattle.model.specs.Flows.{Class, Of, load}
 use Rattle.model.specs.Frames.{cells}
 use Rattle.model.specs.Build.{buildAccepts, left}
 use Rattle.model.specs.Service.{repeated, lead, service}
 use Rattle.model.specs.Wire.{deviation}
 use Rattle.model.specs.declared.Who.{Who}
 
--- The lead of a run of a frame of 2 ^ k slots and a load, the frame repeating for ever.
-pub record Led (c : Class) (ports slots k : ℕ) (matrix bytes : List ℕ) (start len : ℕ) : Type 0 where
+-- The lead of a run of a frame of 2 ^ k slots and a list, the frame repeating for ever.
+pub record Led (c : Class) (ports slots k : ℕ) (list entries : List ℕ) (start len : ℕ) : Type 0 where
   -- Three times its distance from zero is at most (2k + 1) × slots,
-  pub near : 3 * natAbs (lead c ports slots bytes start len) ≤ (2 * k + 1) * slots
+  pub near : 3 * natAbs (lead c ports slots list entries start len) ≤ (2 * k + 1) * slots
   -- and, by the sharp bound, which is never more, the distance is at most two deviations.
-  pub sharp : natAbs (lead c ports slots bytes start len) ≤ 2 * deviation k
+  pub sharp : natAbs (lead c ports slots list entries start len) ≤ 2 * deviation k
   -- What one frame holds is what was reserved, and slots × the share of a run is its length × the load: so the lead is
   -- slots × (cells − share).
-  pub from-share : lead c ports slots bytes start len ≡ pos (slots * cells c ports (repeated ports slots bytes start len)) -ℤ pos (len * load c ports matrix)
+  pub from-share : lead c ports slots list entries start len ≡ pos (slots * cells c ports list (repeated ports slots entries start len)) -ℤ pos (len * load c list)
   -- Whole turns of the frame, none too, are neither ahead nor behind.
-  pub turns : (w : ℕ) → len ≡ w * slots → lead c ports slots bytes start len ≡ pos 0
+  pub turns : (w : ℕ) → len ≡ w * slots → lead c ports slots list entries start len ≡ pos 0
 
--- What an accepted Build leaves, counted with what Build was given: for every pair, input and output and for the total, from
+-- What an accepted Build leaves, counted with what Build was given: for every flow, input and output and for the total, from
 -- every slot on and for every length, of no limit.
 abbrev pub BuiltLead : Type 0
 BuiltLead =
-    (ports slots : ℕ) (matrix buffer : List ℕ) → buildAccepts ports slots matrix buffer ≡ true → (k : ℕ) → slots ≡ 2 ^ k
-    → (c : Class) → Of ports c → (start len : ℕ) → Led c ports slots k matrix (left ports slots matrix buffer) start len
+    (ports slots : ℕ) (list buffer : List ℕ) → buildAccepts ports slots list buffer ≡ true → (k : ℕ) → slots ≡ 2 ^ k
+    → (c : Class) → Of ports c → (start len : ℕ) → Led c ports slots k list (left ports slots list buffer) start len
 
 -- So Service count answers no lead farther from zero than that, whatever is asked of it.
 abbrev pub AnsweredLead : Type 0
 AnsweredLead =
-    (ports slots : ℕ) (matrix buffer : List ℕ) → buildAccepts ports slots matrix buffer ≡ true → (k : ℕ) → slots ≡ 2 ^ k
-    → (who : Who) (start len : ℕ) → 3 * natAbs (service ports slots (left ports slots matrix buffer) who start len .ahead) ≤ (2 * k + 1) * slots
+    (ports slots : ℕ) (list buffer : List ℕ) → buildAccepts ports slots list buffer ≡ true → (k : ℕ) → slots ≡ 2 ^ k
+    → (who : Who) (start len : ℕ) → 3 * natAbs (service ports slots list (left ports slots list buffer) who start len .ahead) ≤ (2 * k + 1) * slots

@@ -1,11 +1,12 @@
--- What a reader is asked to believe, one subject a page. Ports, slots and positions are numbered from 0 on these pages;
--- document 01's numbers, from 1, stand where an answer is given and in the bytes of a frame.
+-- What a reader is asked to believe, one subject a page. Ports, slots and flows are numbered from 0 on these pages;
+-- document 01's numbers, from 1, stand where an answer is given, in the entries of a frame and in the list.
 pub mod Words
-pub mod Loads
+pub mod Flows
 pub mod Frames
 pub mod Refusals
 pub mod Rules
 pub mod Schedule
+pub mod Pairs
 pub mod Work
 pub mod Build
 pub mod Budget

@@ -6,10 +6,10 @@ use lib.IntN.{pos, negℤ}
 use lib.ListN.{length, drop}
 use lib.Signed.{_≤ℤ_}
 use Rattle.model.specs.Words.{upFrom, sumTo, Every}
-use Rattle.model.specs.Loads.{Class, Of, load}
-use Rattle.model.specs.Frames.{cells, runOf}
+use Rattle.model.specs.Flows.{Class, Of, load}
+use Rattle.model.specs.Frames.{cells}
 use Rattle.model.specs.Service.{repeated, lead}
-use Rattle.model.specs.Wire.{Carried, wire, share, EveryChain, deviation}
+use Rattle.model.specs.Wire.{Carried, cellsAt, share, EveryChain, deviation}
 
 -- How many cells wait after the first t slots. The cells that arrive in a slot join before that slot's cell leaves, and a
 -- flow scheduled with none waiting sends nothing: what is taken away stops at 0.
@@ -22,10 +22,6 @@ waiting arrive scheduled (suc t) = waiting arrive scheduled t + arrive t - sched
 unfoldable pub queue : (ℕ → ℕ) → (ℕ → ℕ) → ℕ → List ℕ
 queue arrive scheduled zero = []
 queue arrive scheduled (suc t) = drop (scheduled t) (queue arrive scheduled t ++ upFrom (sumTo t arrive) (arrive t))
-
--- The cells that a chain schedules for a flow in slot t.
-abbrev pub scheduledOn : Class → ℕ → List Carried → ℕ → ℕ
-scheduledOn c ports frames t = cells c ports (runOf ports t 1 (wire frames))
 
 -- The cells that arrive in a run of len slots from slot start on.
 unfoldable pub arrived : (ℕ → ℕ) → ℕ → ℕ → ℕ
@@ -42,11 +38,11 @@ pub record Held (k a : ℕ) (shareOf : ℕ → ℕ → ℕ) (arrive scheduled : 
   pub after : 2 ^ k * waiting arrive scheduled (suc t) ≤ a + 2 * deviation k
   pub before : 2 ^ k * (waiting arrive scheduled t + arrive t) ≤ a + 2 * deviation k + shareOf t 1
 
--- A flow that is paced by its share is held, in every slot of the chain.
-abbrev pub HeldOn : Class → ℕ → ℕ → List Carried → (ℕ → ℕ → ℕ) → Type 0
-HeldOn c ports k frames shareOf =
+-- A flow that is paced by its share is held, in every slot of the chain; what a chain schedules for it in a slot is its cells there.
+abbrev pub HeldOn : Class → ℕ → List Carried → (ℕ → ℕ → ℕ) → Type 0
+HeldOn c k frames shareOf =
     (a : ℕ) (arrive : ℕ → ℕ) → Paced k a (length frames * 2 ^ k) shareOf arrive → (t : ℕ) → t < length frames * 2 ^ k
-    → Held k a shareOf arrive (scheduledOn c ports frames) t
+    → Held k a shareOf arrive (cellsAt c frames) t
 
 -- How deep a buffer to order: for every chain that demand 3 covers in which the flow's load is m in every frame, the share
 -- of L slots being L × m / 2 ^ k.
@@ -54,23 +50,23 @@ abbrev pub Buffers : Type 0
 Buffers =
     EveryChain
     (λ ports k frames.
-    (c : Class) → Of ports c → (m : ℕ) → Every (λ f. load c ports (f .call .matrix) ≡ m) frames → HeldOn c ports k frames (λ start len. len * m))
+    (c : Class) → Of ports c → (m : ℕ) → Every (λ f. load c (f .call .list) ≡ m) frames → HeldOn c k frames (λ start len. len * m))
 
 -- The same where the flow's load changes at a seam: its share is then demand 3's, each slot counted with its own frame's load.
 abbrev pub BuffersAtSeams : Type 0
-BuffersAtSeams = EveryChain (λ ports k frames. (c : Class) → Of ports c → HeldOn c ports k frames (share c 0 frames))
+BuffersAtSeams = EveryChain (λ ports k frames. (c : Class) → Of ports c → HeldOn c k frames (share c 0 frames))
 
--- What waits on one frame that repeats for ever, of any bytes, by the frame's own leads: after a slot at most a + b parts of
+-- What waits on one frame that repeats for ever, of any entries, by the frame's own leads: after a slot at most a + b parts of
 -- 1 / slots of a cell, and just before its cell leaves at most the cells of a frame more.
-pub record HeldBy (c : Class) (ports slots : ℕ) (bytes : List ℕ) (a b : ℕ) (arrive : ℕ → ℕ) (t : ℕ) : Type 0 where
-  pub after : slots * waiting arrive (λ s. cells c ports (repeated ports slots bytes s 1)) (suc t) ≤ a + b
-  pub before : slots * (waiting arrive (λ s. cells c ports (repeated ports slots bytes s 1)) t + arrive t) ≤ a + b + cells c ports bytes
+pub record HeldBy (c : Class) (ports slots : ℕ) (list entries : List ℕ) (a b : ℕ) (arrive : ℕ → ℕ) (t : ℕ) : Type 0 where
+  pub after : slots * waiting arrive (λ s. cells c ports list (repeated ports slots entries s 1)) (suc t) ≤ a + b
+  pub before : slots * (waiting arrive (λ s. cells c ports list (repeated ports slots entries s 1)) t + arrive t) ≤ a + b + cells c ports list entries
 
 -- How deep a buffer to order while one frame repeats: no run's lead is below −b, and in no run do more cells arrive than its
 -- share of what the frame holds and an allowance a.
 abbrev pub BuffersByLead : Type 0
 BuffersByLead =
-    (c : Class) (ports slots : ℕ) (bytes : List ℕ) → length bytes ≡ slots * ports → 1 ≤ slots
-    → (b : ℕ) → ((start len : ℕ) → negℤ (pos b) ≤ℤ lead c ports slots bytes start len)
-    → (a : ℕ) (arrive : ℕ → ℕ) → ((start len : ℕ) → slots * arrived arrive start len ≤ len * cells c ports bytes + a)
-    → (t : ℕ) → HeldBy c ports slots bytes a b arrive t
+    (c : Class) (ports slots : ℕ) (list entries : List ℕ) → length entries ≡ slots * ports → 1 ≤ slots
+    → (b : ℕ) → ((start len : ℕ) → negℤ (pos b) ≤ℤ lead c ports slots list entries start len)
+    → (a : ℕ) (arrive : ℕ → ℕ) → ((start len : ℕ) → slots * arrived arrive start len ≤ len * cells c ports list entries + a)
+    → (t : ℕ) → HeldBy c ports slots list entries a b arrive t

@@ -1,13 +1,13 @@
--- Refusals 1 to 13: each condition with its number and what it carries, and the number and values of each answer.
-use Prim.Native.Nat.{ℕ, suc, _*_, _^_}
-use mathlib.Core.List.{List, [], _∷_}
+-- Refusals 1 to 13, 21 and 22: each condition with its number and what it carries, and the number and values of each answer.
+use Prim.Native.Nat.{ℕ, suc, _*_, _%_, _^_}
+use mathlib.Core.List.{List, [], _∷_, _++_}
 use mathlib.Core.Bool.{Bool, true, not}
 use lib.Dec.{eqb, ltb}
 use lib.ListN.{length}
 use Rattle.model.specs.Words.{if, both, within, first}
-use Rattle.model.specs.Loads.{Class, input, output, load}
+use Rattle.model.specs.Flows.{stride, flows, numberOf, inputs, outputs, placeOf, Class, input, output, load}
 use Rattle.model.specs.declared.Refusal.{Refusal}
-use Rattle.model.specs.declared.Refusal.the-variants.{Ports, Slots, MatrixLength, FrameLength, InputLoad, OutputLoad, LineForm, LinePort, LinePair, SheetLength, SlotNumber, PortNumber, RunLength}
+use Rattle.model.specs.declared.Refusal.the-variants.{Ports, Slots, ListLength, FrameLength, InputLoad, OutputLoad, LineForm, LinePort, SheetLength, SlotNumber, FlowOrPort, RunLength, TooManyFlows, FlowPort}
 use Rattle.model.specs.declared.Answer.{Answer}
 use Rattle.model.specs.declared.Answer.the-variants.{Accepted, Refused}
 
@@ -15,17 +15,18 @@ use Rattle.model.specs.declared.Answer.the-variants.{Accepted, Refused}
 abbrev pub refusal : Refusal → List ℕ
 refusal Ports = 1 ∷ []
 refusal Slots = 2 ∷ []
-refusal MatrixLength = 3 ∷ []
+refusal ListLength = 3 ∷ []
 refusal FrameLength = 4 ∷ []
 refusal (InputLoad port cells) = 5 ∷ port ∷ cells ∷ []
 refusal (OutputLoad port cells) = 6 ∷ port ∷ cells ∷ []
 refusal (LineForm line) = 7 ∷ line ∷ []
 refusal (LinePort line) = 8 ∷ line ∷ []
-refusal (LinePair line) = 9 ∷ line ∷ []
 refusal SheetLength = 10 ∷ []
 refusal SlotNumber = 11 ∷ []
-refusal PortNumber = 12 ∷ []
+refusal FlowOrPort = 12 ∷ []
 refusal RunLength = 13 ∷ []
+refusal TooManyFlows = 21 ∷ []
+refusal FlowPort = 22 ∷ []
 
 abbrev pub accepted : List ℕ
 accepted = 0 ∷ []
@@ -60,13 +61,28 @@ levels slots = first (λ k. eqb slots (2 ^ k)) 0 11
 abbrev pub bad-slots : ℕ → Check
 bad-slots slots = (eqb (levels slots) 11, 2 ∷ [])
 
--- 3: matrix length not ports × ports.
-abbrev pub bad-matrix : ℕ → List ℕ → Check
-bad-matrix ports matrix = (not (eqb (length matrix) (ports * ports)), 3 ∷ [])
+-- 3: the list's length is not a whole number of flows.
+abbrev pub bad-list : List ℕ → Check
+bad-list list = (not (eqb (length list % stride) 0), 3 ∷ [])
+
+-- 21: more than 512 flows.
+abbrev pub bad-flows : List ℕ → Check
+bad-flows list = (ltb 512 (flows list), 21 ∷ [])
+
+-- 22: a flow's input or output outside 1 to ports.
+abbrev pub portsWithin : ℕ → List ℕ → ℕ → Bool
+portsWithin ports list f = both (within 1 ports (numberOf (placeOf inputs) list f)) (within 1 ports (numberOf (placeOf outputs) list f))
+
+abbrev pub bad-flow : ℕ → List ℕ → Check
+bad-flow ports list = (ltb (first (λ f. not (portsWithin ports list f)) 0 (flows list)) (flows list), 22 ∷ [])
+
+-- What is tried first wherever a list is taken: 1, 2, 3, 21, 22.
+abbrev pub listChecks : ℕ → ℕ → List ℕ → List Check
+listChecks ports slots list = bad-ports ports ∷ bad-slots slots ∷ bad-list list ∷ bad-flows list ∷ bad-flow ports list ∷ []
 
 -- 4: frame length not slots × ports.
 abbrev pub bad-frame : ℕ → ℕ → List ℕ → Check
-bad-frame ports slots bytes = (not (eqb (length bytes) (slots * ports)), 4 ∷ [])
+bad-frame ports slots entries = (not (eqb (length entries) (slots * ports)), 4 ∷ [])
 
 -- The lowest of so many ports whose load is above slots; their number where there is none.
 abbrev pub lowestAbove : ℕ → ℕ → (ℕ → ℕ) → ℕ
@@ -80,20 +96,15 @@ aboveSlots number ports slots loads =
 
 -- 5, for inputs, and 6, for outputs: a port's load is above slots. Carries the lowest such port and its load.
 abbrev pub overload : ℕ → (ℕ → Class) → ℕ → ℕ → List ℕ → Check
-overload number kind ports slots matrix = aboveSlots number ports slots (λ x. load (kind x) ports matrix)
+overload number kind ports slots list = aboveSlots number ports slots (λ x. load (kind x) list)
+
+abbrev pub overloads : ℕ → ℕ → List ℕ → List Check
+overloads ports slots list = overload 5 input ports slots list ∷ overload 6 output ports slots list ∷ []
 
 -- 11: slot or start outside 1 to slots.
 abbrev pub bad-slot : ℕ → ℕ → Check
 bad-slot slots slot = (not (within 1 slots slot), 11 ∷ [])
 
--- Admit: 1, 2, 3, 5, 6.
+-- Admit: 1, 2, 3, 21, 22, 5, 6.
 unfoldable pub admitted : ℕ → ℕ → List ℕ → List ℕ
-admitted ports slots matrix =
-    report (
-    bad-ports ports
-    ∷ bad-slots slots
-    ∷ bad-matrix ports matrix
-    ∷ overload 5 input ports slots matrix
-    ∷ overload 6 output ports slots matrix
-    ∷ []
-    ) accepted
+admitted ports slots list = report (listChecks ports slots list ++ overloads ports slots list) accepted

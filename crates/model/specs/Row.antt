@@ -5,9 +5,9 @@ use mathlib.Core.List.{List, [], _∷_}
 use lib.Dec.{ltb}
 use lib.ListN.{length}
 use Rattle.model.specs.Words.{if, Every}
-use Rattle.model.specs.Loads.{Class, Of, load}
-use Rattle.model.specs.Wire.{Call, Carried, none, chain, share, Shape, EveryChain, deviation}
-use Rattle.model.specs.Queue.{waiting, scheduledOn, Paced, Held}
+use Rattle.model.specs.Flows.{Class, Of, load}
+use Rattle.model.specs.Wire.{Call, Carried, none, chain, cellsAt, share, Shape, EveryChain, deviation}
+use Rattle.model.specs.Queue.{waiting, Paced, Held}
 
 -- What a switch sends of a flow in slot t: as many of the cells that wait, and of those that arrive in the slot, as are scheduled.
 abbrev pub sent : (ℕ → ℕ) → (ℕ → ℕ) → ℕ → ℕ
@@ -19,7 +19,7 @@ Sends =
     EveryChain
     (λ ports k frames.
     (c : Class) → Of ports c → (arrive : ℕ → ℕ)
-    → Paced k (2 * deviation k) (length frames * 2 ^ k) (share c 0 frames) (sent arrive (scheduledOn c ports frames)))
+    → Paced k (2 * deviation k) (length frames * 2 ^ k) (share c 0 frames) (sent arrive (cellsAt c frames)))
 
 -- A switch of the row: its frame buffer and its list of Build calls, its ports, the flow as it is counted there, and how many
 -- slots later what it sends is at the next switch.
@@ -35,13 +35,13 @@ framesAt h = chain none (h .buffer) (h .calls)
 
 -- What its frames schedule for the flow; after the last of them, nothing.
 abbrev pub scheduledAt : Hop → ℕ → ℕ
-scheduledAt h = scheduledOn (h .flow) (h .ports) (framesAt h)
+scheduledAt h = cellsAt (h .flow) (framesAt h)
 
 -- Its frames are as in demand 3, of 2 ^ k slots, and the flow's load is m in each of them.
 pub record Reserved (k m : ℕ) (h : Hop) : Type 0 where
   pub shape : Every (Shape (h .ports) (2 ^ k)) (framesAt h)
   pub flow-of : Of (h .ports) (h .flow)
-  pub steady : Every (λ f. load (h .flow) (h .ports) (f .call .matrix) ≡ m) (framesAt h)
+  pub steady : Every (λ f. load (h .flow) (f .call .list) ≡ m) (framesAt h)
 
 -- What comes to the switch after h in slot t: what h sent delay slots before, and nothing in the first delay slots.
 abbrev pub onward : Hop → (ℕ → ℕ) → ℕ → ℕ

@@ -1,26 +1,19 @@
 -- Rules 2 to 6 of the splitting, as stated; rule 1 is `Block` of Frames.
-use Prim.Native.Nat.{ℕ, suc, zero, _+_, _*_, _/_, _%_, _≤_, _<_}
+use Prim.Native.Nat.{ℕ, suc, zero, _+_, _*_, _%_, _≤_, _<_}
 use mathlib.Core.Path.{_≡_}
 use mathlib.Core.List.{List, _∷_, _++_}
 use mathlib.Core.Bool.{Bool, true, false, not}
 use lib.Dec.{eqb, ltb}
 use lib.ListN.{length, getD}
 use Rattle.model.specs.Words.{both, bit, upFrom, keep, Near}
-use Rattle.model.specs.Loads.{countOf}
+use Rattle.model.specs.Flows.{Side, inputs}
 
--- The two sides of a switch, and the port of a position of the matrix on each.
-pub data Side : Type 0 where
-  inputs : Side
-  outputs : Side
-
-abbrev pub portOf : ℕ → Side → ℕ → ℕ
-portOf ports inputs p = p / ports
-portOf ports outputs p = p % ports
+-- A block has a count for each flow, of which the port on each side is given; an odd one is named by its flow.
 
 abbrev pub odd : List ℕ → ℕ → Bool
 odd m p = eqb (getD m p 0 % 2) 1
 
--- The odd counts of port x by rising position: at an input by rising output, at an output by rising input.
+-- The odd counts of port x, by rising flow number.
 abbrev pub oddsAt : (ℕ → ℕ) → List ℕ → ℕ → List ℕ
 oddsAt port m x = keep (λ p. both (odd m p) (eqb (port p) x)) (upFrom 0 (length m))
 
@@ -42,7 +35,7 @@ pub record Lists (n : ℕ) (P : ℕ → Type 0) (l : List ℕ) : Type 0 where
   pub no : (q : ℕ) → test q ≡ false → P q → ⊥
   pub listed : l ≡ keep test (upFrom 0 n)
 
--- A group is taken by its first count in matrix order, p; these are its counts, rising.
+-- A group is taken by its first count in the order of the flows, p; these are its counts, rising.
 pub record Group (port : Side → ℕ → ℕ) (m : List ℕ) (p : ℕ) (group : List ℕ) : Type 0 where
   pub odd-count : odd m p ≡ true
   pub first : (q : ℕ) → Joined port m p q → p ≤ q
@@ -63,7 +56,7 @@ favoursFirst a b p = ltb (getD b p 0) (getD a p 0)
 abbrev pub LargerShare : ℕ → ℕ → ℕ → Type 0
 LargerShare n all firsts = (n % 2 ≡ 1 → all < 2 * firsts) × (n % 2 ≡ 0 → 2 * firsts < all)
 
--- The counts m of a block, shared between its halves, a and b, over the port of each position on each side.
+-- The counts m of a block, shared between its halves, a and b, over the port of each flow on each side.
 pub record Split (port : Side → ℕ → ℕ) (m a b : List ℕ) : Type 0 where
   pub first-size : length a ≡ length m
   pub second-size : length b ≡ length m
@@ -79,24 +72,24 @@ pub record Split (port : Side → ℕ → ℕ) (m a b : List ℕ) : Type 0 where
   pub odd-group : (p : ℕ) (group before : List ℕ) → Group port m p group → length group % 2 ≡ 1 → Lists p (OddGroup port m) before
       → LargerShare (suc (length before)) (length group) (length (keep (favoursFirst a b) group))
 
--- Rule 6: the counts of a block of one slot are the slot's cells.
-pub record Slot (ports : ℕ) (m bytes : List ℕ) : Type 0 where
-  pub size : length bytes ≡ ports
-  pub most : (i : ℕ) → i < ports → getD bytes i 0 ≤ ports
-  pub same : (i o : ℕ) → i < ports → o < ports → bit (eqb (getD bytes i 0) (suc o)) ≡ countOf ports m i o
+-- Rule 6: the counts of a block of one slot are the slot's cells. An entry that is not 0 is the number of a flow of its input.
+pub record Slot (ports : ℕ) (port : Side → ℕ → ℕ) (m entries : List ℕ) : Type 0 where
+  pub size : length entries ≡ ports
+  pub own : (i f : ℕ) → i < ports → getD entries i 0 ≡ suc f → (f < length m) × (port inputs f ≡ i)
+  pub same : (f : ℕ) → f < length m → bit (eqb (getD entries (port inputs f) 0) (suc f)) ≡ getD m f 0
 
--- A block that is halved: the rules on each half, which P says, give the bytes end to end.
-pub record Halved (ports : ℕ) (P : List ℕ → List ℕ → Type 0) (m bytes : List ℕ) : Type 0 where
+-- A block that is halved: the rules on each half, which P says, give the entries end to end.
+pub record Halved (port : Side → ℕ → ℕ) (P : List ℕ → List ℕ → Type 0) (m entries : List ℕ) : Type 0 where
   pub first : List ℕ
   pub second : List ℕ
   pub front : List ℕ
   pub back : List ℕ
-  pub split : Split (portOf ports) m first second
+  pub split : Split port m first second
   pub first-half : P first front
   pub second-half : P second back
-  pub joined : bytes ≡ front ++ back
+  pub joined : entries ≡ front ++ back
 
--- The bytes of a block of 2 ^ k slots meet rules 1 to 6 for the matrix m. The recursion goes down to single slots.
-unfoldable pub Scheduled : ℕ → ℕ → List ℕ → List ℕ → Type 0
-Scheduled ports zero m bytes = Slot ports m bytes
-Scheduled ports (suc k) m bytes = Halved ports (Scheduled ports k) m bytes
+-- The entries of a block of 2 ^ k slots meet rules 1 to 6 for the counts m. The recursion goes down to single slots.
+unfoldable pub Scheduled : ℕ → (Side → ℕ → ℕ) → ℕ → List ℕ → List ℕ → Type 0
+Scheduled ports port zero m entries = Slot ports port m entries
+Scheduled ports port (suc k) m entries = Halved port (Scheduled ports port k) m entries

@@ -5,7 +5,8 @@ use mathlib.Core.Bool.{Bool, true, false}
 use lib.Dec.{eqb}
 use lib.ListN.{length, getD, set, replicate}
 use Rattle.model.specs.Words.{if, both, bit, within, upFrom, keep, sumTo}
-use Rattle.model.specs.Rules.{Side, inputs, outputs, portOf, odd, oddsAt}
+use Rattle.model.specs.Flows.{Side, inputs, outputs}
+use Rattle.model.specs.Rules.{odd, oddsAt}
 
 -- The partner of p in a list, first with second, third with fourth, ..; a single one is its own.
 abbrev pub partnerIn : List ℕ → ℕ → ℕ
@@ -50,7 +51,7 @@ abbrev pub settle : (ℕ → ℕ) → (ℕ → ℕ) → List ℕ → List ℕ �
 settle i o m [] c = c
 settle i o m (p ∷ l) c = settle i o m l (settleAt i o m p c)
 
--- The half that each count favours, 0 for an even one: groups are settled by their first counts, in matrix order.
+-- The half that each count favours, 0 for an even one: groups are settled by their first counts, in the order of the flows.
 unfoldable pub favours : (Side → ℕ → ℕ) → List ℕ → List ℕ
 favours port m =
     settle (partner (port inputs) m) (partner (port outputs) m) m (upFrom 0 (length m)) (replicate (length m) 0)
@@ -64,20 +65,20 @@ halfBy h (x ∷ m) (y ∷ c) = (x / 2 + bit (eqb y h)) ∷ halfBy h m c
 abbrev pub halfOf : (Side → ℕ → ℕ) → ℕ → List ℕ → List ℕ
 halfOf port h m = halfBy h m (favours port m)
 
--- The cells of the positions of a list, written into a slot: at the input the output, numbered from 1.
-abbrev pub put : ℕ → List ℕ → List ℕ → List ℕ
-put ports [] slot = slot
-put ports (p ∷ l) slot = put ports l (set slot (p / ports) (p % ports + 1))
+-- The flows of a list, written into a slot: at each one's input its number, from 1.
+abbrev pub put : (Side → ℕ → ℕ) → List ℕ → List ℕ → List ℕ
+put port [] slot = slot
+put port (f ∷ l) slot = put port l (set slot (port inputs f) (suc f))
 
-unfoldable pub slotOf : ℕ → List ℕ → List ℕ
-slotOf ports m = put ports (keep (odd m) (upFrom 0 (length m))) (replicate ports 0)
+unfoldable pub slotOf : ℕ → (Side → ℕ → ℕ) → List ℕ → List ℕ
+slotOf ports port m = put port (keep (odd m) (upFrom 0 (length m))) (replicate ports 0)
 
--- The bytes of a block of 2 ^ k slots.
-unfoldable pub frameOf : ℕ → ℕ → List ℕ → List ℕ
-frameOf ports zero m = slotOf ports m
-frameOf ports (suc k) m =
-    let c = favours (portOf ports) m in
-    frameOf ports k (halfBy 1 m c) ++ frameOf ports k (halfBy 2 m c)
+-- The entries of a block of 2 ^ k slots.
+unfoldable pub frameOf : ℕ → (Side → ℕ → ℕ) → ℕ → List ℕ → List ℕ
+frameOf ports port zero m = slotOf ports port m
+frameOf ports port (suc k) m =
+    let c = favours port m in
+    frameOf ports port k (halfBy 1 m c) ++ frameOf ports port k (halfBy 2 m c)
 
 -- How many odd counts the splits settle, from a block of 2 ^ k slots down to those of two. A count is odd or not; one half gets
 -- its smaller half, the other its larger.

@@ -6,11 +6,11 @@ use Prim.Native.Char.{code}
 use mathlib.Core.List.{List, [], _∷_, _++_}
 use mathlib.Core.Bool.{Bool, true, false, not}
 use lib.Dec.{eqb, ltb, leb}
-use lib.ListN.{length, getD, set, replicate}
+use lib.ListN.{length, getD}
 use Rattle.model.specs.Words.{if, both, within}
-use Rattle.model.specs.Loads.{input, output}
-use Rattle.model.specs.Refusals.{Check, report, clear, bad-ports, bad-slots, levels, overload}
-use Rattle.model.specs.Schedule.{frameOf}
+use Rattle.model.specs.Flows.{flows}
+use Rattle.model.specs.Refusals.{Check, report, clear, bad-ports, bad-slots, overloads}
+use Rattle.model.specs.Build.{frameFor}
 
 -- The bytes of a text.
 abbrev pub text : String → List ℕ
@@ -72,15 +72,11 @@ bad-line number line form largest = (not (both (same line form) (leb largest 655
 abbrev pub bad-port : ℕ → ℕ → ℕ → ℕ → Check
 bad-port number ports i o = (not (both (within 1 ports i) (within 1 ports o)), 8 ∷ number ∷ [])
 
-abbrev pub has : ℕ → List ℕ → Bool
-has p [] = false
-has p (q ∷ l) = if (eqb p q) true (has p l)
+-- 21: a pair line after 512 of them. Printed without its line.
+abbrev pub bad-line-flow : List ℕ → Check
+bad-line-flow list = (leb 512 (flows list), 21 ∷ [])
 
--- 9: a pair line names a pair named on an earlier line. Carries the line number.
-abbrev pub bad-pair : ℕ → ℕ → List ℕ → Check
-bad-pair number p named = (has p named, 9 ∷ number ∷ [])
-
--- What a sheet asks for: ports, slots and a matrix; or its refusal.
+-- What a sheet asks for: ports, slots and a list; or its refusal.
 pub data Asked : Type 0 where
   loads : ℕ → ℕ → List ℕ → Asked
   refused : List ℕ → Asked
@@ -91,27 +87,26 @@ unless checks asked = if (clear checks) asked (refused (report checks []))
 abbrev pub most : ℕ → ℕ → ℕ
 most a b = if (leb a b) b a
 
--- The pair lines, the first of which has the number given: a pair not named has 0 cells, a pair may be named with 0.
-unfoldable pub readPairs : ℕ → ℕ → ℕ → List ℕ → List ℕ → List (List ℕ) → Asked
-readPairs ports slots number named matrix [] = loads ports slots matrix
-readPairs ports slots number named matrix (line ∷ ls) =
+-- The pair lines, the first of which has the number given, each one flow more of the list: on each 7, 21, 8.
+unfoldable pub readPairs : ℕ → ℕ → ℕ → List ℕ → List (List ℕ) → Asked
+readPairs ports slots number list [] = loads ports slots list
+readPairs ports slots number list (line ∷ ls) =
     let i = numberIn 0 line in
     let o = numberIn 1 line in
     let m = numberIn 2 line in
-    let p = (i - 1) * ports + (o - 1) in
     unless (
     bad-line number line (pairLine i o m) (most i (most o m))
+    ∷ bad-line-flow list
     ∷ bad-port number ports i o
-    ∷ bad-pair number p named
     ∷ []
-    ) (readPairs ports slots (suc number) (p ∷ named) (set matrix p m) ls)
+    ) (readPairs ports slots (suc number) (list ++ (i ∷ o ∷ m ∷ [])) ls)
 
 -- Line 2; a missing one is 7 at that line.
 abbrev pub readSlots : ℕ → List (List ℕ) → Asked
 readSlots ports [] = refused (7 ∷ 2 ∷ [])
 readSlots ports (line ∷ ls) =
     let slots = numberIn 0 line in
-    unless (bad-line 2 line (slotsLine slots) slots ∷ bad-slots slots ∷ []) (readPairs ports slots 3 [] (replicate (ports * ports) 0) ls)
+    unless (bad-line 2 line (slotsLine slots) slots ∷ bad-slots slots ∷ []) (readPairs ports slots 3 [] ls)
 
 -- Line 1; a missing one is 7 at that line.
 abbrev pub readPorts : List (List ℕ) → Asked
@@ -120,37 +115,35 @@ readPorts (line ∷ ls) =
     let ports = numberIn 0 line in
     unless (bad-line 1 line (portsLine ports) ports ∷ bad-ports ports ∷ []) (readSlots ports ls)
 
--- 10: the sheet is longer than 16,384 bytes.
+-- 10: the sheet is longer than 32,768 bytes.
 abbrev pub bad-sheet : List ℕ → Check
-bad-sheet bytes = (ltb 16384 (length bytes), 10 ∷ [])
+bad-sheet bytes = (ltb 32768 (length bytes), 10 ∷ [])
 
 -- Refusal 10 comes before all else; overload, 5 then 6, comes last.
-abbrev pub overloads : Asked → Asked
-overloads (refused r) = refused r
-overloads (loads ports slots matrix) =
-    unless (overload 5 input ports slots matrix ∷ overload 6 output ports slots matrix ∷ []) (loads ports slots matrix)
+abbrev pub overloaded : Asked → Asked
+overloaded (refused r) = refused r
+overloaded (loads ports slots list) = unless (overloads ports slots list) (loads ports slots list)
 
 unfoldable pub readSheet : List ℕ → Asked
-readSheet bytes = unless (bad-sheet bytes ∷ []) (overloads (readPorts (lines bytes)))
+readSheet bytes = unless (bad-sheet bytes ∷ []) (overloaded (readPorts (lines bytes)))
 
--- A slot's (input output) pairs by rising input, input at being the first of the bytes.
-abbrev pub printCells : ℕ → List ℕ → List ℕ
-printCells at [] = []
-printCells at (b ∷ bytes) =
-    if (eqb b 0) [] (text " (" ++ (decimal at ++ (text " " ++ (decimal b ++ text ")")))) ++ printCells (suc at) bytes
+-- A slot's flow numbers by rising input; an idle input has none.
+abbrev pub printCells : List ℕ → List ℕ
+printCells [] = []
+printCells (e ∷ entries) = if (eqb e 0) [] (text " " ++ decimal e) ++ printCells entries
 
--- The slots from number s on, a line each: its number and its cells.
+-- The slots from number s on, a line each: its number and its flows.
 unfoldable pub printSlots : ℕ → ℕ → ℕ → List ℕ → List ℕ
-printSlots ports s zero bytes = []
-printSlots ports s (suc n) bytes =
-    text "(slot " ++ (decimal s ++ (printCells 1 (lib.ListN.take ports bytes) ++ (text ")\n" ++ printSlots ports (suc s) n (lib.ListN.drop ports bytes))))
+printSlots ports s zero entries = []
+printSlots ports s (suc n) entries =
+    text "(slot " ++ (decimal s ++ (printCells (lib.ListN.take ports entries) ++ (text ")\n" ++ printSlots ports (suc s) n (lib.ListN.drop ports entries))))
 
 -- A frame is printed as its ports and slots, and then each slot.
 abbrev pub printFrame : ℕ → ℕ → List ℕ → List ℕ
-printFrame ports slots bytes =
-    text "(frame (ports " ++ (decimal ports ++ (text ") (slots " ++ (decimal slots ++ (text "))\n" ++ printSlots ports 1 slots bytes))))
+printFrame ports slots entries =
+    text "(frame (ports " ++ (decimal ports ++ (text ") (slots " ++ (decimal slots ++ (text "))\n" ++ printSlots ports 1 slots entries))))
 
--- A refusal is printed as its number, with the line for 7 to 9, and with port and cells for 5 and 6.
+-- A refusal is printed as its number, with the line for 7 and 8, and with port and cells for 5 and 6.
 abbrev pub printValues : List ℕ → List ℕ
 printValues [] = []
 printValues (line ∷ []) = text " (line " ++ (decimal line ++ text ")")
@@ -163,7 +156,7 @@ printRefusal (number ∷ values) = text "(refused " ++ (decimal number ++ (print
 -- The program's whole response.
 abbrev pub printed : Asked → List ℕ
 printed (refused r) = printRefusal r
-printed (loads ports slots matrix) = printFrame ports slots (frameOf ports (levels slots) matrix)
+printed (loads ports slots list) = printFrame ports slots (frameFor ports slots list)
 
 unfoldable pub response : List ℕ → List ℕ
 response bytes = printed (readSheet bytes)

@@ -3,9 +3,10 @@ use Prim.Native.Nat.{ℕ, suc, zero, _+_, _*_, _-_, _^_, _≤_, min, max}
 use mathlib.Core.Path.{_≡_}
 use mathlib.Core.List.{List, [], _∷_, _++_}
 use mathlib.Core.Bool.{Bool, true, false}
+use lib.Dec.{ltb}
 use lib.ListN.{length, replicate}
-use Rattle.model.specs.Words.{Near, Every}
-use Rattle.model.specs.Loads.{Class, Of, load}
+use Rattle.model.specs.Words.{if, sumTo, Near, Every}
+use Rattle.model.specs.Flows.{Class, Of, load}
 use Rattle.model.specs.Frames.{cells, runOf}
 use Rattle.model.specs.Build.{buildAccepts, left}
 
@@ -13,14 +14,14 @@ use Rattle.model.specs.Build.{buildAccepts, left}
 pub record Call : Type 0 where
   pub ports : ℕ
   pub slots : ℕ
-  pub matrix : List ℕ
+  pub list : List ℕ
   pub times : ℕ
 
--- One frame of the chain: the bytes of the buffer, and the last accepted call before it, whose ports, slots and matrix are
--- the frame's ports, slots and load.
+-- One frame of the chain: the entries of the buffer, and the last accepted call before it, whose ports, slots and list are the
+-- frame's ports, slots and load.
 pub record Carried : Type 0 where
   pub call : Call
-  pub bytes : List ℕ
+  pub entries : List ℕ
 
 -- The last accepted call; until a call has been accepted there is none, and nothing is carried.
 pub data Last : Type 0 where
@@ -29,7 +30,7 @@ pub data Last : Type 0 where
 
 abbrev pub carry : Last → List ℕ → ℕ → List Carried
 carry none buffer times = []
-carry (last call) buffer times = replicate times (record { call = call; bytes = buffer })
+carry (last call) buffer times = replicate times (record { call = call; entries = buffer })
 
 -- The last accepted call after one more, by whether that is accepted.
 abbrev pub next : Bool → Call → Last → Last
@@ -40,14 +41,22 @@ next false call before = before
 unfoldable pub chain : Last → List ℕ → List Call → List Carried
 chain before buffer [] = []
 chain before buffer (c ∷ calls) =
-    let now = next (buildAccepts (c .ports) (c .slots) (c .matrix) buffer) c before in
-    let after = left (c .ports) (c .slots) (c .matrix) buffer in
+    let now = next (buildAccepts (c .ports) (c .slots) (c .list) buffer) c before in
+    let after = left (c .ports) (c .slots) (c .list) buffer in
     carry now after (c .times) ++ chain now after calls
 
--- The frames end to end, first slot first.
-unfoldable pub wire : List Carried → List ℕ
-wire [] = []
-wire (f ∷ frames) = f .bytes ++ wire frames
+-- The frames stand end to end, first slot first. The cells of a class in slot t of them: those of that slot of its frame, counted
+-- with that frame's own list; beyond the last slot there are none.
+unfoldable pub cellsAt : Class → List Carried → ℕ → ℕ
+cellsAt c [] t = 0
+cellsAt c (f ∷ frames) t =
+    if (ltb t (f .call .slots))
+    (cells c (f .call .ports) (f .call .list) (runOf (f .call .ports) t 1 (f .entries)))
+    (cellsAt c frames (t - f .call .slots))
+
+-- The cells of a run of len slots from slot start on.
+unfoldable pub cellsIn : Class → List Carried → ℕ → ℕ → ℕ
+cellsIn c frames start len = sumTo len (λ t. cellsAt c frames (start + t))
 
 -- How many slots of the run, len slots from slot start on, are inside the frame of the slots low .. high - 1.
 abbrev pub inside : ℕ → ℕ → ℕ → ℕ → ℕ
@@ -59,19 +68,19 @@ unfoldable pub share : Class → ℕ → List Carried → ℕ → ℕ → ℕ
 share c low [] start len = 0
 share c low (f ∷ frames) start len =
     let high = low + f .call .slots in
-    load c (f .call .ports) (f .call .matrix) * inside low high start len + share c high frames start len
+    load c (f .call .list) * inside low high start len + share c high frames start len
 
 -- The frame has these ports and slots.
 pub record Shape (ports slots : ℕ) (f : Carried) : Type 0 where
   pub ports-are : f .call .ports ≡ ports
   pub slots-are : f .call .slots ≡ slots
 
--- Over a chain of frames of 2 ^ k slots: over any run of consecutive slots, none too, and for every pair, input and output and
+-- Over a chain of frames of 2 ^ k slots: over any run of consecutive slots, none too, and for every flow, input and output and
 -- for the total, 3 × 2 ^ k × cells differs by at most (2k + 1) × 2 ^ k, either way, from three times the share times 2 ^ k.
 abbrev pub Accurate : ℕ → ℕ → List Carried → Type 0
 Accurate ports k frames =
     (start len : ℕ) → start + len ≤ length frames * 2 ^ k → (c : Class) → Of ports c
-    → Near ((2 * k + 1) * 2 ^ k) (3 * 2 ^ k * cells c ports (runOf ports start len (wire frames))) (3 * share c 0 frames start len)
+    → Near ((2 * k + 1) * 2 ^ k) (3 * 2 ^ k * cellsIn c frames start len) (3 * share c 0 frames start len)
 
 -- P holds of the chain, its ports and its k for every first buffer and every list of Build calls, refused ones included, whose
 -- carried frames all have the same ports and the same 2 ^ k slots.
@@ -92,17 +101,17 @@ deviation (suc zero) = 1
 deviation (suc (suc k)) = deviation (suc k) + 2 * deviation k + 2 ^ suc k
 
 -- The cells of a run differ by at most gap, either way, from its share, in parts of 1 / 2 ^ k of a cell.
-abbrev pub NearShare : ℕ → Class → ℕ → ℕ → List Carried → ℕ → ℕ → Type 0
-NearShare gap c ports k frames start len = Near gap (2 ^ k * cells c ports (runOf ports start len (wire frames))) (share c 0 frames start len)
+abbrev pub NearShare : ℕ → Class → ℕ → List Carried → ℕ → ℕ → Type 0
+NearShare gap c k frames start len = Near gap (2 ^ k * cellsIn c frames start len) (share c 0 frames start len)
 
 -- Each end of a run may be off by one deviation; an end that is the beginning or the end of a frame is not off at all.
-pub record SharpRun (c : Class) (ports k : ℕ) (frames : List Carried) (start len : ℕ) : Type 0 where
-  pub any : NearShare (2 * deviation k) c ports k frames start len
-  pub begins-frame : (b : ℕ) → start ≡ b * 2 ^ k → NearShare (deviation k) c ports k frames start len
-  pub ends-frame : (b : ℕ) → start + len ≡ b * 2 ^ k → NearShare (deviation k) c ports k frames start len
+pub record SharpRun (c : Class) (k : ℕ) (frames : List Carried) (start len : ℕ) : Type 0 where
+  pub any : NearShare (2 * deviation k) c k frames start len
+  pub begins-frame : (b : ℕ) → start ≡ b * 2 ^ k → NearShare (deviation k) c k frames start len
+  pub ends-frame : (b : ℕ) → start + len ≡ b * 2 ^ k → NearShare (deviation k) c k frames start len
 
 abbrev pub SharpOn : ℕ → ℕ → List Carried → Type 0
-SharpOn ports k frames = (start len : ℕ) → start + len ≤ length frames * 2 ^ k → (c : Class) → Of ports c → SharpRun c ports k frames start len
+SharpOn ports k frames = (start len : ℕ) → start + len ≤ length frames * 2 ^ k → (c : Class) → Of ports c → SharpRun c k frames start len
 
 -- The sharp bound, for the chains of demand 3, which follows from it: 6 × deviation k is at most (2k + 1) × 2 ^ k.
 abbrev pub Sharp : Type 0

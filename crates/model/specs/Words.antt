@@ -47,6 +47,10 @@ unfoldable pub sumTo : ℕ → (ℕ → ℕ) → ℕ
 sumTo zero f = 0
 sumTo (suc n) f = sumTo n f + f n
 
+-- the same of those alone that pass a test
+abbrev pub sumIf : ℕ → (ℕ → Bool) → (ℕ → ℕ) → ℕ
+sumIf n t f = sumTo n (λ p. if (t p) (f p) 0)
+
 -- P holds of each of a list
 abbrev pub Every : {A : Type 0} → (A → Type 0) → List A → Type 0
 Every P [] = Unit {0}

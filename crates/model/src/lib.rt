@@ -4,17 +4,18 @@
 pub enum Refusal {
     Ports,
     Slots,
-    MatrixLength,
+    ListLength,
     FrameLength,
     InputLoad { port: usize, cells: usize },
     OutputLoad { port: usize, cells: usize },
     LineForm { line: usize },
     LinePort { line: usize },
-    LinePair { line: usize },
     SheetLength,
     SlotNumber,
-    PortNumber,
+    FlowOrPort,
     RunLength,
+    TooManyFlows,
+    FlowPort,
 }
 
 // What Admit answers.
@@ -29,24 +30,24 @@ pub enum Built {
     Refused(Refusal),
 }
 
-// What Inspect answers; slots, ports and the first slot of a block are numbered from 1.
+// What Inspect answers; slots, ports, flows and the first slot of a block are numbered from 1.
 pub enum Inspection {
     Clean,
-    ByteTooLarge { slot: usize, input: usize },
+    WrongEntry { slot: usize, input: usize },
     OutputTwice { slot: usize, output: usize },
-    PairCount { input: usize, output: usize },
+    FlowCount { flow: usize },
     UnbalancedBlock { slot: usize, size: usize },
     Refused(Refusal),
 }
 
 // Whom Service count counts for, numbered from 1.
 pub enum Who {
-    Pair { input: usize, output: usize },
+    Flow(usize),
     Input(usize),
     Output(usize),
 }
 
-// What a run had of a pair or a port, and how far ahead that is: slots × cells, less the run's length × the cells of one
+// What a run had of a flow or a port, and how far ahead that is: slots × cells, less the run's length × the cells of one
 // whole frame, below 0 where the run is behind.
 pub struct Count {
     pub cells: usize,
