@@ -10,7 +10,8 @@ use lib.ListN.{length, getD, set}
 use lib.Seq.{getD-set-other}
 use borrow.Author.Tests.{eqb-true, eqb-false, eq-eqb, ne-eqb, not-true}
 use Rattle.model.specs.Words.{both, bit, upFrom, keep, sumTo}
-use Rattle.model.specs.Rules.{Side, inputs, outputs, odd, Joined, itself, onward, backward}
+use Rattle.model.specs.Flows.{Side, inputs, outputs}
+use Rattle.model.specs.Rules.{odd, Joined, itself, onward, backward}
 use Rattle.model.specs.Schedule.{walk, favouring}
 use Rattle.model.proofs.Cases.{byBool, byEq, byLt, both-true, both-false, is-yes, is-no}
 use Rattle.model.proofs.Sums.{sum-ext, sum-add}

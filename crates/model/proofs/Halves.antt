@@ -1,49 +1,25 @@
--- Loads of halves: for each pair, input and output and for the total they sum to the whole and differ by at most 1, and what
+-- Loads of halves: for each flow, input and output and for the total they sum to the whole and differ by at most 1, and what
 -- fits twice the slots splits into what fits them.
-use Prim.Native.Nat.{ℕ, _+_, _*_, _/_, _%_, _≤_, _<_}
-use mathlib.Core.Path.{_≡_, sym, ap, _∙_}
+use Prim.Native.Nat.{ℕ, _+_, _*_, _/_, _≤_}
+use mathlib.Core.Path.{_≡_, refl, sym, ap, _∙_}
 use mathlib.Core.Logic.{_≢_}
 use mathlib.Core.List.{List, [], _∷_}
 use mathlib.Core.Bool.{Bool, true, not}
 use native.Mathlib.Omega.{arith}
-use native.Mathlib.Nat.{mod-lt, div-lt-iff-lt-mul}
-use lib.Arith.{digits-div, digits-mod}
 use lib.Dec.{eqb}
-use lib.ListN.{length, getD}
+use lib.ListN.{length, getD, List·getD-eq-default}
 use borrow.Author.Tests.{eq-eqb, ne-eqb}
-use Rattle.model.specs.Words.{if, both, bit, Near, sumTo, Every}
-use Rattle.model.specs.Flows.{Class, pair, input, output, total, Of, countOf, load, Fits}
-use Rattle.model.specs.Rules.{Side, inputs, outputs, portOf, odd, oddsAt, Partners, these, later, favoursFirst, Split}
+use Rattle.model.specs.Words.{if, both, bit, Near, sumTo, sumIf, Every}
+use Rattle.model.specs.Flows.{Side, inputs, outputs, Class, flow, input, output, total, isOf, loadIn, Fits}
+use Rattle.model.specs.Rules.{odd, oddsAt, Partners, these, later, favoursFirst, Split}
 use Rattle.model.specs.Schedule.{favouring, favours, halfOf}
-use Rattle.model.proofs.Cases.{byBool}
-use Rattle.model.proofs.Sums.{sum-ext, sum-add, sum-zero, sum-one, sum-rows}
-use Rattle.model.proofs.Kept.{sumIf, sumOver, kept-sum}
+use Rattle.model.proofs.Cases.{byBool, byLt}
+use Rattle.model.proofs.Sums.{sum-ext, sum-add, sum-zero, sum-one}
+use Rattle.model.proofs.Kept.{sumOver, kept-sum}
 use Rattle.model.proofs.Partners.{every-map, AtPort, odds-every}
 use Rattle.model.proofs.Favouring.{favouring-sum}
 use Rattle.model.proofs.Settled.{favours-law, favours-level}
 use Rattle.model.proofs.Splits.{half-at, more, less, alike, only-split}
-
--- ---- the load of a port as a sum over the positions of a side
--- a position's ports are ports of the switch
-pub port-low : (side : Side) {ports p : ℕ} → 1 ≤ ports → p < ports * ports → portOf ports side p < ports
-port-low inputs {ports} {p} l h = div-lt-iff-lt-mul l .1 h
-port-low outputs {ports} {p} l h = mod-lt p l
-
-abbrev pub kind : Side → ℕ → Class
-kind inputs x = input x
-kind outputs x = output x
-
-pub load-side : (s : Side) (ports x : ℕ) (m : List ℕ) → x < ports → load (kind s x) ports m ≡ sumIf (ports * ports) (λ p. eqb (portOf ports s p) x) (λ p. getD m p 0)
-unfolding load
-load-side inputs ports x m h =
-    sym (sum-rows ports ports _
-    ∙ sum-one ports x _ h (λ i hi n. sum-zero ports _ (λ o ho. rw (ne-eqb ((i * ports + o) / ports) x (λ e. n (sym (digits-div i ho) ∙ e)))))
-    ∙ sum-ext ports _ _ (λ o ho. rw (eq-eqb ((x * ports + o) / ports) x (digits-div x ho))))
-load-side outputs ports x m h =
-    sym (sum-rows ports ports _
-    ∙ sum-ext ports _ _ (λ i hi.
-    sum-one ports x _ h (λ o ho n. rw (ne-eqb ((i * ports + o) % ports) x (λ e. n (sym (digits-mod i ho) ∙ e))))
-    ∙ rw (eq-eqb ((i * ports + x) % ports) x (digits-mod i h))))
 
 -- ---- over the odd counts of a port, partner by partner
 module _ (port : Side → ℕ → ℕ) (m a b : List ℕ) (sp : Split port m a b) where
@@ -104,32 +80,35 @@ module _ (port : Side → ℕ → ℕ) (m : List ℕ) where
       rw (only .0, only .1, half-total 1 (omega arith), half-total 2 (omega arith)) (omega arith)
 
 -- ---- over the class
-pub load-add : (c : Class) (ports : ℕ) (m a b : List ℕ) → ((p : ℕ) → getD a p 0 + getD b p 0 ≡ getD m p 0) → load c ports a + load c ports b ≡ load c ports m
-unfolding load
-load-add (pair i o) ports m a b h = h (i * ports + o)
-load-add (input i) ports m a b h =
-    sym (sum-add ports (λ o. countOf ports a i o) (λ o. countOf ports b i o)) ∙ sum-ext ports _ _ (λ o k. h (i * ports + o))
-load-add (output o) ports m a b h =
-    sym (sum-add ports (λ i. countOf ports a i o) (λ i. countOf ports b i o)) ∙ sum-ext ports _ _ (λ i k. h (i * ports + o))
-load-add total ports m a b h = sym (sum-add (ports * ports) (λ p. getD a p 0) (λ p. getD b p 0)) ∙ sum-ext (ports * ports) _ _ (λ p k. h p)
+-- the load of a flow is its count
+pub load-flow : (f : ℕ) (port : Side → ℕ → ℕ) (m : List ℕ) → loadIn (flow f) port m ≡ getD m f 0
+unfolding loadIn
+load-flow f port m =
+    byLt f (length m)
+    (λ h. sum-one (length m) f _ h (λ p l n. rw (ne-eqb p f n)) ∙ rw (eq-eqb f f refl))
+    (λ h. sum-zero (length m) _ (λ p l. rw (ne-eqb p f (omega arith))) ∙ sym (List·getD-eq-default m 0 h))
 
-module _ (ports : ℕ) (m a b : List ℕ) (size : length m ≡ ports * ports) (sp : Split (portOf ports) m a b) where
-  pub halves-sum : (c : Class) → load c ports a + load c ports b ≡ load c ports m
-  halves-sum c = load-add c ports m a b (sp .shared)
+pub load-add : (c : Class) (port : Side → ℕ → ℕ) (m a b : List ℕ) → length a ≡ length m → length b ≡ length m
+    → ((p : ℕ) → getD a p 0 + getD b p 0 ≡ getD m p 0) → loadIn c port a + loadIn c port b ≡ loadIn c port m
+unfolding loadIn
+load-add c port m a b la lb h =
+    rw (la, lb)
+    (sym (sum-add (length m) (λ p. if (isOf c port p) (getD a p 0) 0) (λ p. if (isOf c port p) (getD b p 0) 0))
+    ∙ sum-ext (length m) _ _ (λ p _. byBool (isOf c port p) (λ e. rw e (h p)) (λ e. rw e (omega arith))))
 
-  side-near : (s : Side) (x : ℕ) → x < ports → Near 1 (load (kind s x) ports a) (load (kind s x) ports b)
-  side-near s x h =
-      rw (load-side s ports x a h, load-side s ports x b h, sym size) (port-near (portOf ports) m a b sp s x)
+module _ (port : Side → ℕ → ℕ) (m a b : List ℕ) (sp : Split port m a b) where
+  pub halves-sum : (c : Class) → loadIn c port a + loadIn c port b ≡ loadIn c port m
+  halves-sum c = load-add c port m a b (sp .first-size) (sp .second-size) (sp .shared)
 
-  pub halves-near : (c : Class) → Of ports c → Near 1 (load c ports a) (load c ports b)
-  unfolding load
-  halves-near (pair i o) of = sp .evenly (i * ports + o)
-  halves-near (input i) of = side-near inputs i of
-  halves-near (output o) of = side-near outputs o of
-  halves-near total of = rw (sym size) (total-near (portOf ports) m a b sp)
+  pub halves-near : (c : Class) → Near 1 (loadIn c port a) (loadIn c port b)
+  unfolding loadIn
+  halves-near (flow f) = rw (load-flow f port a, load-flow f port b) (sp .evenly f)
+  halves-near (input i) = rw (sp .first-size, sp .second-size) (port-near port m a b sp inputs i)
+  halves-near (output o) = rw (sp .first-size, sp .second-size) (port-near port m a b sp outputs o)
+  halves-near total = rw (sp .first-size, sp .second-size) (total-near port m a b sp)
 
-  pub halves-fit : (n : ℕ) → Fits ports (2 * n) m → (Fits ports n a) × (Fits ports n b)
-  halves-fit n fits = ((λ x h. (fit (input x) h (fits x h .0) .0, fit (output x) h (fits x h .1) .0)), λ x h. (fit (input x) h (fits x h .0) .1, fit (output x) h (fits x h .1) .1))
+  pub halves-fit : (ports n : ℕ) → Fits ports (2 * n) port m → (Fits ports n port a) × (Fits ports n port b)
+  halves-fit ports n fits = ((λ x h. (fit (input x) (fits x h .0) .0, fit (output x) (fits x h .1) .0)), λ x h. (fit (input x) (fits x h .0) .1, fit (output x) (fits x h .1) .1))
     where
-      fit : (c : Class) → Of ports c → load c ports m ≤ 2 * n → (load c ports a ≤ n) × (load c ports b ≤ n)
-      fit c of h = let s = halves-sum c in let d = halves-near c of in omega arith
+      fit : (c : Class) → loadIn c port m ≤ 2 * n → (loadIn c port a ≤ n) × (loadIn c port b ≤ n)
+      fit c h = let s = halves-sum c in let d = halves-near c in omega arith

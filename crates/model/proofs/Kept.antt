@@ -5,7 +5,7 @@ use mathlib.Core.List.{List, [], _∷_}
 use mathlib.Core.Bool.{Bool, true, false, not}
 use native.Mathlib.Omega.{arith}
 use lib.ListN.{length}
-use Rattle.model.specs.Words.{if, both, bit, upFrom, keep, sumTo, Every}
+use Rattle.model.specs.Words.{if, both, bit, upFrom, keep, sumTo, sumIf, Every}
 use Rattle.model.proofs.Cases.{byBool}
 use Rattle.model.proofs.Sums.{sum-ext, sum-shift, sum-zero}
 
@@ -31,10 +31,6 @@ keep-parts t [] = refl
 keep-parts t (x ∷ l) = let r = keep-parts t l in byBool (t x) (λ e. rw e (omega arith)) (λ e. rw e (omega arith))
 
 -- ---- sums over what is kept
--- the sum over the positions below n that pass a test
-abbrev pub sumIf : ℕ → (ℕ → Bool) → (ℕ → ℕ) → ℕ
-sumIf n t f = sumTo n (λ p. if (t p) (f p) 0)
-
 abbrev pub sumOver : (ℕ → ℕ) → List ℕ → ℕ
 sumOver f [] = 0
 sumOver f (p ∷ l) = f p + sumOver f l

@@ -14,6 +14,7 @@ pub mod Ties
 pub mod Splits
 pub mod Halves
 pub mod Cells
+pub mod Flows
 pub mod Slots
 pub mod Blocks
 pub mod Legal

@@ -9,9 +9,9 @@ use native.Mathlib.Nat.{add-zero, zero-add}
 use lib.Dec.{eqb}
 use lib.ListN.{length, getD, replicate, length-append}
 use Rattle.model.specs.Words.{both, sumTo, upFrom}
-use Rattle.model.specs.Flows.{Class, pair, load, Fits}
+use Rattle.model.specs.Flows.{inputs, outputs, portOf, Class, pair, load, Fits}
 use Rattle.model.specs.Frames.{cells, runOf}
-use Rattle.model.specs.Rules.{inputs, outputs, portOf, odd}
+use Rattle.model.specs.Rules.{odd}
 use Rattle.model.specs.Schedule.{partner, walk, groupOf, level, settleAt, settle, favours, frameOf}
 use Rattle.model.specs.Build.{buildAccepts}
 use Rattle.model.specs.Wire.{Call, Carried, none, chain}

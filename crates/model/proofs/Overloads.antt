@@ -11,7 +11,7 @@ use Rattle.model.specs.Flows.{Class, load}
 use Rattle.model.specs.Refusals.{Check, report, lowestAbove, aboveSlots, overload}
 use Rattle.model.proofs.Cases.{byBool, byLt}
 use Rattle.model.proofs.Searches.{first-found, first-before, first-is, first-none}
-use Rattle.model.proofs.Reports.{Tells, report-found, report-on}
+use Rattle.model.proofs.Reports.{Tells, report-found, report-on, search-tells}
 
 -- ---- decided from the loads of so many ports
 -- the search finds a port, which is carried with its load, or none
@@ -55,41 +55,37 @@ module _ (number ports most slots : ℕ) (loads numbers : ℕ → ℕ) (room : p
 -- ---- the ports of a kind
 -- No port of a kind has a load above slots.
 abbrev pub Light : (ℕ → Class) → ℕ → ℕ → List ℕ → Type 0
-Light kind ports slots matrix = (x : ℕ) → x < ports → load (kind x) ports matrix ≤ slots
+Light kind ports slots list = (x : ℕ) → x < ports → load (kind x) list ≤ slots
 
 -- Port x is the lowest of its kind whose load is above slots.
-pub record Over (kind : ℕ → Class) (ports slots : ℕ) (matrix : List ℕ) (x : ℕ) : Type 0 where
+pub record Over (kind : ℕ → Class) (ports slots : ℕ) (list : List ℕ) (x : ℕ) : Type 0 where
   pub low : x < ports
-  pub above : slots < load (kind x) ports matrix
-  pub lower : (y : ℕ) → y < x → load (kind y) ports matrix ≤ slots
+  pub above : slots < load (kind x) list
+  pub lower : (y : ℕ) → y < x → load (kind y) list ≤ slots
 
-module _ (number : ℕ) (kind : ℕ → Class) (ports slots : ℕ) (matrix : List ℕ) where
+module _ (number : ℕ) (kind : ℕ → Class) (ports slots : ℕ) (list : List ℕ) where
   abbrev loads : ℕ → ℕ
-  loads x = load (kind x) ports matrix
+  loads x = load (kind x) list
 
   abbrev test : ℕ → Bool
   test x = ltb slots (loads x)
 
   -- the lowest port above slots is reported, with its load
-  pub over-reported : (x : ℕ) → Over kind ports slots matrix x → overload number kind ports slots matrix ≡ (true, number ∷ suc x ∷ load (kind x) ports matrix ∷ [])
+  pub over-reported : (x : ℕ) → Over kind ports slots list x → overload number kind ports slots list ≡ (true, number ∷ suc x ∷ load (kind x) list ∷ [])
   over-reported x o =
       rw (← (add-one x))
       (above-found number ports slots loads x
-      (sym (first-is test ports 0 x (omega arith) (let l = o .low in omega arith) (lt-ltb slots (load (kind x) ports matrix) (o .above)) (λ y _ l. le-ltb slots (load (kind y) ports matrix) (o .lower y l))))
+      (sym (first-is test ports 0 x (omega arith) (let l = o .low in omega arith) (lt-ltb slots (load (kind x) list) (o .above)) (λ y _ l. le-ltb slots (load (kind y) list) (o .lower y l))))
       (o .low))
 
   -- the check tells whether the ports are light
-  pub overload-tells : Tells (overload number kind ports slots matrix) (Light kind ports slots matrix)
+  pub overload-tells : Tells (overload number kind ports slots list) (Light kind ports slots list)
   overload-tells =
-      record {
-        met = λ f. above-none number ports slots loads ports (sym (first-none test ports 0 (λ x _ h. le-ltb slots (load (kind x) ports matrix) (f x (omega arith))) ∙ omega arith)) (omega arith);
-        known = λ e x h.
-            let l = ltb-false (lowestAbove ports slots loads) ports e in
-            ltb-false slots (load (kind x) ports matrix) (first-before test ports 0 x (omega arith) (omega arith));
-      }
+      let t = search-tells test ports [] in
+      record { met = λ f. t .met (λ x h. le-ltb slots (loads x) (f x h)); known = λ e x h. ltb-false slots (loads x) (t .known e x h) }
 
   -- one port is the lowest above slots, or all are light
-  pub byOver : {P : Type 0} → ((x : ℕ) → Over kind ports slots matrix x → P) → (Light kind ports slots matrix → P) → P
+  pub byOver : {P : Type 0} → ((x : ℕ) → Over kind ports slots list x → P) → (Light kind ports slots list → P) → P
   byOver over light =
       let x = lowestAbove ports slots loads in
       byBool (ltb x ports)
@@ -98,6 +94,6 @@ module _ (number : ℕ) (kind : ℕ → Class) (ports slots : ℕ) (matrix : Lis
       over x (record {
         low = l;
         above = ltb-true slots _ (first-found test ports 0 (omega arith));
-        lower = λ y h. ltb-false slots (load (kind y) ports matrix) (first-before test ports 0 y (omega arith) h);
+        lower = λ y h. ltb-false slots (load (kind y) list) (first-before test ports 0 y (omega arith) h);
       }))
       (λ e. light (overload-tells .known e))

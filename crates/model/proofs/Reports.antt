@@ -1,5 +1,5 @@
 -- Reports: the first condition that holds.
-use Prim.Native.Nat.{ℕ, _*_, _≤_}
+use Prim.Native.Nat.{ℕ, _*_, _%_, _≤_, _<_}
 use mathlib.Core.Path.{_≡_, refl, sym, ap, _∙_}
 use mathlib.Core.Logic.{_≢_}
 use mathlib.Core.List.{List, [], _∷_, _++_}
@@ -9,13 +9,15 @@ use lib.Dec.{eqb, ltb}
 use lib.ListN.{length, getD}
 use lib.Pow.{pow-pos}
 use borrow.Author.Tests.{eqb-true, eqb-false, eq-eqb, ne-eqb, le-ltb, ltb-false, not-false}
-use Rattle.model.specs.Words.{within, Every}
-use Rattle.model.specs.Refusals.{Check, report, clear, refusal, levels, bad-ports, bad-slots, bad-matrix, bad-frame, bad-slot}
+use Rattle.model.specs.Words.{both, within, first, Every}
+use Rattle.model.specs.Flows.{stride, flows, numberOf, Side, inputs, outputs, placeOf}
+use Rattle.model.specs.Refusals.{Check, report, clear, refusal, levels, bad-ports, bad-slots, bad-list, bad-flows, portsWithin, bad-flow, bad-frame, bad-slot}
 use Rattle.model.specs.Service.{bad-length}
 use Rattle.model.specs.Sheet.{bad-sheet}
 use Rattle.model.specs.declared.Refusal.{Refusal}
-use Rattle.model.specs.declared.Refusal.the-variants.{Ports, Slots, MatrixLength, FrameLength, InputLoad, OutputLoad, LineForm, LinePort, LinePair, SheetLength, SlotNumber, PortNumber, RunLength}
-use Rattle.model.proofs.Cases.{byBool, Within, within-yes, within-true}
+use Rattle.model.specs.declared.Refusal.the-variants.{Ports, Slots, ListLength, FrameLength, InputLoad, OutputLoad, LineForm, LinePort, SheetLength, SlotNumber, FlowOrPort, RunLength, TooManyFlows, FlowPort}
+use Rattle.model.proofs.Cases.{byBool, Within, within-yes, within-true, both-true, both-yes}
+use Rattle.model.proofs.Searches.{first-none, first-before}
 use Rattle.model.proofs.Levels.{Power, power-known, power-most, known-power}
 
 module _ (c : Check) (cs : List Check) (asked : List ℕ) where
@@ -37,6 +39,17 @@ clear-then [] ds = λ e. refl
 clear-then (c ∷ cs) ds =
     byBool (c .0) (λ b. rw b (λ e. absurd (true≢false (sym e)))) (λ b. rw b (λ e. clear-then cs ds e))
 
+pub report-then : (cs ds : List Check) (asked : List ℕ) → clear cs ≡ true → report (cs ++ ds) asked ≡ report ds asked
+report-then [] ds asked = λ e. refl
+report-then (c ∷ cs) ds asked =
+    byBool (c .0) (λ b. rw b (λ e. absurd (true≢false (sym e)))) (λ b. rw b (λ e. report-then cs ds asked e))
+
+-- none of all holds where none of the first does and none of the others
+pub clear-parts : (cs ds : List Check) → clear (cs ++ ds) ≡ true → (clear cs ≡ true) × (clear ds ≡ true)
+clear-parts [] ds = λ e. (refl, e)
+clear-parts (c ∷ cs) ds =
+    byBool (c .0) (λ b. rw b (λ e. absurd (true≢false (sym e)))) (λ b. rw b (λ e. clear-parts cs ds e))
+
 -- where one holds, it does not matter what is asked for
 pub report-refused : (cs : List Check) (asked other : List ℕ) → clear cs ≡ false → report cs asked ≡ report cs other
 report-refused [] asked other = λ e. absurd (true≢false e)
@@ -47,17 +60,18 @@ report-refused (c ∷ cs) asked other =
 pub refusal-number : (x : Refusal) → getD (refusal x) 0 0 ≢ 0
 refusal-number Ports = omega arith
 refusal-number Slots = omega arith
-refusal-number MatrixLength = omega arith
+refusal-number ListLength = omega arith
 refusal-number FrameLength = omega arith
 refusal-number (InputLoad port cells) = omega arith
 refusal-number (OutputLoad port cells) = omega arith
 refusal-number (LineForm line) = omega arith
 refusal-number (LinePort line) = omega arith
-refusal-number (LinePair line) = omega arith
 refusal-number SheetLength = omega arith
 refusal-number SlotNumber = omega arith
-refusal-number PortNumber = omega arith
+refusal-number FlowOrPort = omega arith
 refusal-number RunLength = omega arith
+refusal-number TooManyFlows = omega arith
+refusal-number FlowPort = omega arith
 
 -- a check whose answer is a refusal's: its number is not 0
 abbrev pub Refuses : Check → Type 0
@@ -102,6 +116,14 @@ size-tells size n answer =
 most-tells : (most n : ℕ) (answer : List ℕ) → Tells (ltb most n, answer) (n ≤ most)
 most-tells most n answer = record { met = le-ltb most n; known = ltb-false most n }
 
+-- a search among n that finds none
+pub search-tells : (t : ℕ → Bool) (n : ℕ) (answer : List ℕ) → Tells (ltb (first t 0 n) n, answer) ((x : ℕ) → x < n → t x ≡ false)
+search-tells t n answer =
+    record {
+      met = λ f. le-ltb (first t 0 n) n (omega (arith, first-none t n 0 (λ x _ h. f x (omega arith))));
+      known = λ e x h. first-before t n 0 x (omega arith) (omega (arith, ltb-false (first t 0 n) n e));
+    }
+
 -- 1: ports are 1 to 16
 pub ports-tells : (ports : ℕ) → Tells (bad-ports ports) (Within 1 16 ports)
 ports-tells ports = range-tells 1 16 ports _
@@ -111,17 +133,41 @@ pub slots-tells : (slots : ℕ) → Tells (bad-slots slots) (Power slots)
 slots-tells slots =
     record { met = λ f. ne-eqb (levels slots) 11 (power-known f); known = λ e. known-power slots (eqb-false (levels slots) 11 e) }
 
--- 3: the matrix has ports × ports counts
-pub matrix-tells : (ports : ℕ) (m : List ℕ) → Tells (bad-matrix ports m) (length m ≡ ports * ports)
-matrix-tells ports m = size-tells (length m) (ports * ports) _
+-- 3: the list is whole flows
+pub list-tells : (list : List ℕ) → Tells (bad-list list) (length list % stride ≡ 0)
+list-tells list = size-tells (length list % stride) 0 _
 
--- 4: the frame has slots × ports bytes
-pub frame-tells : (ports slots : ℕ) (bytes : List ℕ) → Tells (bad-frame ports slots bytes) (length bytes ≡ slots * ports)
-frame-tells ports slots bytes = size-tells (length bytes) (slots * ports) _
+-- 21: it has at most 512
+pub flows-tells : (list : List ℕ) → Tells (bad-flows list) (flows list ≤ 512)
+flows-tells list = most-tells 512 (flows list) _
 
--- 10: the sheet has at most 16,384 bytes
-pub sheet-tells : (bytes : List ℕ) → Tells (bad-sheet bytes) (length bytes ≤ 16384)
-sheet-tells bytes = most-tells 16384 (length bytes) _
+-- 22: the ports of each of them are 1 to ports
+abbrev pub Ported : ℕ → List ℕ → Type 0
+Ported ports list = (s : Side) (f : ℕ) → f < flows list → Within 1 ports (numberOf (placeOf s) list f)
+
+pub ports-within : (ports : ℕ) (list : List ℕ) (f : ℕ) → portsWithin ports list f ≡ true → (s : Side) → Within 1 ports (numberOf (placeOf s) list f)
+ports-within ports list f e inputs = within-true 1 ports (numberOf 0 list f) (both-true (within 1 ports (numberOf 0 list f)) (within 1 ports (numberOf 1 list f)) e .0)
+ports-within ports list f e outputs = within-true 1 ports (numberOf 1 list f) (both-true (within 1 ports (numberOf 0 list f)) (within 1 ports (numberOf 1 list f)) e .1)
+
+pub within-ports : (ports : ℕ) (list : List ℕ) (f : ℕ) → ((s : Side) → Within 1 ports (numberOf (placeOf s) list f)) → portsWithin ports list f ≡ true
+within-ports ports list f w =
+    both-yes _ _ (within-yes 1 ports (numberOf 0 list f) (w inputs .0) (w inputs .1)) (within-yes 1 ports (numberOf 1 list f) (w outputs .0) (w outputs .1))
+
+pub flow-tells : (ports : ℕ) (list : List ℕ) → Tells (bad-flow ports list) (Ported ports list)
+flow-tells ports list =
+    let t = search-tells (λ f. not (portsWithin ports list f)) (flows list) (22 ∷ []) in
+    record {
+      met = λ w. t .met (λ f h. ap not (within-ports ports list f (λ s. w s f h)));
+      known = λ e s f h. ports-within ports list f (not-false _ (t .known e f h)) s;
+    }
+
+-- 4: the frame has slots × ports entries
+pub frame-tells : (ports slots : ℕ) (entries : List ℕ) → Tells (bad-frame ports slots entries) (length entries ≡ slots * ports)
+frame-tells ports slots entries = size-tells (length entries) (slots * ports) _
+
+-- 10: the sheet has at most 32,768 bytes
+pub sheet-tells : (bytes : List ℕ) → Tells (bad-sheet bytes) (length bytes ≤ 32768)
+sheet-tells bytes = most-tells 32768 (length bytes) _
 
 -- 11: the slot is 1 to slots
 pub slot-tells : (slots slot : ℕ) → Tells (bad-slot slots slot) (Within 1 slots slot)

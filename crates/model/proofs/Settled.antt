@@ -10,7 +10,8 @@ use lib.ListN.{length, getD, set, replicate, length-set, length-replicate}
 use lib.Seq.{getD-set-same, getD-set-other}
 use borrow.Author.Tests.{eqb-true, eq-eqb}
 use Rattle.model.specs.Words.{if, both, upFrom}
-use Rattle.model.specs.Rules.{Side, inputs, outputs, odd}
+use Rattle.model.specs.Flows.{Side, inputs, outputs}
+use Rattle.model.specs.Rules.{odd}
 use Rattle.model.specs.Schedule.{partner, walk, groupOf, favouring, level, settleAt, settle, favours}
 use Rattle.model.proofs.Cases.{byBool, byEq, both-true, both-false, within-yes, within-true}
 use Rattle.model.proofs.Partners.{odd-lt, partner-at, partner-twice}

@@ -10,7 +10,8 @@ use lib.ListN.{length, getD}
 use lib.Seq.{ext-getD}
 use borrow.Author.Tests.{eqb-true, eqb-false, eq-eqb, ne-eqb, lt-ltb, le-ltb, ltb-true, ltb-false}
 use Rattle.model.specs.Words.{bit, upFrom, keep, Near, Every}
-use Rattle.model.specs.Rules.{Side, odd, oddsAt, Partners, Joined, Group, favoursFirst, Split}
+use Rattle.model.specs.Flows.{Side}
+use Rattle.model.specs.Rules.{odd, oddsAt, Partners, Joined, Group, favoursFirst, Split}
 use Rattle.model.specs.Schedule.{favours, halfBy, halfOf}
 use Rattle.model.proofs.Cases.{byBool, byEq, is-yes, is-no}
 use Rattle.model.proofs.Partners.{every-map, rule-partner, partner-rule}

@@ -9,7 +9,8 @@ use lib.Dec.{eqb}
 use lib.ListN.{length, getD}
 use borrow.Author.Tests.{eqb-true, eqb-false, eq-eqb, ne-eqb}
 use Rattle.model.specs.Words.{bit, upFrom, keep, sumTo, Every}
-use Rattle.model.specs.Rules.{Side, inputs, outputs, odd, Joined, Lists, Group, OddGroup}
+use Rattle.model.specs.Flows.{Side, inputs, outputs}
+use Rattle.model.specs.Rules.{odd, Joined, Lists, Group, OddGroup}
 use Rattle.model.specs.Schedule.{favouring, favours}
 use Rattle.model.proofs.Cases.{byBool, byEq}
 use Rattle.model.proofs.Sums.{sum-none, sum-more}

@@ -12,10 +12,10 @@ use lib.Pow.{pow-pos}
 use lib.ListN.{length, getD, replicate, length-append, length-replicate, getD-replicate}
 use borrow.Author.Tests.{eq-eqb, ne-eqb}
 use Rattle.model.specs.Words.{both, bit, Near, sumTo}
-use Rattle.model.specs.Flows.{pair, total, load, Fits}
+use Rattle.model.specs.Flows.{Side, inputs, outputs, portOf, pair, total, load, Fits}
 use Rattle.model.specs.Frames.{counts, cells, runOf, Legal, Block}
 use Rattle.model.specs.Refusals.{levels}
-use Rattle.model.specs.Rules.{Side, inputs, outputs, portOf, Split, Scheduled}
+use Rattle.model.specs.Rules.{Split, Scheduled}
 use Rattle.model.specs.Schedule.{oddShares, settled}
 use Rattle.model.specs.Work.{oddPairs, blockOf, work}
 use Rattle.model.specs.Build.{buildAccepts, left}
