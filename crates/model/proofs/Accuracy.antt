@@ -72,15 +72,15 @@ block-law k f g mids (suc j) d lo hi deep b at low high ends x from to =
       | no h ↦ block-law k f g mids j (suc d) mid hi (omega arith) (back lo (2 ^ j) b2) top middle (omega arith) (omega arith) x (omega arith) to
     ]
 
-module _ {ports slots : ℕ} {matrix bytes : List ℕ} (legal : Legal ports slots matrix bytes) (balanced : Balanced ports slots bytes) (c : Class) (of : Of ports c) where
+module _ {ports slots : ℕ} {list entries : List ℕ} (legal : Legal ports slots list entries) (balanced : Balanced ports slots list entries) (c : Class) (of : Of ports c) where
   -- the cells of the first t slots
   abbrev pub before : ℕ → ℕ
-  before t = cells c ports (runOf ports 0 t bytes)
+  before t = cells c ports list (runOf ports 0 t entries)
 
-  pub before-more : (t n : ℕ) → t ≤ slots → before (t + n) ≡ before t + cells c ports (runOf ports t n bytes)
+  pub before-more : (t n : ℕ) → t ≤ slots → before (t + n) ≡ before t + cells c ports list (runOf ports t n entries)
   before-more t n h =
       let k = mul-le-mul-right ports h in
-      rw zero-add at (cells-run ports c 0 t n bytes (omega (arith, legal .size)))
+      rw zero-add at (cells-run ports list c 0 t n entries (omega (arith, legal .size)))
 
   middle-near : (start half : ℕ) → Block slots start (2 * half) → Near 1 (2 * before (start + half)) (before start + before (start + half + half))
   middle-near start half b =
@@ -88,17 +88,17 @@ module _ {ports slots : ℕ} {matrix bytes : List ℕ} (legal : Legal ports slot
       let n = balanced c of start half b in
       omega (arith, before-more start half (omega arith), before-more (start + half) half (omega arith))
 
-  pub before-all : before slots ≡ load c ports matrix
-  before-all = ap (cells c ports) (run-all ports slots bytes (legal .size)) ∙ legal-exact legal c of
+  pub before-all : before slots ≡ load c list
+  before-all = ap (cells c ports list) (run-all ports slots entries (legal .size)) ∙ legal-exact legal c
 
   pub before-none : before 0 ≡ 0
-  before-none = ap (cells c ports) (run-none ports 0 bytes) ∙ cells-none ports c
+  before-none = ap (cells c ports list) (run-none ports 0 entries) ∙ cells-none ports list c
 
   -- the first t slots of a frame of 2 ^ k are off by at most the deviation
-  pub prefix-sharp : (k : ℕ) → slots ≡ 2 ^ k → (t : ℕ) → t ≤ slots → Near (deviation k) (slots * before t) (load c ports matrix * t)
+  pub prefix-sharp : (k : ℕ) → slots ≡ 2 ^ k → (t : ℕ) → t ≤ slots → Near (deviation k) (slots * before t) (load c list * t)
   unfolding deviation
   prefix-sharp k power t fits =
-      let m = load c ports matrix in
+      let m = load c list in
       let up : ℕ → ℕ = λ x. slots * before x in
       let line : ℕ → ℕ = λ x. m * x in
       let full : slots * before slots ≡ m * slots = omega (arith, ap (λ z. slots * z) before-all) in

@@ -1,25 +1,28 @@
 -- Demand 3: every list of Build calls is accurate on the wire, by the sharp bound.
-use Prim.Native.Nat.{ℕ, suc, zero, _+_, _*_, _-_, _/_, _%_, _^_, _≤_, min}
+use Prim.Native.Nat.{ℕ, suc, zero, _+_, _*_, _-_, _/_, _%_, _^_, _≤_, _<_, min}
 use mathlib.Core.Path.{_≡_, refl, ap, subst, sym, _∙_}
 use mathlib.Core.List.{List, [], _∷_, _++_}
 use mathlib.Core.Bool.{Bool, true, false}
-use native.Mathlib.Nat.{mul-le-mul-right, zero-add, mod-lt, div-add-mod'}
+use native.Mathlib.Nat.{zero-add, mod-lt, div-add-mod'}
 use native.Mathlib.Omega.{arith}
 use lib.Pow.{pow-pos}
-use lib.ListN.{length, length-append, replicate}
-use Rattle.model.specs.Words.{Near, Every}
+use lib.ListN.{length, replicate}
+use borrow.Author.Tests.{lt-ltb, le-ltb}
+use Rattle.model.specs.Words.{sumTo, Near, Every}
 use Rattle.model.specs.Flows.{Class, Of, load}
 use Rattle.model.specs.Frames.{cells, runOf, Legal, Balanced}
 use Rattle.model.specs.Build.{buildAccepts, left}
-use Rattle.model.specs.Wire.{Call, Carried, Last, none, last, carry, next, chain, wire, inside, share, Shape, Accurate, Demand3, deviation, NearShare, SharpRun, SharpOn, Sharp}
-use Rattle.model.proofs.Cells.{cells-none, cells-run, run-none, run-first, run-second, run-all}
+use Rattle.model.specs.Wire.{Call, Carried, Last, none, last, carry, next, chain, cellsAt, cellsIn, inside, share, Shape, Accurate, Demand3, deviation, NearShare, SharpRun, SharpOn, Sharp}
+use Rattle.model.proofs.Sums.{sum-none, sum-ext, sum-append}
+use Rattle.model.proofs.Cells.{cells-none, run-none, run-all}
+use Rattle.model.proofs.Runs.{cells-slots}
 use Rattle.model.proofs.Legal.{legal-exact}
 use Rattle.model.proofs.Accuracy.{deviation-most, prefix-sharp}
 use Rattle.model.proofs.Demand2.{build-sound, build-keeps}
 
 -- a carried frame is legal for its load, and balanced
 abbrev pub Sound : Carried → Type 0
-Sound f = Legal (f .call .ports) (f .call .slots) (f .call .matrix) (f .bytes) × Balanced (f .call .ports) (f .call .slots) (f .bytes)
+Sound f = Legal (f .call .ports) (f .call .slots) (f .call .list) (f .entries) × Balanced (f .call .ports) (f .call .slots) (f .call .list) (f .entries)
 
 -- ---- shares of runs end to end add up
 module _ (c : Class) where
@@ -29,7 +32,7 @@ module _ (c : Class) where
   share-none (f ∷ fs) lo start len h =
       let hi = lo + f .call .slots in
       let e : inside lo hi start len ≡ 0 = omega arith in
-      omega (arith, ap (λ z. load c (f .call .ports) (f .call .matrix) * z) e, share-none fs hi start len (omega arith))
+      omega (arith, ap (λ z. load c (f .call .list) * z) e, share-none fs hi start len (omega arith))
 
   inside-first : (lo hi x : ℕ) → inside lo hi 0 x ≡ min hi x - lo
   inside-first lo hi x = omega arith
@@ -44,80 +47,115 @@ module _ (c : Class) where
   share-split [] lo start len = refl
   share-split (f ∷ fs) lo start len =
       let hi = lo + f .call .slots in
-      omega (arith, ap (λ z. load c (f .call .ports) (f .call .matrix) * z) (inside-split lo hi start len (omega arith)), share-split fs hi start len)
+      omega (arith, ap (λ z. load c (f .call .list) * z) (inside-split lo hi start len (omega arith)), share-split fs hi start len)
 
 -- ---- a chain of sound frames of one shape
 pub record Good (ports slots : ℕ) (f : Carried) : Type 0 where
   pub shape : Shape ports slots f
-  pub legal : Legal ports slots (f .call .matrix) (f .bytes)
-  pub balanced : Balanced ports slots (f .bytes)
+  pub legal : Legal ports slots (f .call .list) (f .entries)
+  pub balanced : Balanced ports slots (f .call .list) (f .entries)
 
 pub good-of : (ports slots : ℕ) (fs : List Carried) → Every Sound fs → Every (Shape ports slots) fs → Every (Good ports slots) fs
 good-of ports slots [] sound shape = tt
 good-of ports slots (f ∷ fs) sound shape =
-    let s : Legal ports slots (f .call .matrix) (f .bytes) × Balanced ports slots (f .bytes) = rw (shape .0 .ports-are, shape .0 .slots-are) at (sound .0) in
+    let s : Legal ports slots (f .call .list) (f .entries) × Balanced ports slots (f .call .list) (f .entries) = rw (shape .0 .ports-are, shape .0 .slots-are) at (sound .0) in
     (record { shape = shape .0; legal = s .0; balanced = s .1 }, good-of ports slots fs (sound .1) (shape .1))
 
-pub wire-length : (fs : List Carried) (ports slots : ℕ) → Every (Good ports slots) fs → length (wire fs) ≡ length fs * slots * ports
-unfolding wire
-wire-length [] ports slots good = omega arith
-wire-length (f ∷ fs) ports slots good =
-    omega (arith, length-append (f .bytes) (wire fs), good .0 .legal .size, wire-length fs ports slots (good .1))
+-- ---- the cells of runs of a chain
+pub cells-nowhere : (c : Class) (t : ℕ) → cellsAt c [] t ≡ 0
+unfolding cellsAt
+cells-nowhere c t = refl
+
+-- a run is two runs end to end
+pub in-more : (c : Class) (fs : List Carried) (start a b : ℕ) → cellsIn c fs start (a + b) ≡ cellsIn c fs start a + cellsIn c fs (start + a) b
+unfolding cellsIn
+in-more c fs start a b =
+    sum-append a b (λ t. cellsAt c fs (start + t))
+    ∙ ap (λ z. sumTo a (λ t. cellsAt c fs (start + t)) + z) (sum-ext b _ _ (λ t _. ap (cellsAt c fs) (omega arith)))
+
+module _ (c : Class) (ports n : ℕ) (f : Carried) (fs : List Carried) (good : Good ports n f) where
+  -- a slot of the first frame
+  first-at : (t : ℕ) → t < n → cellsAt c (f ∷ fs) t ≡ cells c ports (f .call .list) (runOf ports t 1 (f .entries))
+  unfolding cellsAt
+  first-at t h = let s = good .shape in rw (s .ports-are, s .slots-are, lt-ltb t n h)
+
+  rest-at : (t : ℕ) → cellsAt c (f ∷ fs) (n + t) ≡ cellsAt c fs t
+  unfolding cellsAt
+  rest-at t = let d : n + t - n ≡ t = omega arith in rw (good .shape .slots-are, le-ltb (n + t) n (omega arith), d)
+
+  -- a run inside the first frame, and one after it
+  pub in-first : (start len : ℕ) → start + len ≤ n → cellsIn c (f ∷ fs) start len ≡ cells c ports (f .call .list) (runOf ports start len (f .entries))
+  unfolding cellsIn
+  in-first start len h =
+      sum-ext len _ _ (λ t l. first-at (start + t) (omega arith))
+      ∙ sym (cells-slots ports n (f .call .list) (f .entries) (good .legal .size) c start len h)
+
+  pub in-rest : (start len : ℕ) → cellsIn c (f ∷ fs) (n + start) len ≡ cellsIn c fs start len
+  unfolding cellsIn
+  in-rest start len = sum-ext len _ _ (λ t l. ap (cellsAt c (f ∷ fs)) (omega arith) ∙ rest-at (start + t))
+
+-- a run of no slots has none
+none-in : (c : Class) (fs : List Carried) (start : ℕ) → cellsIn c fs start 0 ≡ 0
+unfolding cellsIn
+none-in c fs start = sum-none (λ t. cellsAt c fs (start + t))
+
+-- beyond the last slot there are none
+pub at-beyond : (c : Class) (ports n : ℕ) (fs : List Carried) → Every (Good ports n) fs → (t : ℕ) → length fs * n ≤ t → cellsAt c fs t ≡ 0
+at-beyond c ports n [] good t h = cells-nowhere c t
+at-beyond c ports n (f ∷ fs) good t h =
+    let r = t - n in
+    let e : t ≡ n + r = omega arith in
+    ap (cellsAt c (f ∷ fs)) e ∙ rest-at c ports n f fs (good .0) r ∙ at-beyond c ports n fs (good .1) r (omega arith)
 
 module _ (c : Class) (ports k : ℕ) (of : Of ports c) where
   -- in a frame, the first r slots are off by at most gap
   abbrev Off : ℕ → ℕ → Type 0
-  Off r gap = (f : Carried) → Good ports (2 ^ k) f → Near gap (2 ^ k * cells c ports (runOf ports 0 r (f .bytes))) (load c ports (f .call .matrix) * r)
+  Off r gap = (f : Carried) → Good ports (2 ^ k) f
+      → Near gap (2 ^ k * cells c ports (f .call .list) (runOf ports 0 r (f .entries))) (load c (f .call .list) * r)
 
   -- so are the first t slots of a chain, b frames and r slots, from the share of as many slots that end where they end
   prefix-chain : (r gap : ℕ) → r ≤ 2 ^ k → Off r gap → (fs : List Carried) → Every (Good ports (2 ^ k)) fs → (b lo start len t : ℕ)
       → t ≡ b * 2 ^ k + r → start ≤ lo → start + len ≡ lo + t → t ≤ length fs * 2 ^ k
-      → Near gap (2 ^ k * cells c ports (runOf ports 0 t (wire fs))) (share c lo fs start len)
-  unfolding share wire
+      → Near gap (2 ^ k * cellsIn c fs 0 t) (share c lo fs start len)
+  unfolding share
   prefix-chain r gap less off [] good b lo start len t is before ends fits =
       let e : t ≡ 0 = omega arith in
-      let z : cells c ports (runOf ports 0 t []) ≡ 0 = rw e (ap (cells c ports) (run-none ports 0 []) ∙ cells-none ports c) in
+      let z : cellsIn c [] 0 t ≡ 0 = rw e (none-in c [] 0) in
       omega (arith, ap (λ x. 2 ^ k * x) z)
   prefix-chain r gap less off (f ∷ fs) good zero lo start len t is before ends fits =
       let n = 2 ^ k in
-      let m = load c ports (f .call .matrix) in
+      let m = load c (f .call .list) in
       let hi = lo + f .call .slots in
-      let same : load c (f .call .ports) (f .call .matrix) ≡ m = ap (λ p. load c p (f .call .matrix)) (good .0 .shape .ports-are) in
       let top : f .call .slots ≡ n = good .0 .shape .slots-are in
       let short : t ≡ r = omega arith in
-      let first : cells c ports (runOf ports 0 t (f .bytes ++ wire fs)) ≡ cells c ports (runOf ports 0 r (f .bytes))
-      = ap (cells c ports) (run-first ports n 0 t (f .bytes) (wire fs) (good .0 .legal .size) (omega arith) ∙ ap (λ x. runOf ports 0 x (f .bytes)) short) in
+      let first : cellsIn c (f ∷ fs) 0 t ≡ cells c ports (f .call .list) (runOf ports 0 r (f .entries))
+      = ap (cellsIn c (f ∷ fs) 0) short ∙ in-first c ports n f fs (good .0) 0 r (omega arith) in
       let e : inside lo hi start len ≡ r = omega arith in
       let none = share-none c fs hi start len (omega arith) in
       let law = off f (good .0) in
-      rw same (omega (arith, ap (λ x. n * x) first, ap (λ x. m * x) e))
+      omega (arith, ap (λ x. n * x) first, ap (λ x. m * x) e)
   prefix-chain r gap less off (f ∷ fs) good (suc b) lo start len t is before ends fits =
       let n = 2 ^ k in
-      let m = load c ports (f .call .matrix) in
-      let w = f .bytes ++ wire fs in
-      let size = good .0 .legal .size in
+      let m = load c (f .call .list) in
       let hi = lo + f .call .slots in
-      let same : load c (f .call .ports) (f .call .matrix) ≡ m = ap (λ p. load c p (f .call .matrix)) (good .0 .shape .ports-are) in
       let top : f .call .slots ≡ n = good .0 .shape .slots-are in
       let later = b * n + r in
       let at : t ≡ n + later = omega arith in
       let e : inside lo hi start len ≡ n = omega arith in
-      let sum : cells c ports (runOf ports 0 (n + later) w) ≡ cells c ports (runOf ports 0 n w) + cells c ports (runOf ports n later w)
-      = rw zero-add at (cells-run ports c 0 n later w (omega (arith, length-append (f .bytes) (wire fs)))) in
-      let first : cells c ports (runOf ports 0 n w) ≡ m
-      = ap (cells c ports) (run-first ports n 0 n (f .bytes) (wire fs) size (omega arith) ∙ run-all ports n (f .bytes) size) ∙ legal-exact (good .0 .legal) c of in
-      let shift : n + 0 ≡ n = omega arith in
-      let second : cells c ports (runOf ports n later w) ≡ cells c ports (runOf ports 0 later (wire fs))
-      = ap (cells c ports) (rw shift at (run-second ports n 0 later (f .bytes) (wire fs) size)) in
+      let first : cellsIn c (f ∷ fs) 0 n ≡ m
+      = in-first c ports n f fs (good .0) 0 n (omega arith)
+      ∙ ap (cells c ports (f .call .list)) (run-all ports n (f .entries) (good .0 .legal .size)) ∙ legal-exact (good .0 .legal) c in
+      let shift : 0 + n ≡ n + 0 = omega arith in
+      let second : cellsIn c (f ∷ fs) (0 + n) later ≡ cellsIn c fs 0 later = rw shift (in-rest c ports n f fs (good .0) 0 later) in
       let law = prefix-chain r gap less off fs (good .1) b hi start len later refl (omega arith) (omega arith) (omega arith) in
-      let whole : cells c ports (runOf ports 0 t w) ≡ m + cells c ports (runOf ports 0 later (wire fs))
-      = ap (λ x. cells c ports (runOf ports 0 x w)) at ∙ omega arith in
-      rw same (omega (arith, ap (λ x. n * x) whole, ap (λ x. m * x) e, law .0, law .1))
+      let whole : cellsIn c (f ∷ fs) 0 t ≡ m + cellsIn c fs 0 later
+      = ap (cellsIn c (f ∷ fs) 0) at ∙ in-more c (f ∷ fs) 0 n later ∙ omega arith in
+      omega (arith, ap (λ x. n * x) whole, ap (λ x. m * x) e, law .0, law .1)
 
   module _ (fs : List Carried) (good : Every (Good ports (2 ^ k)) fs) where
     -- the first t slots of the chain are off by at most gap
     abbrev OffAt : ℕ → ℕ → Type 0
-    OffAt gap t = Near gap (2 ^ k * cells c ports (runOf ports 0 t (wire fs))) (share c 0 fs 0 t)
+    OffAt gap t = Near gap (2 ^ k * cellsIn c fs 0 t) (share c 0 fs 0 t)
 
     anywhere : (t : ℕ) → t ≤ length fs * 2 ^ k → OffAt (deviation k) t
     anywhere t fits =
@@ -129,26 +167,23 @@ module _ (c : Class) (ports k : ℕ) (of : Of ports c) where
     at-seam : (b t : ℕ) → t ≡ b * 2 ^ k → t ≤ length fs * 2 ^ k → OffAt 0 t
     at-seam b t e fits =
         prefix-chain 0 0 (omega arith)
-        (λ f g. omega (arith, ap (λ x. 2 ^ k * x) (ap (cells c ports) (run-none ports 0 (f .bytes)) ∙ cells-none ports c))) fs good
+        (λ f g. omega (arith, ap (λ x. 2 ^ k * x) (ap (cells c ports (f .call .list)) (run-none ports 0 (f .entries)) ∙ cells-none ports (f .call .list) c))) fs good
         b 0 0 t t (omega arith) (omega arith) (omega arith) fits
 
     -- a run is what is left of one prefix after another
-    run-off : (start len x y gap : ℕ) → start + len ≤ length fs * 2 ^ k → OffAt x start → OffAt y (start + len) → x + y ≤ gap
-        → NearShare gap c ports k fs start len
-    run-off start len x y gap fits one two most =
-        let long : start * ports ≤ length fs * 2 ^ k * ports = mul-le-mul-right ports (omega arith) in
-        let sum : cells c ports (runOf ports 0 (start + len) (wire fs)) ≡ cells c ports (runOf ports 0 start (wire fs)) + cells c ports (runOf ports start len (wire fs))
-        = rw zero-add at (cells-run ports c 0 start len (wire fs) (omega (arith, wire-length fs ports (2 ^ k) good))) in
+    run-off : (start len x y gap : ℕ) → OffAt x start → OffAt y (start + len) → x + y ≤ gap → NearShare gap c k fs start len
+    run-off start len x y gap one two most =
+        let sum : cellsIn c fs 0 (start + len) ≡ cellsIn c fs 0 start + cellsIn c fs start len = rw zero-add at (in-more c fs 0 start len) in
         omega (arith, ap (λ x. 2 ^ k * x) sum, share-split c fs 0 start len)
 
-    pub run-sharp : (start len : ℕ) → start + len ≤ length fs * 2 ^ k → SharpRun c ports k fs start len
+    pub run-sharp : (start len : ℕ) → start + len ≤ length fs * 2 ^ k → SharpRun c k fs start len
     run-sharp start len fits =
         let one = anywhere start (omega arith) in
         let two = anywhere (start + len) fits in
         record {
-          any = run-off start len (deviation k) (deviation k) _ fits one two (omega arith);
-          begins-frame = λ b e. run-off start len 0 (deviation k) _ fits (at-seam b start e (omega arith)) two (omega arith);
-          ends-frame = λ b e. run-off start len (deviation k) 0 _ fits one (at-seam b (start + len) e fits) (omega arith);
+          any = run-off start len (deviation k) (deviation k) _ one two (omega arith);
+          begins-frame = λ b e. run-off start len 0 (deviation k) _ (at-seam b start e (omega arith)) two (omega arith);
+          ends-frame = λ b e. run-off start len (deviation k) 0 _ one (at-seam b (start + len) e fits) (omega arith);
         }
 
 -- Frames that are legal and balanced, whoever made them, keep the sharp bound end to end,
@@ -164,7 +199,7 @@ sound-accurate ports k fs sound shape start len fits c of =
 -- ---- every frame that a list of Build calls carries is sound
 abbrev Known : Last → List ℕ → Type 0
 Known none buffer = Unit {0}
-Known (last call) buffer = Sound (record { call = call; bytes = buffer })
+Known (last call) buffer = Sound (record { call = call; entries = buffer })
 
 every-append : {A : Type 0} (P : A → Type 0) (xs ys : List A) → Every P xs → Every P ys → Every P (xs ++ ys)
 every-append P [] ys p q = q
@@ -178,17 +213,17 @@ carry-sound : (l : Last) (buffer : List ℕ) (times : ℕ) → Known l buffer �
 carry-sound none buffer times p = tt
 carry-sound (last call) buffer times p = every-replicate Sound times _ p
 
-known : (c : Call) (l : Last) (buffer : List ℕ) (a : Bool) → buildAccepts (c .ports) (c .slots) (c .matrix) buffer ≡ a → Known l buffer
-    → Known (next a c l) (left (c .ports) (c .slots) (c .matrix) buffer)
-known c l buffer true e p = build-sound (c .ports) (c .slots) (c .matrix) buffer e
-known c l buffer false e p = subst (Known l) (sym (build-keeps (c .ports) (c .slots) (c .matrix) buffer e)) p
+known : (c : Call) (l : Last) (buffer : List ℕ) (a : Bool) → buildAccepts (c .ports) (c .slots) (c .list) buffer ≡ a → Known l buffer
+    → Known (next a c l) (left (c .ports) (c .slots) (c .list) buffer)
+known c l buffer true e p = build-sound (c .ports) (c .slots) (c .list) buffer e
+known c l buffer false e p = subst (Known l) (sym (build-keeps (c .ports) (c .slots) (c .list) buffer e)) p
 
 pub chain-sound : (l : Last) (buffer : List ℕ) (calls : List Call) → Known l buffer → Every Sound (chain l buffer calls)
 unfolding chain
 chain-sound l buffer [] p = tt
 chain-sound l buffer (c ∷ calls) p =
-    let ok = buildAccepts (c .ports) (c .slots) (c .matrix) buffer in
-    let after = left (c .ports) (c .slots) (c .matrix) buffer in
+    let ok = buildAccepts (c .ports) (c .slots) (c .list) buffer in
+    let after = left (c .ports) (c .slots) (c .list) buffer in
     let q : Known (next ok c l) after = known c l buffer ok refl p in
     every-append Sound (carry (next ok c l) after (c .times)) (chain (next ok c l) after calls)
     (carry-sound (next ok c l) after (c .times) q) (chain-sound (next ok c l) after calls q)

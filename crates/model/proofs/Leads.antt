@@ -25,22 +25,22 @@ use Rattle.model.proofs.Accuracy.{deviation-most, before, before-more, 
 use Rattle.model.proofs.Demand2.{build-sound}
 
 -- whole turns are neither ahead nor behind
-pub lead-turns : (c : Class) (ports slots : ℕ) (bytes : List ℕ) → length bytes ≡ slots * ports → 1 ≤ slots → (start w : ℕ)
-    → lead c ports slots bytes start (w * slots) ≡ pos 0
+pub lead-turns : (c : Class) (ports slots : ℕ) (list entries : List ℕ) → length entries ≡ slots * ports → 1 ≤ slots → (start w : ℕ)
+    → lead c ports slots list entries start (w * slots) ≡ pos 0
 unfolding lead
-lead-turns c ports slots bytes size h start w =
-    let e : slots * cells c ports (repeated ports slots bytes start (w * slots)) ≡ w * slots * cells c ports bytes
-    = omega (arith, ap (λ z. slots * z) (cells-rounds ports slots bytes size c h start w)) in
+lead-turns c ports slots list entries size h start w =
+    let e : slots * cells c ports list (repeated ports slots entries start (w * slots)) ≡ w * slots * cells c ports list entries
+    = omega (arith, ap (λ z. slots * z) (cells-rounds ports slots list entries size c h start w)) in
     minus-same _ _ e
 
 -- ---- of a legal and balanced frame
-module _ {ports slots : ℕ} {matrix bytes : List ℕ} (legal : Legal ports slots matrix bytes) (balanced : Balanced ports slots bytes) (c : Class)
+module _ {ports slots : ℕ} {list entries : List ℕ} (legal : Legal ports slots list entries) (balanced : Balanced ports slots list entries) (c : Class)
     (of : Of ports c) (k : ℕ) (power : slots ≡ 2 ^ k) where
   abbrev m : ℕ
-  m = load c ports matrix
+  m = load c list
 
-  whole : cells c ports bytes ≡ m
-  whole = legal-exact legal c of
+  whole : cells c ports list entries ≡ m
+  whole = legal-exact legal c
 
   -- the cells of the first t slots
   abbrev front : ℕ → ℕ
@@ -48,7 +48,7 @@ module _ {ports slots : ℕ} {matrix bytes : List ℕ} (legal : Legal ports slot
 
   -- what is left of a run after its whole turns: two of its ends are off by a deviation at most, and the others not at all
   rest-near : (start head tail : ℕ) → start + head ≤ slots → tail ≤ slots → (tail ≢ 0 → start + head ≡ slots)
-      → Near (2 * deviation k) (slots * (cells c ports (runOf ports start head bytes) + front tail)) ((head + tail) * m)
+      → Near (2 * deviation k) (slots * (cells c ports list (runOf ports start head entries) + front tail)) ((head + tail) * m)
   rest-near start head tail fits low wraps =
       let sharp = prefix-sharp legal balanced c of k power in
       let one = sharp start (omega arith) in
@@ -63,7 +63,7 @@ module _ {ports slots : ℕ} {matrix bytes : List ℕ} (legal : Legal ports slot
       let two = sharp tail low in
       omega (arith, one .0, one .1, two .0, two .1, more, ap (λ z. slots * z) all, ap (λ z. z * m) (wraps n)))
 
-  run-near : (start len : ℕ) → Near (2 * deviation k) (slots * cells c ports (repeated ports slots bytes start len)) (len * m)
+  run-near : (start len : ℕ) → Near (2 * deviation k) (slots * cells c ports list (repeated ports slots entries start len)) (len * m)
   run-near start len =
       let h : 1 ≤ slots = omega (arith, power, pow-pos k) in
       let from = start % slots in
@@ -74,40 +74,40 @@ module _ {ports slots : ℕ} {matrix bytes : List ℕ} (legal : Legal ports slot
       let short : len % slots < slots = mod-lt len h in
       let near = rest-near from head tail (omega arith) (omega arith) (λ n. omega arith) in
       let sum : head + tail ≡ len % slots = omega arith in
-      let parts : cells c ports (repeated ports slots bytes start len) ≡ turns * m + (cells c ports (runOf ports from head bytes) + front tail)
-      = cells-from ports slots bytes (legal .size) c h start len
-      ∙ cells-turns ports slots bytes (legal .size) c from len turns head tail low refl refl sum
-      ∙ ap (λ z. turns * z + (cells c ports (runOf ports from head bytes) + front tail)) whole in
+      let parts : cells c ports list (repeated ports slots entries start len) ≡ turns * m + (cells c ports list (runOf ports from head entries) + front tail)
+      = cells-from ports slots list entries (legal .size) c h start len
+      ∙ cells-turns ports slots list entries (legal .size) c from len turns head tail low refl refl sum
+      ∙ ap (λ z. turns * z + (cells c ports list (runOf ports from head entries) + front tail)) whole in
       let length-is : len ≡ turns * slots + (head + tail) = omega (arith, div-add-mod' len slots) in
       omega (arith, near .0, near .1, ap (λ z. slots * z) parts, ap (λ z. z * m) length-is)
 
-  pub sound-lead : (start len : ℕ) → Led c ports slots k matrix bytes start len
+  pub sound-lead : (start len : ℕ) → Led c ports slots k list entries start len
   unfolding lead
   sound-lead start len =
-      let share : len * cells c ports bytes ≡ len * m = ap (λ z. len * z) whole in
-      let near : Near (2 * deviation k) (slots * cells c ports (repeated ports slots bytes start len)) (len * cells c ports bytes)
+      let share : len * cells c ports list entries ≡ len * m = ap (λ z. len * z) whole in
+      let near : Near (2 * deviation k) (slots * cells c ports list (repeated ports slots entries start len)) (len * cells c ports list entries)
       = rw share (run-near start len) in
-      let sharp : natAbs (lead c ports slots bytes start len) ≤ 2 * deviation k
+      let sharp : natAbs (lead c ports slots list entries start len) ≤ 2 * deviation k
       = minus-near (2 * deviation k) _ _ near in
       record {
         near = omega (arith, sharp, deviation-most k, ap (λ z. (2 * k + 1) * z) power);
         sharp = omega (arith, sharp);
-        from-share = ap (λ z. pos (slots * cells c ports (repeated ports slots bytes start len)) -ℤ pos z) share;
-        turns = λ w e. rw e (lead-turns c ports slots bytes (legal .size) (omega (arith, power, pow-pos k)) start w);
+        from-share = ap (λ z. pos (slots * cells c ports list (repeated ports slots entries start len)) -ℤ pos z) share;
+        turns = λ w e. rw e (lead-turns c ports slots list entries (legal .size) (omega (arith, power, pow-pos k)) start w);
       }
 
 -- ---- of what Build leaves
 pub built-lead : BuiltLead
-built-lead ports slots matrix buffer e k power c of =
-    let s = build-sound ports slots matrix buffer e in
+built-lead ports slots list buffer e k power c of =
+    let s = build-sound ports slots list buffer e in
     sound-lead (s .0) (s .1) c of k power
 
 -- ---- of what Service count answers
 pub answered-lead : AnsweredLead
 unfolding service
-answered-lead ports slots matrix buffer e k power who start len =
-    let bytes = left ports slots matrix buffer in
-    byBool (clear (countChecks ports slots bytes who start len))
-    (λ c. let of = who-of ports who (clear-who ports slots bytes who start len c) in
-    rw c (built-lead ports slots matrix buffer e k power (classOf who) of (start - 1) len .near))
+answered-lead ports slots list buffer e k power who start len =
+    let entries = left ports slots list buffer in
+    byBool (clear (countChecks ports slots list entries who start len))
+    (λ c. let of = who-of ports list who (clear-who ports slots list entries who start len c) in
+    rw c (built-lead ports slots list buffer e k power (classOf who) of (start - 1) len .near))
     (λ c. rw c (omega arith))

@@ -10,15 +10,14 @@ use lib.ListN.{length}
 use lib.Signed.{_≤ℤ_}
 use Rattle.model.specs.Words.{sumTo, Every}
 use Rattle.model.specs.Flows.{Class, Of, load}
-use Rattle.model.specs.Frames.{cells, runOf}
+use Rattle.model.specs.Frames.{cells}
 use Rattle.model.specs.Service.{repeated, lead}
-use Rattle.model.specs.Wire.{Carried, none, chain, wire, inside, share, Shape, deviation}
-use Rattle.model.specs.Queue.{waiting, scheduledOn, arrived, Paced, HeldOn, Buffers, BuffersAtSeams, BuffersByLead}
-use Rattle.model.proofs.Sums.{sum-more, sum-ext, sum-append}
-use Rattle.model.proofs.Cells.{cells-none, cells-run, run-none}
+use Rattle.model.specs.Wire.{Carried, none, chain, cellsAt, cellsIn, inside, share, Shape, deviation}
+use Rattle.model.specs.Queue.{waiting, arrived, Paced, HeldOn, Buffers, BuffersAtSeams, BuffersByLead}
+use Rattle.model.proofs.Sums.{sum-ext, sum-append}
 use Rattle.model.proofs.Runs.{cells-repeated, cells-once}
 use Rattle.model.proofs.Integers.{minus-least}
-use Rattle.model.proofs.Demand3.{Sound, Good, good-of, wire-length, share-split, run-sharp, chain-sound}
+use Rattle.model.proofs.Demand3.{Sound, Good, good-of, share-split, run-sharp, chain-sound}
 
 -- ---- the run since the queue was last empty: what waits now arrived in it and has not left
 pub record Since (arrive scheduled : ℕ → ℕ) (t : ℕ) : Type 0 where
@@ -41,15 +40,6 @@ module _ (arrive scheduled : ℕ → ℕ) where
             record { start = s .start; len = suc (s .len); ends = omega (arith, s .ends); waits = omega (arith, s .waits, a, b) })
       ]
 
--- ---- the cells of a run are those of its slots
-pub cells-slots : (c : Class) (ports start len : ℕ) (bytes : List ℕ) → (start + len) * ports ≤ length bytes
-    → sumTo len (λ t. cells c ports (runOf ports (start + t) 1 bytes)) ≡ cells c ports (runOf ports start len bytes)
-unfolding sumTo
-cells-slots c ports start zero bytes h = sym (ap (cells c ports) (run-none ports start bytes) ∙ cells-none ports c)
-cells-slots c ports start (suc len) bytes h =
-    let more : suc len ≡ len + 1 = omega arith in
-    rw more (omega (arith, cells-run ports c start len 1 bytes (omega arith), cells-slots c ports start len bytes (omega arith)))
-
 -- ---- a chain in which a flow's load is the same in every frame, or at least so much
 inside-parts : (lo hi start end : ℕ) → lo ≤ hi → hi ≤ end → (hi - max lo start) + (end - max hi start) ≡ end - max lo start
 inside-parts lo hi start end below above = omega arith
@@ -70,7 +60,7 @@ inside-sum lo hi end start len below above =
 
 -- where each load is in one relation to m, equal to it or at least as much, the share is in it to m times the slots in the chain
 module _ (R : ℕ → ℕ → Type 0) (none : R 0 0) (add : (a b x y : ℕ) → R a b → R x y → R (a + x) (b + y)) (times : (z a b : ℕ) → R a b → R (a * z) (b * z)) where
-  share-by : (c : Class) (ports n m : ℕ) (fs : List Carried) → Every (Shape ports n) fs → Every (λ f. R (load c ports (f .call .matrix)) m) fs
+  share-by : (c : Class) (ports n m : ℕ) (fs : List Carried) → Every (Shape ports n) fs → Every (λ f. R (load c (f .call .list)) m) fs
       → (lo start len : ℕ) → R (share c lo fs start len) (m * inside lo (lo + length fs * n) start len)
   unfolding share
   share-by c ports n m [] shape all lo start len =
@@ -84,22 +74,22 @@ module _ (R : ℕ → ℕ → Type 0) (none : R 0 0) (add : (a b x y : ℕ) → 
       let sum : inside lo hi start len + inside hi end start len ≡ inside lo end start len = inside-sum lo hi end start len (omega arith) (omega arith) in
       let parts : m * inside lo end start len ≡ m * inside lo hi start len + m * inside hi end start len = omega (arith, ap (λ z. m * z) sum) in
       let law : R (share c hi fs start len) (m * inside hi end start len) = rw tail at (share-by c ports n m fs (shape .1) (all .1) hi start len) in
-      rw (shape .0 .ports-are, shape .0 .slots-are, parts)
-      (add _ _ _ _ (times (inside lo hi start len) (load c ports (f .call .matrix)) m (all .0)) law)
+      rw (shape .0 .slots-are, parts)
+      (add _ _ _ _ (times (inside lo hi start len) (load c (f .call .list)) m (all .0)) law)
 
   -- so the share of a run of the chain is in it to its slots times m
-  share-run : (c : Class) (ports k m : ℕ) (fs : List Carried) → Every (Shape ports (2 ^ k)) fs → Every (λ f. R (load c ports (f .call .matrix)) m) fs
+  share-run : (c : Class) (ports k m : ℕ) (fs : List Carried) → Every (Shape ports (2 ^ k)) fs → Every (λ f. R (load c (f .call .list)) m) fs
       → (start len : ℕ) → start + len ≤ length fs * 2 ^ k → R (share c 0 fs start len) (len * m)
   share-run c ports k m fs shape all start len fits =
       let e : inside 0 (0 + length fs * 2 ^ k) start len ≡ len = omega arith in
       let is : m * inside 0 (0 + length fs * 2 ^ k) start len ≡ len * m = omega (arith, ap (λ z. m * z) e) in
       rw is at (share-by c ports (2 ^ k) m fs shape all 0 start len)
 
-pub share-is : (c : Class) (ports k m : ℕ) (fs : List Carried) → Every (Shape ports (2 ^ k)) fs → Every (λ f. load c ports (f .call .matrix) ≡ m) fs
+pub share-is : (c : Class) (ports k m : ℕ) (fs : List Carried) → Every (Shape ports (2 ^ k)) fs → Every (λ f. load c (f .call .list) ≡ m) fs
     → (start len : ℕ) → start + len ≤ length fs * 2 ^ k → share c 0 fs start len ≡ len * m
 share-is = share-run (λ a b. a ≡ b) refl (λ a b x y p q. omega arith) (λ z a b p. ap (λ v. v * z) p)
 
-pub share-least : (c : Class) (ports k m : ℕ) (fs : List Carried) → Every (Shape ports (2 ^ k)) fs → Every (λ f. m ≤ load c ports (f .call .matrix)) fs
+pub share-least : (c : Class) (ports k m : ℕ) (fs : List Carried) → Every (Shape ports (2 ^ k)) fs → Every (λ f. m ≤ load c (f .call .list)) fs
     → (start len : ℕ) → start + len ≤ length fs * 2 ^ k → len * m ≤ share c 0 fs start len
 share-least = share-run (λ a b. b ≤ a) (omega arith) (λ a b x y p q. omega arith) (λ z a b p. mul-le-mul-right z p)
 
@@ -117,24 +107,23 @@ arrived-append arrive start len more =
     let same = sum-ext more (λ t. arrive (start + (len + t))) (λ t. arrive (start + len + t)) (λ t l. ap arrive (omega arith)) in
     omega (arith, sum-append len more (λ t. arrive (start + t)))
 
+arrived-one : (arrive : ℕ → ℕ) (start : ℕ) → arrived arrive start 1 ≡ arrive start
+unfolding arrived sumTo
+arrived-one arrive start = let e : start + 0 ≡ start = omega arith in omega (arith, ap arrive e)
+
 arrived-more : (arrive : ℕ → ℕ) (start len : ℕ) → arrived arrive start (len + 1) ≡ arrived arrive start len + arrive (start + len)
-unfolding arrived
-arrived-more arrive start len =
-    let more : len + 1 ≡ suc len = omega arith in
-    rw more (sum-more len (λ t. arrive (start + t)))
+arrived-more arrive start len = arrived-append arrive start len 1 ∙ ap (λ z. arrived arrive start len + z) (arrived-one arrive (start + len))
+
+-- what a chain schedules in a run is the run's cells
+pub served : (c : Class) (fs : List Carried) (start len : ℕ) → arrived (cellsAt c fs) start len ≡ cellsIn c fs start len
+unfolding arrived cellsIn
+served c fs start len = refl
 
 -- ---- every slot of a chain of sound frames
 module _ (c : Class) (ports k : ℕ) (of : Of ports c) (fs : List Carried) (good : Every (Good ports (2 ^ k)) fs) where
-  pub served : (start len : ℕ) → start + len ≤ length fs * 2 ^ k
-      → arrived (scheduledOn c ports fs) start len ≡ cells c ports (runOf ports start len (wire fs))
-  unfolding arrived
-  served start len h =
-      let long = mul-le-mul-right ports h in
-      cells-slots c ports start len (wire fs) (omega (arith, wire-length fs ports (2 ^ k) good))
-
   -- what has been scheduled since the queue was last empty, and the share of that run
-  module _ (a : ℕ) (arrive : ℕ → ℕ) (paced : Paced k a (length fs * 2 ^ k) (share c 0 fs) arrive) (t : ℕ) (s : Since arrive (scheduledOn c ports fs) t) where
-    after : t ≤ length fs * 2 ^ k → 2 ^ k * waiting arrive (scheduledOn c ports fs) t ≤ a + 2 * deviation k
+  module _ (a : ℕ) (arrive : ℕ → ℕ) (paced : Paced k a (length fs * 2 ^ k) (share c 0 fs) arrive) (t : ℕ) (s : Since arrive (cellsAt c fs) t) where
+    after : t ≤ length fs * 2 ^ k → 2 ^ k * waiting arrive (cellsAt c fs) t ≤ a + 2 * deviation k
     after h =
         let fits : s .start + s .len ≤ length fs * 2 ^ k = omega (arith, s .ends) in
         let near = run-sharp c ports k of fs good (s .start) (s .len) fits .any in
@@ -143,10 +132,10 @@ module _ (c : Class) (ports k : ℕ) (of : Of ports c) (fs : List Carried) (good
           near .1,
           paced (s .start) (s .len) fits,
           mul-le-mul-left (2 ^ k) (s .waits),
-          ap (λ x. 2 ^ k * x) (served (s .start) (s .len) fits),
+          ap (λ x. 2 ^ k * x) (served c fs (s .start) (s .len)),
         )
 
-    before : t < length fs * 2 ^ k → 2 ^ k * (waiting arrive (scheduledOn c ports fs) t + arrive t) ≤ a + 2 * deviation k + share c 0 fs t 1
+    before : t < length fs * 2 ^ k → 2 ^ k * (waiting arrive (cellsAt c fs) t + arrive t) ≤ a + 2 * deviation k + share c 0 fs t 1
     before h =
         let fits : s .start + s .len ≤ length fs * 2 ^ k = omega (arith, s .ends) in
         let near = run-sharp c ports k of fs good (s .start) (s .len) fits .any in
@@ -159,24 +148,24 @@ module _ (c : Class) (ports k : ℕ) (of : Of ports c) (fs : List Carried) (good
           near .1,
           paced (s .start) (s .len + 1) (omega (arith, s .ends)),
           mul-le-mul-left (2 ^ k) (s .waits),
-          ap (λ x. 2 ^ k * x) (served (s .start) (s .len) fits),
+          ap (λ x. 2 ^ k * x) (served c fs (s .start) (s .len)),
           ap (λ x. 2 ^ k * x) last,
           shares,
         )
 
-  pub chain-held : HeldOn c ports k fs (share c 0 fs)
+  pub chain-held : HeldOn c k fs (share c 0 fs)
   chain-held a arrive paced t h =
-      let s = since arrive (scheduledOn c ports fs) in
+      let s = since arrive (cellsAt c fs) in
       record { after = omega (arith, after a arrive paced (suc t) (s (suc t)) (omega arith)); before = omega (arith, before a arrive paced t (s t) h) }
 
 -- Frames that are legal and balanced, whoever made them, hold a flow that keeps to its share,
 pub sound-held : (ports k : ℕ) (fs : List Carried) → Every Sound fs → Every (Shape ports (2 ^ k)) fs → (c : Class) → Of ports c
-    → HeldOn c ports k fs (share c 0 fs)
+    → HeldOn c k fs (share c 0 fs)
 sound-held ports k fs sound shape c of = chain-held c ports k of fs (good-of ports (2 ^ k) fs sound shape)
 
 -- and one whose load is the same in each of them.
 pub sound-steady : (ports k : ℕ) (fs : List Carried) → Every Sound fs → Every (Shape ports (2 ^ k)) fs → (c : Class) → Of ports c
-    → (m : ℕ) → Every (λ f. load c ports (f .call .matrix) ≡ m) fs → HeldOn c ports k fs (λ start len. len * m)
+    → (m : ℕ) → Every (λ f. load c (f .call .list) ≡ m) fs → HeldOn c k fs (λ start len. len * m)
 sound-steady ports k fs sound shape c of m same a arrive paced t h =
     let is = share-is c ports k m fs shape same in
     let law = sound-held ports k fs sound shape c of a arrive (λ start len fits. omega (arith, paced start len fits, is start len fits)) t h in
@@ -190,19 +179,19 @@ pub buffers-at-seams : BuffersAtSeams
 buffers-at-seams buffer calls ports k = sound-held ports k (chain none buffer calls) (chain-sound none buffer calls tt)
 
 -- ---- one frame that repeats for ever
-module _ (c : Class) (ports slots : ℕ) (bytes : List ℕ) (size : length bytes ≡ slots * ports) (least : 1 ≤ slots) where
+module _ (c : Class) (ports slots : ℕ) (list entries : List ℕ) (size : length entries ≡ slots * ports) (least : 1 ≤ slots) where
   -- the cells that it schedules in slot t
   abbrev inTurn : ℕ → ℕ
-  inTurn t = cells c ports (repeated ports slots bytes t 1)
+  inTurn t = cells c ports list (repeated ports slots entries t 1)
 
-  turns-served : (start len : ℕ) → arrived inTurn start len ≡ cells c ports (repeated ports slots bytes start len)
+  turns-served : (start len : ℕ) → arrived inTurn start len ≡ cells c ports list (repeated ports slots entries start len)
   unfolding arrived
   turns-served start len =
-      sum-ext len _ _ (λ t l. cells-once ports slots bytes size c least (start + t)) ∙ sym (cells-repeated ports slots bytes size c least start len)
+      sum-ext len _ _ (λ t l. cells-once ports slots list entries size c least (start + t)) ∙ sym (cells-repeated ports slots list entries size c least start len)
 
-  module _ (b : ℕ) (leads : (start len : ℕ) → negℤ (pos b) ≤ℤ lead c ports slots bytes start len) (a : ℕ) (arrive : ℕ → ℕ)
-      (paced : (start len : ℕ) → slots * arrived arrive start len ≤ len * cells c ports bytes + a) (t : ℕ) (s : Since arrive inTurn t) where
-    not-behind : (start len : ℕ) → len * cells c ports bytes ≤ slots * cells c ports (repeated ports slots bytes start len) + b
+  module _ (b : ℕ) (leads : (start len : ℕ) → negℤ (pos b) ≤ℤ lead c ports slots list entries start len) (a : ℕ) (arrive : ℕ → ℕ)
+      (paced : (start len : ℕ) → slots * arrived arrive start len ≤ len * cells c ports list entries + a) (t : ℕ) (s : Since arrive inTurn t) where
+    not-behind : (start len : ℕ) → len * cells c ports list entries ≤ slots * cells c ports list (repeated ports slots entries start len) + b
     unfolding lead
     not-behind start len = minus-least b _ _ (leads start len)
 
@@ -216,7 +205,7 @@ module _ (c : Class) (ports slots : ℕ) (bytes : List ℕ) (size : length bytes
           ap (λ x. slots * x) (turns-served (s .start) (s .len)),
         )
 
-    joined-waiting : slots * (waiting arrive inTurn t + arrive t) ≤ a + b + cells c ports bytes
+    joined-waiting : slots * (waiting arrive inTurn t + arrive t) ≤ a + b + cells c ports list entries
     joined-waiting =
         let last : arrived arrive (s .start) (s .len + 1) ≡ arrived arrive (s .start) (s .len) + arrive t
         = arrived-more arrive (s .start) (s .len) ∙ ap (λ z. arrived arrive (s .start) (s .len) + arrive z) (s .ends) in
@@ -231,9 +220,9 @@ module _ (c : Class) (ports slots : ℕ) (bytes : List ℕ) (size : length bytes
 
 -- How deep a buffer to order while one frame repeats.
 pub buffers-by-lead : BuffersByLead
-buffers-by-lead c ports slots bytes size least b leads a arrive paced t =
-    let s = since arrive (inTurn c ports slots bytes size least) in
+buffers-by-lead c ports slots list entries size least b leads a arrive paced t =
+    let s = since arrive (inTurn c ports slots list entries size least) in
     record {
-      after = omega (arith, left-waiting c ports slots bytes size least b leads a arrive paced (suc t) (s (suc t)));
-      before = omega (arith, joined-waiting c ports slots bytes size least b leads a arrive paced t (s t));
+      after = omega (arith, left-waiting c ports slots list entries size least b leads a arrive paced (suc t) (s (suc t)));
+      before = omega (arith, joined-waiting c ports slots list entries size least b leads a arrive paced t (s t));
     }

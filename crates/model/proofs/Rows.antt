@@ -9,13 +9,12 @@ use lib.ListN.{length}
 use borrow.Author.Tests.{le-ltb, lt-ltb}
 use Rattle.model.specs.Words.{if, sumTo, Every}
 use Rattle.model.specs.Flows.{Class, Of}
-use Rattle.model.specs.Wire.{Carried, none, chain, wire, share, deviation}
-use Rattle.model.specs.Queue.{waiting, scheduledOn, arrived, Paced}
+use Rattle.model.specs.Wire.{Carried, none, chain, cellsAt, share, deviation}
+use Rattle.model.specs.Queue.{waiting, arrived, Paced}
 use Rattle.model.specs.Row.{sent, Sends, Hop, framesAt, scheduledAt, Reserved, onward, HeldAlong, Row}
 use Rattle.model.proofs.Cases.{byLt}
 use Rattle.model.proofs.Sums.{sum-append, sum-le}
-use Rattle.model.proofs.Cells.{cells-beyond}
-use Rattle.model.proofs.Demand3.{Good, good-of, wire-length, run-sharp, chain-sound}
+use Rattle.model.proofs.Demand3.{Good, good-of, at-beyond, run-sharp, chain-sound}
 use Rattle.model.proofs.Queues.{served, share-is, sound-steady}
 
 module _ (arrive scheduled : ℕ → ℕ) where
@@ -32,7 +31,7 @@ module _ (arrive scheduled : ℕ → ℕ) where
 -- ---- a chain of sound frames
 module _ (c : Class) (ports k : ℕ) (of : Of ports c) (fs : List Carried) (good : Every (Good ports (2 ^ k)) fs) (arrive : ℕ → ℕ) where
   abbrev scheduled : ℕ → ℕ
-  scheduled = scheduledOn c ports fs
+  scheduled = cellsAt c fs
 
   pub chain-sends : Paced k (2 * deviation k) (length fs * 2 ^ k) (share c 0 fs) (sent arrive scheduled)
   chain-sends start len fits =
@@ -41,15 +40,13 @@ module _ (c : Class) (ports k : ℕ) (of : Of ports c) (fs : List Carried) (good
         arith,
         near .0,
         mul-le-mul-left (2 ^ k) (sent-most arrive scheduled start len),
-        ap (λ x. 2 ^ k * x) (served c ports k of fs good start len fits),
+        ap (λ x. 2 ^ k * x) (served c fs start len),
       )
 
   -- where the flow's load is the same in every frame, that holds of any run, for nothing is sent after the last frame
   module _ (m : ℕ) (is : (start len : ℕ) → start + len ≤ length fs * 2 ^ k → share c 0 fs start len ≡ len * m) where
     beyond : (t : ℕ) → length fs * 2 ^ k ≤ t → sent arrive scheduled t ≡ 0
-    beyond t h =
-        let long = mul-le-mul-right ports h in
-        omega (arith, cells-beyond ports c t 1 (wire fs) (omega (arith, wire-length fs ports (2 ^ k) good)))
+    beyond t h = omega (arith, at-beyond c ports (2 ^ k) fs good t h)
 
     pub always : (start len : ℕ) → 2 ^ k * arrived (sent arrive scheduled) start len ≤ len * m + 2 * deviation k
     unfolding arrived sumTo

@@ -8,9 +8,8 @@ use native.Mathlib.Omega.{arith}
 use lib.ListN.{length, getD, drop}
 use Rattle.model.specs.Words.{upFrom, sumTo, Every}
 use Rattle.model.specs.Flows.{Class, Of, load}
-use Rattle.model.specs.Frames.{cells, runOf}
-use Rattle.model.specs.Wire.{Carried, none, chain, wire, share, Shape}
-use Rattle.model.specs.Queue.{waiting, queue, scheduledOn, arrived}
+use Rattle.model.specs.Wire.{Carried, none, chain, cellsAt, cellsIn, share, Shape}
+use Rattle.model.specs.Queue.{waiting, queue, arrived}
 use Rattle.model.specs.Wait.{HasAtLeast, byDemand3, bySharp, Leaves, Suffices, WaitsOn, LongestWait, longest, Least, LeastWait, PacedOn, PacedWait}
 use Rattle.model.specs.Row.{sent}
 use Rattle.model.proofs.Cases.{byLt}
@@ -118,15 +117,15 @@ longest-only gap k m w len h l =
 
 -- in sound frames a class has what is reserved for it
 module _ (c : Class) (ports k : ℕ) (of : Of ports c) where
-  reserved : (m : ℕ) (fs : List Carried) → Every (Good ports (2 ^ k)) fs → HasAtLeast m c ports fs → Every (λ f. m ≤ load c ports (f .call .matrix)) fs
+  reserved : (m : ℕ) (fs : List Carried) → Every (Good ports (2 ^ k)) fs → HasAtLeast m c ports fs → Every (λ f. m ≤ load c (f .call .list)) fs
   reserved m [] good has = tt
-  reserved m (f ∷ fs) good has = (omega (arith, has .0, legal-exact (good .0 .legal) c of), reserved m fs (good .1) (has .1))
+  reserved m (f ∷ fs) good has = (omega (arith, has .0, legal-exact (good .0 .legal) c), reserved m fs (good .1) (has .1))
 
   -- where every run has w cells, a cell that was w-th has left after it
   pub suffices : (fs : List Carried) → Every (Good ports (2 ^ k)) fs → (w len : ℕ) → 1 ≤ w
-      → ((start : ℕ) → start + len ≤ length fs * 2 ^ k → w ≤ cells c ports (runOf ports start len (wire fs))) → Suffices c ports k fs w len
+      → ((start : ℕ) → start + len ≤ length fs * 2 ^ k → w ≤ cellsIn c fs start len) → Suffices c k fs w len
   suffices fs good w len least runs =
-      record { runs = runs; leaves = λ arrive t fits many. leaves-after arrive _ t w many len least (omega (arith, runs t fits, served c ports k of fs good t len fits)) }
+      record { runs = runs; leaves = λ arrive t fits many. leaves-after arrive _ t w many len least (omega (arith, runs t fits, served c fs t len)) }
 
 -- Frames that are legal and balanced, whoever made them, keep the longest wait by the sharp bound, and so by any that is no less.
 pub sound-waits : (gap ports k : ℕ) → bySharp k ≤ gap → (fs : List Carried) → Every Sound fs → Every (Shape ports (2 ^ k)) fs → WaitsOn gap ports k fs
@@ -135,9 +134,9 @@ sound-waits gap ports k wide fs sound shape c of m w one least has len enough = 
     good : Every (Good ports (2 ^ k)) fs
     good = good-of ports (2 ^ k) fs sound shape
 
-    runs : (start : ℕ) → start + len ≤ length fs * 2 ^ k → w ≤ cells c ports (runOf ports start len (wire fs))
+    runs : (start : ℕ) → start + len ≤ length fs * 2 ^ k → w ≤ cellsIn c fs start len
     runs start fits =
-        let n = cells c ports (runOf ports start len (wire fs)) in
+        let n = cellsIn c fs start len in
         let near = run-sharp c ports k of fs good start len fits .any in
         let most = share-least c ports k m fs shape (reserved c ports k of m fs good has) start len fits in
         byLt n w
@@ -165,7 +164,7 @@ sound-paced ports k fs sound shape c of m has a arrive paced len enough t w fits
     good = good-of ports (2 ^ k) fs sound shape
 
     scheduled : ℕ → ℕ
-    scheduled = scheduledOn c ports fs
+    scheduled = cellsAt c fs
 
     -- since the queue was last empty no more came than the share of those slots and the allowance, and from then to the end of the next len no
     -- less is given than their share, less the sharp bound
@@ -174,10 +173,10 @@ sound-paced ports k fs sound shape c of m has a arrive paced len enough t w fits
         let s = since arrive scheduled t in
         let within : s .start + (s .len + len) ≤ length fs * 2 ^ k = omega (arith, s .ends, fits) in
         let near = run-sharp c ports k of fs good (s .start) (s .len + len) within .any in
-        let given : arrived scheduled (s .start) (s .len) + arrived scheduled t len ≡ cells c ports (runOf ports (s .start) (s .len + len) (wire fs))
+        let given : arrived scheduled (s .start) (s .len) + arrived scheduled t len ≡ cellsIn c fs (s .start) (s .len + len)
         = omega (
           arith,
-          served c ports k of fs good (s .start) (s .len + len) within,
+          served c fs (s .start) (s .len + len),
           arrived-append scheduled (s .start) (s .len) len,
           ap (λ z. arrived scheduled z len) (s .ends),
         ) in

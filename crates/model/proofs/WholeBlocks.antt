@@ -9,34 +9,34 @@ use lib.ListN.{length}
 use Rattle.model.specs.Words.{Every}
 use Rattle.model.specs.Flows.{Class, Of}
 use Rattle.model.specs.Frames.{cells, runOf, Balanced, Block}
-use Rattle.model.specs.Wire.{Carried, none, chain, wire, Shape}
+use Rattle.model.specs.Wire.{Carried, none, chain, cellsIn, Shape}
 use Rattle.model.specs.Wait.{HasAtLeast, BlocksOn, BlockWait}
 use Rattle.model.proofs.Cases.{byEq, byLt}
-use Rattle.model.proofs.Cells.{cells-run, run-first, run-second, run-all}
+use Rattle.model.proofs.Cells.{cells-run, run-all}
 use Rattle.model.proofs.Blocks.{block-fits, number-block}
-use Rattle.model.proofs.Demand3.{Sound, Good, good-of, wire-length, chain-sound}
+use Rattle.model.proofs.Demand3.{Sound, Good, good-of, in-more, in-first, in-rest, chain-sound}
 use Rattle.model.proofs.Waits.{suffices}
 
 -- ---- a balanced frame
-module _ (c : Class) (ports slots k : ℕ) (of : Of ports c) (bytes : List ℕ) (power : slots ≡ 2 ^ k) (size : length bytes ≡ slots * ports)
-    (balanced : Balanced ports slots bytes) where
+module _ (c : Class) (ports slots k : ℕ) (of : Of ports c) (list entries : List ℕ) (power : slots ≡ 2 ^ k) (size : length entries ≡ slots * ports)
+    (balanced : Balanced ports slots list entries) where
   -- both halves of a block that has 2 × x cells have x
-  half-least : (x start z : ℕ) → Block slots start (2 * z) → 2 * x ≤ cells c ports (runOf ports start (2 * z) bytes)
-      → (x ≤ cells c ports (runOf ports start z bytes)) × (x ≤ cells c ports (runOf ports (start + z) z bytes))
+  half-least : (x start z : ℕ) → Block slots start (2 * z) → 2 * x ≤ cells c ports list (runOf ports start (2 * z) entries)
+      → (x ≤ cells c ports list (runOf ports start z entries)) × (x ≤ cells c ports list (runOf ports (start + z) z entries))
   half-least x start z block most =
       let two : 2 * z ≡ z + z = omega arith in
       let long = mul-le-mul-right ports (block-fits slots start (2 * z) block) in
-      let sum = cells-run ports c start z z bytes (omega arith) in
+      let sum = cells-run ports list c start z z entries (omega arith) in
       let near = balanced c of start z block in
-      let all : 2 * x ≤ cells c ports (runOf ports start (z + z) bytes) = rw two at most in
+      let all : 2 * x ≤ cells c ports list (runOf ports start (z + z) entries) = rw two at most in
       (omega (arith, near .0, near .1), omega (arith, near .0, near .1))
 
   -- so each block of depth t has x cells, where the frame has 2 ^ t × x
-  pub block-least : (t x b z : ℕ) → t ≤ k → b < 2 ^ t → z ≡ 2 ^ (k - t) → 2 ^ t * x ≤ cells c ports bytes → x ≤ cells c ports (runOf ports (b * z) z bytes)
+  pub block-least : (t x b z : ℕ) → t ≤ k → b < 2 ^ t → z ≡ 2 ^ (k - t) → 2 ^ t * x ≤ cells c ports list entries → x ≤ cells c ports list (runOf ports (b * z) z entries)
   block-least zero x b z h l d most =
       let b0 : b * z ≡ 0 = (let a : b ≡ 0 = omega arith in rw a (omega arith)) in
       let z0 : z ≡ slots = d ∙ ap (λ y. 2 ^ y) (omega arith) ∙ sym power in
-      rw (b0, z0, run-all ports slots bytes size) (omega arith)
+      rw (b0, z0, run-all ports slots entries size) (omega arith)
   block-least (suc t) x b z h l d most =
       let up : 2 * z ≡ 2 ^ (k - t) = (let a : k - t ≡ suc (k - suc t) = omega arith in omega (arith, ap (λ y. 2 ^ y) a, two-pow-succ (k - suc t))) in
       let p = two-pow-succ t in
@@ -60,8 +60,7 @@ module _ (c : Class) (ports k j z : ℕ) (of : Of ports c) (low : j ≤ k) (is :
 
   -- each block of z slots has a cell
   chain-block : (fs : List Carried) → Every (Good ports (2 ^ k)) fs → HasAtLeast (2 ^ j) c ports fs → (b : ℕ) → b < length fs * 2 ^ j
-      → 1 ≤ cells c ports (runOf ports (b * z) z (wire fs))
-  unfolding wire
+      → 1 ≤ cellsIn c fs (b * z) z
   chain-block [] good has b l = absurd (omega arith)
   chain-block (f ∷ fs) good has b l =
       let g = good .0 in
@@ -69,28 +68,26 @@ module _ (c : Class) (ports k j z : ℕ) (of : Of ports c) (low : j ≤ k) (is :
       byLt b (2 ^ j)
       (λ h.
       let fits : b * z + z ≤ 2 ^ k = omega (arith, frame-blocks, mul-le-mul-right z h) in
-      let one = block-least c ports (2 ^ k) k of (f .bytes) refl size (g .balanced) j 1 b z low h is (omega (arith, has .0)) in
-      rw (run-first ports (2 ^ k) (b * z) z (f .bytes) (wire fs) size fits) one)
+      let one = block-least c ports (2 ^ k) k of (f .call .list) (f .entries) refl size (g .balanced) j 1 b z low h is (omega (arith, has .0)) in
+      rw (in-first c ports (2 ^ k) f fs g (b * z) z fits) one)
       (λ h.
       let rest = b - 2 ^ j in
       let parts : b ≡ 2 ^ j + rest = omega arith in
       let at : b * z ≡ 2 ^ k + rest * z = omega (arith, frame-blocks, ap (λ y. y * z) parts) in
-      rw (at, run-second ports (2 ^ k) (rest * z) z (f .bytes) (wire fs) size) (chain-block fs (good .1) (has .1) rest (omega arith)))
+      rw (at, in-rest c ports (2 ^ k) f fs g (rest * z) z) (chain-block fs (good .1) (has .1) rest (omega arith)))
 
   module _ (fs : List Carried) (good : Every (Good ports (2 ^ k)) fs) (has : HasAtLeast (2 ^ j) c ports fs) where
     -- so w blocks in a row have w
-    blocks-least : (w b : ℕ) → b + w ≤ length fs * 2 ^ j → w ≤ cells c ports (runOf ports (b * z) (w * z) (wire fs))
+    blocks-least : (w b : ℕ) → b + w ≤ length fs * 2 ^ j → w ≤ cellsIn c fs (b * z) (w * z)
     blocks-least zero b fits = omega arith
     blocks-least (suc w) b fits =
         let next : b * z + w * z ≡ (b + w) * z = omega arith in
         let more : suc w * z ≡ w * z + z = omega arith in
-        let bytes = wire-length fs ports (2 ^ k) good in
-        let low : (b + w) * z * ports ≤ length fs * 2 ^ k * ports = mul-le-mul-right ports (omega (arith, mul-le-mul-right z fits, ap (λ y. length fs * y) frame-blocks)) in
-        let sum = cells-run ports c (b * z) (w * z) z (wire fs) (omega arith) in
+        let sum = in-more c fs (b * z) (w * z) z in
         rw more (omega (arith, rw next at sum, blocks-least w b (omega arith), chain-block fs good has (b + w) (omega arith)))
 
     -- and a run of w + 1 blocks less one slot has w of them
-    pub run-least : (w start len : ℕ) → (w + 1) * z ≤ len + 1 → start + len ≤ length fs * 2 ^ k → w ≤ cells c ports (runOf ports start len (wire fs))
+    pub run-least : (w start len : ℕ) → (w + 1) * z ≤ len + 1 → start + len ≤ length fs * 2 ^ k → w ≤ cellsIn c fs start len
     run-least w start len long fits =
         let least : 1 ≤ z = rw is (pow-pos (k - j)) in
         let b = (start + (z - 1)) / z in
@@ -100,11 +97,8 @@ module _ (c : Class) (ports k j z : ℕ) (of : Of ports c) (low : j ≤ k) (is :
         let after = start + len - (b * z + w * z) in
         let first : start + before ≡ b * z = omega arith in
         let all : before + (w * z + after) ≡ len = omega arith in
-        let bytes : (start + len) * ports ≤ length (wire fs) = omega (arith, mul-le-mul-right ports fits, wire-length fs ports (2 ^ k) good) in
-        let begins : (start + before) * ports ≤ (start + len) * ports = mul-le-mul-right ports (omega arith) in
-        let ends : (b * z + w * z) * ports ≤ (start + len) * ports = mul-le-mul-right ports (omega arith) in
-        let one = cells-run ports c start before (w * z + after) (wire fs) (omega arith) in
-        let two = cells-run ports c (b * z) (w * z) after (wire fs) (omega arith) in
+        let one = in-more c fs start before (w * z + after) in
+        let two = in-more c fs (b * z) (w * z) after in
         let in-chain : b + w ≤ length fs * 2 ^ j = byLt (length fs * 2 ^ j) (b + w)
         (λ h. absurd (omega (arith, mul-le-mul-right z h, ap (λ y. length fs * y) frame-blocks))) (λ h. h) in
         omega (arith, rw (first, all) at one, two, blocks-least w b in-chain)
