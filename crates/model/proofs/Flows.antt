@@ -1,5 +1,5 @@
 -- Flows: the counts of a list, one for each flow, and what an entry counts for.
-use Prim.Native.Nat.{ℕ, suc, zero, _+_, _-_, _%_, _<_}
+use Prim.Native.Nat.{ℕ, suc, zero, _+_, _-_, _%_, _≤_, _<_}
 use mathlib.Core.Path.{_≡_, refl, sym, ap, _∙_}
 use mathlib.Core.List.{List, [], _∷_, map}
 use mathlib.Core.Bool.{Bool, true, false, not}
@@ -89,6 +89,17 @@ module _ (list : List ℕ) where
       (λ d. byBool (isFlow list e)
       (λ b. let w = within-true 1 (flows list) e b in rw b (is-no (e - 1) f (omega arith) ∙ sym (is-no e (suc f) d)))
       (λ b. rw b (sym (is-no e (suc f) d))))
+
+  -- for one that is not in the list, none does
+  not-flow : (f at e : ℕ) → flows list ≤ f → bit (counts (flow f) list at e) ≡ 0
+  not-flow f at e h =
+      byBool (isFlow list e)
+      (λ b. let w = within-true 1 (flows list) e b in rw b (is-no (e - 1) f (omega arith)))
+      (λ b. rw b)
+
+  pub cells-not : (f ports : ℕ) (entries : List ℕ) → flows list ≤ f → cells (flow f) ports list entries ≡ 0
+  unfolding cells
+  cells-not f ports entries h = sum-zero (length entries) _ (λ q _. not-flow f (q % ports) (getD entries q 0) h)
 
 -- ---- a class is its flows: what is exact for each flow is exact for every class
 module _ (ports : ℕ) (list entries : List ℕ) (each : (q : ℕ) → q < length entries → right list (q % ports) (getD entries q 0) ≡ true) where

@@ -1,18 +1,17 @@
 -- Inspect: what its tests of classes and blocks say.
-use Prim.Native.Nat.{ℕ, suc, zero, _+_, _*_, _/_, _%_, _≤_, _<_}
+use Prim.Native.Nat.{ℕ, suc, zero, _+_, _≤_, _<_}
 use mathlib.Core.Path.{_≡_, refl, sym, ap, _∙_}
 use mathlib.Core.List.{List, [], _∷_, _++_, map}
 use mathlib.Core.Bool.{Bool, true, false, not, true≢false}
 use native.Mathlib.Omega.{arith}
-use native.Mathlib.Nat.{mod-lt, div-lt-iff-lt-mul}
-use lib.Arith.{digits-div, digits-mod, digits-lt}
 use lib.Dec.{leb}
 use borrow.Author.Tests.{leb-true, le-leb}
 use Rattle.model.specs.Words.{both, near, Near, upFrom}
-use Rattle.model.specs.Flows.{Class, pair, input, output, total, Of}
+use Rattle.model.specs.Flows.{flows, Class, flow, input, output, total, Of}
 use Rattle.model.specs.Frames.{cells, runOf}
 use Rattle.model.specs.Inspect.{classes, all, unbalanced}
-use Rattle.model.proofs.Cases.{byBool, byEq, both-true}
+use Rattle.model.proofs.Cases.{byBool, byEq, byLt, both-true}
+use Rattle.model.proofs.Flows.{cells-not}
 
 -- ---- near, as a test
 pub near-yes : (gap a b : ℕ) → Near gap a b → near gap a b ≡ true
@@ -39,26 +38,24 @@ module _ (t : Class → Bool) (f : ℕ → Class) where
       byEq a x (λ d. rw (rw (sym d) at e))
       (λ d. byBool (t (f a)) (λ k. rw k (all-no (suc a) n x (omega arith) (omega arith) e)) (λ k. rw k))
 
-module _ (ports : ℕ) (t : Class → Bool) where
-  pub position-of : (p : ℕ) → p < ports * ports → (p / ports < ports) × (p % ports < ports)
-  position-of p h =
-      byEq ports 0
-      (λ e. absurd (none e h))
-      (λ n. (div-lt-iff-lt-mul {k = ports} {x = p} {y = ports} (omega arith) .1 h, mod-lt p {m = ports} (omega arith)))
-    where
-      none : ports ≡ 0 → p < ports * ports → ⊥
-      none e k = let z : ports * ports ≡ 0 = rw e in omega arith
+-- the classes of a switch and a list: of flows, those in the list
+abbrev pub In : ℕ → List ℕ → Class → Type 0
+In ports list (flow f) = f < flows list
+In ports list (input i) = i < ports
+In ports list (output o) = o < ports
+In ports list total = Unit {0}
 
+module _ (ports : ℕ) (list : List ℕ) (t : Class → Bool) where
   -- kind by kind
-  all-kinds : all t (classes ports)
-      ≡ both (all t (map (λ p. pair (p / ports) (p % ports)) (upFrom 0 (ports * ports)))) (both (all t (map input (upFrom 0 ports))) (both (all t (map output (upFrom 0 ports))) (both (t total) true)))
+  all-kinds : all t (classes ports list)
+      ≡ both (all t (map flow (upFrom 0 (flows list)))) (both (all t (map input (upFrom 0 ports))) (both (all t (map output (upFrom 0 ports))) (both (t total) true)))
   all-kinds = rw (all-append, all-append, all-append)
 
-  pub all-classes : ((c : Class) → Of ports c → t c ≡ true) → all t (classes ports) ≡ true
+  pub all-classes : ((c : Class) → In ports list c → t c ≡ true) → all t (classes ports list) ≡ true
   all-classes h =
       rw (
         all-kinds,
-        all-yes t (λ p. pair (p / ports) (p % ports)) 0 (ports * ports) (λ p _ k. h (pair (p / ports) (p % ports)) (position-of p (omega arith))),
+        all-yes t flow 0 (flows list) (λ f _ k. h (flow f) (omega arith)),
         all-yes t input 0 ports (λ i _ k. h (input i) (omega arith)),
         all-yes t output 0 ports (λ o _ k. h (output o) (omega arith)),
         h total tt,
@@ -68,11 +65,11 @@ module _ (ports : ℕ) (t : Class → Bool) where
   both-no true b e = e
   both-no false b e = refl
 
-  pub some-class : (c : Class) → Of ports c → t c ≡ false → all t (classes ports) ≡ false
+  pub some-class : (c : Class) → In ports list c → t c ≡ false → all t (classes ports list) ≡ false
   some-class c of e = all-kinds ∙ by c of e
     where
-      ps : Bool
-      ps = all t (map (λ p. pair (p / ports) (p % ports)) (upFrom 0 (ports * ports)))
+      fs : Bool
+      fs = all t (map flow (upFrom 0 (flows list)))
 
       is : Bool
       is = all t (map input (upFrom 0 ports))
@@ -80,29 +77,47 @@ module _ (ports : ℕ) (t : Class → Bool) where
       os : Bool
       os = all t (map output (upFrom 0 ports))
 
-      by : (c : Class) → Of ports c → t c ≡ false → both ps (both is (both os (both (t total) true))) ≡ false
-      by (pair i o) of e =
-          let d : t (pair ((i * ports + o) / ports) ((i * ports + o) % ports)) ≡ false = rw (digits-div i (of .1), digits-mod i (of .1)) e in
-          rw (all-no t (λ p. pair (p / ports) (p % ports)) 0 (ports * ports) (i * ports + o) (omega arith) (omega (arith, digits-lt {q = i} {m = ports} {r = o} {c = ports} (of .0) (of .1))) d)
-      by (input i) of e = both-no ps _ (rw (all-no t input 0 ports i (omega arith) (omega arith) e))
-      by (output o) of e = both-no ps _ (both-no is _ (rw (all-no t output 0 ports o (omega arith) (omega arith) e)))
-      by total of e = both-no ps _ (both-no is _ (both-no os _ (rw e)))
+      by : (c : Class) → In ports list c → t c ≡ false → both fs (both is (both os (both (t total) true))) ≡ false
+      by (flow f) of e = rw (all-no t flow 0 (flows list) f (omega arith) (omega arith) e)
+      by (input i) of e = both-no fs _ (rw (all-no t input 0 ports i (omega arith) (omega arith) e))
+      by (output o) of e = both-no fs _ (both-no is _ (rw (all-no t output 0 ports o (omega arith) (omega arith) e)))
+      by total of e = both-no fs _ (both-no is _ (both-no os _ (rw e)))
 
 -- ---- one block
-module _ (ports : ℕ) (bytes : List ℕ) (start half : ℕ) where
-  pub unbalanced-yes : (c : Class) → Of ports c
-      → near 1 (cells c ports (runOf ports start half bytes)) (cells c ports (runOf ports (start + half) half bytes)) ≡ false → unbalanced ports bytes start half ≡ true
-  unfolding unbalanced
-  unbalanced-yes c of e = ap not (some-class ports _ c of e)
+module _ (ports : ℕ) (list entries : List ℕ) (start half : ℕ) where
+  -- the halves of the block differ by at most 1 for a class
+  abbrev pub NearFor : Class → Type 0
+  NearFor c = Near 1 (cells c ports list (runOf ports start half entries)) (cells c ports list (runOf ports (start + half) half entries))
 
-  pub unbalanced-no : ((c : Class) → Of ports c → near 1 (cells c ports (runOf ports start half bytes)) (cells c ports (runOf ports (start + half) half bytes)) ≡ true)
-      → unbalanced ports bytes start half ≡ false
-  unfolding unbalanced
-  unbalanced-no h = ap not (all-classes ports _ h)
+  abbrev pub nearFor : Class → Bool
+  nearFor c = near 1 (cells c ports list (runOf ports start half entries)) (cells c ports list (runOf ports (start + half) half entries))
 
-  pub balanced-near : unbalanced ports bytes start half ≡ false → (c : Class) → Of ports c
-      → Near 1 (cells c ports (runOf ports start half bytes)) (cells c ports (runOf ports (start + half) half bytes))
-  balanced-near e c of =
-      byBool (near 1 (cells c ports (runOf ports start half bytes)) (cells c ports (runOf ports (start + half) half bytes)))
+  pub unbalanced-yes : (c : Class) → In ports list c → nearFor c ≡ false → unbalanced ports list entries start half ≡ true
+  unfolding unbalanced
+  unbalanced-yes c of e = ap not (some-class ports list _ c of e)
+
+  pub unbalanced-no : ((c : Class) → In ports list c → nearFor c ≡ true) → unbalanced ports list entries start half ≡ false
+  unfolding unbalanced
+  unbalanced-no h = ap not (all-classes ports list _ h)
+
+  in-near : unbalanced ports list entries start half ≡ false → (c : Class) → In ports list c → NearFor c
+  in-near e c of =
+      byBool (nearFor c)
       (λ k. near-true 1 _ _ k)
       (λ k. absurd (true≢false (sym (unbalanced-yes c of k) ∙ e)))
+
+  -- a flow that is not in the list has no cells in either half
+  pub balanced-near : unbalanced ports list entries start half ≡ false → (c : Class) → Of ports c → NearFor c
+  balanced-near e (flow f) of =
+      byLt f (flows list) (λ l. in-near e (flow f) l)
+      (λ l. rw (cells-not list f ports (runOf ports start half entries) l, cells-not list f ports (runOf ports (start + half) half entries) l) (omega arith))
+  balanced-near e (input i) of = in-near e (input i) of
+  balanced-near e (output o) of = in-near e (output o) of
+  balanced-near e total of = in-near e total of
+
+  -- the classes of a list are of the switch
+  pub in-of : (c : Class) → In ports list c → Of ports c
+  in-of (flow f) of = tt
+  in-of (input i) of = of
+  in-of (output o) of = of
+  in-of total of = of
