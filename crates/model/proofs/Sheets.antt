@@ -7,11 +7,11 @@ use mathlib.Core.Bool.{Bool, true, false, not, true≢false}
 use native.Mathlib.Omega.{arith}
 use native.Mathlib.Nat.{pow-suc}
 use lib.Dec.{eqb, leb}
-use lib.ListN.{length, getD, set, replicate, length-append}
+use lib.ListN.{length, getD, length-append}
 use borrow.Author.Tests.{lt-ltb, le-ltb, le-leb, leb-true, leb-false, eqb-true, eq-eqb, not-true}
 use Rattle.model.specs.Words.{both, within}
 use Rattle.model.specs.Refusals.{bad-ports, bad-slots}
-use Rattle.model.specs.Sheet.{text, digits, decimal, portsLine, slotsLine, pairLine, onFirst, lines, numbersFrom, numberIn, same, bad-port, bad-pair, loads, refused, unless, most, readPairs, readSlots, readPorts}
+use Rattle.model.specs.Sheet.{text, digits, decimal, portsLine, slotsLine, pairLine, onFirst, lines, numbersFrom, numberIn, same, bad-line-flow, bad-port, loads, refused, unless, most, readPairs, readSlots, readPorts}
 use Rattle.model.proofs.Cases.{byBool, byLt, both-true, both-yes, within-yes}
 
 -- ---- digits
@@ -303,7 +303,7 @@ byPortsLine s on off = byForm ℕ portsLine (numberIn 0) (λ n. n) ports-whole p
 
 -- ---- line 2
 pub slots-yes : (ports n : ℕ) (t : List ℕ) → n ≤ 65535
-    → readSlots ports (lines (slotsLine n ++ t)) ≡ unless (bad-slots n ∷ []) (readPairs ports n 3 [] (replicate (ports * ports) 0) (lines t))
+    → readSlots ports (lines (slotsLine n ++ t)) ≡ unless (bad-slots n ∷ []) (readPairs ports n 3 [] (lines t))
 unfolding Whole
 slots-yes ports n t h = rw (slots-whole n t, slots-number n, good-form (slotsLine n) n h)
 
@@ -330,22 +330,21 @@ most-low a b n =
 most-high : (a b n : ℕ) → a ≤ n → b ≤ n → most a b ≤ n
 most-high a b n x y = byBool (leb a b) (λ e. rw e y) (λ e. rw e x)
 
-module _ (ports slots number : ℕ) (named matrix : List ℕ) where
+module _ (ports slots number : ℕ) (list : List ℕ) where
   pub pairs-yes : (i o m : ℕ) (t : List ℕ) → i ≤ 65535 → o ≤ 65535 → m ≤ 65535
-      → readPairs ports slots number named matrix (lines (pairLine i o m ++ t))
-      ≡ unless (bad-port number ports i o ∷ bad-pair number ((i - 1) * ports + (o - 1)) named ∷ [])
-      (readPairs ports slots (suc number) (((i - 1) * ports + (o - 1)) ∷ named) (set matrix ((i - 1) * ports + (o - 1)) m) (lines t))
+      → readPairs ports slots number list (lines (pairLine i o m ++ t))
+      ≡ unless (bad-line-flow list ∷ bad-port number ports i o ∷ []) (readPairs ports slots (suc number) (list ++ (i ∷ o ∷ m ∷ [])) (lines t))
   unfolding readPairs Whole
   pairs-yes i o m t a b c =
       rw (pair-whole i o m t, pair-numbers i o m, good-form (pairLine i o m) (most i (most o m)) (most-high i (most o m) 65535 a (most-high o m 65535 b c)))
 
-  pub pairs-none : readPairs ports slots number named matrix (lines []) ≡ loads ports slots matrix
+  pub pairs-none : readPairs ports slots number list (lines []) ≡ loads ports slots list
   unfolding readPairs lines
   pairs-none = refl
 
   pairs-no-of : (s : List ℕ) (ls : List (List ℕ)) → lines s ≡ ls → (s ≡ [] → ⊥)
       → ((i o m : ℕ) (t : List ℕ) → i ≤ 65535 → o ≤ 65535 → m ≤ 65535 → s ≡ pairLine i o m ++ t → ⊥)
-      → readPairs ports slots number named matrix ls ≡ refused (7 ∷ number ∷ [])
+      → readPairs ports slots number list ls ≡ refused (7 ∷ number ∷ [])
   unfolding readPairs
   pairs-no-of s [] e some never = absurd (some (sym (join-lines s) ∙ ap join e))
   pairs-no-of s (l ∷ ls) e some never =
@@ -357,7 +356,7 @@ module _ (ports slots number : ℕ) (named matrix : List ℕ) where
 
   pub pairs-no : (s : List ℕ) → (s ≡ [] → ⊥)
       → ((i o m : ℕ) (t : List ℕ) → i ≤ 65535 → o ≤ 65535 → m ≤ 65535 → s ≡ pairLine i o m ++ t → ⊥)
-      → readPairs ports slots number named matrix (lines s) ≡ refused (7 ∷ number ∷ [])
+      → readPairs ports slots number list (lines s) ≡ refused (7 ∷ number ∷ [])
   pairs-no s some never = pairs-no-of s (lines s) refl some never
 
 -- a pair line comes first, or none
