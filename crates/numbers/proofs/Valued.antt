@@ -1,4 +1,4 @@
--- The numbers of a refusal tell its list: 5 and 6 carry two values, 7 to 9 one, the others none.
+-- The numbers of a refusal tell its list: 5 and 6 carry two values, 7 and 8 one, the others none.
 use Prim.Native.Nat.{ℕ}
 use mathlib.Core.Path.{_≡_, refl, sym, _∙_, ap}
 use mathlib.Core.List.{List, [], _∷_}
@@ -7,26 +7,27 @@ use lib.ListN.{getD}
 use Rattle.model.specs.Words.{if}
 use Rattle.model.specs.Refusals.{refusal}
 use Rattle.model.specs.declared.Refusal.{Refusal}
-use Rattle.model.specs.declared.Refusal.the-variants.{Ports, Slots, MatrixLength, FrameLength, InputLoad, OutputLoad, LineForm, LinePort, LinePair, SheetLength, SlotNumber, PortNumber, RunLength}
+use Rattle.model.specs.declared.Refusal.the-variants.{Ports, Slots, ListLength, FrameLength, InputLoad, OutputLoad, LineForm, LinePort, SheetLength, SlotNumber, FlowOrPort, RunLength, TooManyFlows, FlowPort}
 use Rattle.numbers.specs.Numbers.{Three}
 
 abbrev pub valued : ℕ → ℕ → ℕ → List ℕ
-valued n first second = if (ltb n 5) (n ∷ []) (if (ltb n 7) (n ∷ first ∷ second ∷ []) (if (ltb n 10) (n ∷ first ∷ []) (n ∷ [])))
+valued n first second = if (ltb n 5) (n ∷ []) (if (ltb n 7) (n ∷ first ∷ second ∷ []) (if (ltb n 9) (n ∷ first ∷ []) (n ∷ [])))
 
 refusal-valued : (r : Refusal) → refusal r ≡ valued (getD (refusal r) 0 0) (getD (refusal r) 1 0) (getD (refusal r) 2 0)
 refusal-valued Ports = refl
 refusal-valued Slots = refl
-refusal-valued MatrixLength = refl
+refusal-valued ListLength = refl
 refusal-valued FrameLength = refl
 refusal-valued (InputLoad port cells) = refl
 refusal-valued (OutputLoad port cells) = refl
 refusal-valued (LineForm line) = refl
 refusal-valued (LinePort line) = refl
-refusal-valued (LinePair line) = refl
 refusal-valued SheetLength = refl
 refusal-valued SlotNumber = refl
-refusal-valued PortNumber = refl
+refusal-valued FlowOrPort = refl
 refusal-valued RunLength = refl
+refusal-valued TooManyFlows = refl
+refusal-valued FlowPort = refl
 
 pub valued-is : (r : Refusal) {number first second : ℕ} → Three (refusal r) number first second → valued number first second ≡ refusal r
 valued-is r t = sym (rw (sym (t .number-is), sym (t .first-is), sym (t .second-is)) at (refusal-valued r))

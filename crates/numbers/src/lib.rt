@@ -43,17 +43,18 @@ pub fn of_refusal(refused: Refusal) -> Numbers
     match refused {
         Refusal::Ports => three(1, 0, 0),
         Refusal::Slots => three(2, 0, 0),
-        Refusal::MatrixLength => three(3, 0, 0),
+        Refusal::ListLength => three(3, 0, 0),
         Refusal::FrameLength => three(4, 0, 0),
         Refusal::InputLoad { port, cells } => three(5, port, cells),
         Refusal::OutputLoad { port, cells } => three(6, port, cells),
         Refusal::LineForm { line } => three(7, line, 0),
         Refusal::LinePort { line } => three(8, line, 0),
-        Refusal::LinePair { line } => three(9, line, 0),
         Refusal::SheetLength => three(10, 0, 0),
         Refusal::SlotNumber => three(11, 0, 0),
-        Refusal::PortNumber => three(12, 0, 0),
+        Refusal::FlowOrPort => three(12, 0, 0),
         Refusal::RunLength => three(13, 0, 0),
+        Refusal::TooManyFlows => three(21, 0, 0),
+        Refusal::FlowPort => three(22, 0, 0),
     }
 }
 
@@ -83,9 +84,9 @@ pub fn of_inspection(inspection: Inspection) -> Numbers
 {
     match inspection {
         Inspection::Clean => three(0, 0, 0),
-        Inspection::ByteTooLarge { slot, input } => three(101, slot, input),
+        Inspection::WrongEntry { slot, input } => three(101, slot, input),
         Inspection::OutputTwice { slot, output } => three(102, slot, output),
-        Inspection::PairCount { input, output } => three(103, input, output),
+        Inspection::FlowCount { flow } => three(103, flow, 0),
         Inspection::UnbalancedBlock { slot, size } => three(104, slot, size),
         Inspection::Refused(refusal) => of_refusal(refusal),
     }
