@@ -156,70 +156,57 @@ module _ (out : List ℕ) (r : Refusal) (n first second : ℕ) (new : List ℕ) 
     with-load b x = subst Is (valued-is r t) (rw (le-ltb n 5 a, lt-ltb n 7 b) x)
 
     module _ (b : 7 ≤ n) where
-      pub with-line : n < 10 → Is (n ∷ first ∷ []) → Is (refusal r)
-      with-line c x = subst Is (valued-is r t) (rw (le-ltb n 5 a, le-ltb n 7 b, lt-ltb n 10 c) x)
+      pub with-line : n < 9 → Is (n ∷ first ∷ []) → Is (refusal r)
+      with-line c x = subst Is (valued-is r t) (rw (le-ltb n 5 a, le-ltb n 7 b, lt-ltb n 9 c) x)
 
-      pub high-plain : 10 ≤ n → Is (n ∷ []) → Is (refusal r)
-      high-plain c x = subst Is (valued-is r t) (rw (le-ltb n 5 a, le-ltb n 7 b, le-ltb n 10 c) x)
+      pub high-plain : 9 ≤ n → Is (n ∷ []) → Is (refusal r)
+      high-plain c x = subst Is (valued-is r t) (rw (le-ltb n 5 a, le-ltb n 7 b, le-ltb n 9 c) x)
 
 -- ---- a slot
-pub cell-none : (out : List ℕ) (at i b : ℕ) → b ≡ 0 → PrintedIn 44 out at (cellOf i b) out at
-cell-none out at i b e = rw (eq-eqb b 0 e) (record { printed = record { is = refl; place = omega arith }; most-bytes = omega arith })
+pub cell-none : (out : List ℕ) (at e : ℕ) → e ≡ 0 → PrintedIn 21 out at (cellOf e) out at
+cell-none out at e z = rw (eq-eqb e 0 z) (record { printed = record { is = refl; place = omega arith }; most-bytes = omega arith })
 
-pub cell-some : (out : List ℕ) (at i b : ℕ) (mid : List ℕ) (at′ : ℕ) (mid2 : List ℕ) (at2 : ℕ) (new : List ℕ) (next : ℕ) → (b ≡ 0 → ⊥)
-    → PrintedIn 22 out at (wordThen (text " (") i) mid at′ → PrintedIn 21 mid at′ (wordThen (text " ") b) mid2 at2
-    → Printed mid2 at2 (text ")") new next → PrintedIn 44 out at (cellOf i b) new next
-cell-some out at i b mid at′ mid2 at2 new next n x y z =
-    let c : List ℕ = text " (" ++ (decimal i ++ (text " " ++ (decimal b ++ text ")"))) in
-    let p = x .most-bytes in
-    let q = y .most-bytes in
-    let r = z .place in
-    rw (ne-eqb b 0 n)
-    (record {
-      printed = prints-end out at c new next
-          (prints-on out at c mid2 at2 (text ")") [] new next
-          (piece (text " ") b (text ")") (piece (text " (") i (text " " ++ (decimal b ++ text ")")) (prints-all out at c) x) y) z);
-      most-bytes = omega arith;
-    })
+pub cell-some : (out : List ℕ) (at e : ℕ) (new : List ℕ) (next : ℕ) → (e ≡ 0 → ⊥) → PrintedIn 21 out at (wordThen (text " ") e) new next
+    → PrintedIn 21 out at (cellOf e) new next
+cell-some out at e new next n x = rw (ne-eqb e 0 n) x
 
 pub record Celled (out : List ℕ) (at : ℕ) (slot new : List ℕ) (next i : ℕ) : Type 0 where
   pub passed : i ≤ length slot
-  pub most-bytes : next ≤ at + 44 * i
-  pub prints : Prints out at (printCells 1 slot) new next (printCells (suc i) (drop i slot))
+  pub most-bytes : next ≤ at + 21 * i
+  pub prints : Prints out at (printCells slot) new next (printCells (drop i slot))
 
 pub cells-first : (out : List ℕ) (at : ℕ) (slot : List ℕ) → Celled out at slot out at 0
-cells-first out at slot = record { passed = omega arith; most-bytes = omega arith; prints = prints-all out at (printCells 1 slot) }
+cells-first out at slot = record { passed = omega arith; most-bytes = omega arith; prints = prints-all out at (printCells slot) }
 
-pub cells-next : (out : List ℕ) (at : ℕ) (slot mid : List ℕ) (at′ i b : ℕ) (new : List ℕ) (next : ℕ) → Celled out at slot mid at′ i → i < length slot
-    → b ≡ getD slot i 0 → PrintedIn 44 mid at′ (cellOf (i + 1) b) new next → Celled out at slot new next (i + 1)
-cells-next out at slot mid at′ i b new next x h e y =
+pub cells-next : (out : List ℕ) (at : ℕ) (slot mid : List ℕ) (at′ i e : ℕ) (new : List ℕ) (next : ℕ) → Celled out at slot mid at′ i → i < length slot
+    → e ≡ getD slot i 0 → PrintedIn 21 mid at′ (cellOf e) new next → Celled out at slot new next (i + 1)
+cells-next out at slot mid at′ i e new next x h f y =
     let p = x .most-bytes in
     let q = y .most-bytes in
-    let s = add-one i in
     record {
       passed = omega arith;
       most-bytes = omega arith;
-      prints = prints-on out at (printCells 1 slot) mid at′ (cellOf (i + 1) b) (printCells (suc (i + 1)) (drop (i + 1) slot)) new next
-          (prints-as out at (printCells 1 slot) mid at′ (printCells (suc i) (drop i slot)) (cellOf (i + 1) b ++ printCells (suc (i + 1)) (drop (i + 1) slot))
-          (ap (printCells (suc i)) (drop-cons slot i 0 h)
-          ∙ (ap (λ z. cellOf (suc i) z ++ printCells (suc (suc i)) (drop (suc i) slot)) (sym e) ∙ ap (λ z. cellOf z b ++ printCells (suc z) (drop z slot)) (sym s)))
+      prints = prints-on out at (printCells slot) mid at′ (cellOf e) (printCells (drop (i + 1) slot)) new next
+          (prints-as out at (printCells slot) mid at′ (printCells (drop i slot)) (cellOf e ++ printCells (drop (i + 1) slot))
+          (ap printCells (drop-cons slot i 0 h)
+          ∙ (ap (λ z. cellOf z ++ printCells (drop (suc i) slot)) (sym f) ∙ ap (λ z. cellOf e ++ printCells (drop z slot)) (sym (add-one i))))
           (x .prints)) (y .printed);
     }
 
 pub cells-done : (out : List ℕ) (at : ℕ) (slot new : List ℕ) (next i : ℕ) → Celled out at slot new next i → length slot ≤ i → length slot ≤ 16
-    → PrintedIn 704 out at (printCells 1 slot) new next
+    → PrintedIn 336 out at (printCells slot) new next
 cells-done out at slot new next i x h l =
     let p = x .most-bytes in
     let q = x .passed in
     record {
-      printed = prints-end out at (printCells 1 slot) new next
-          (prints-as out at (printCells 1 slot) new next (printCells (suc i) (drop i slot)) [] (ap (printCells (suc i)) (drop-of-length-le slot h)) (x .prints));
+      printed = prints-end out at (printCells slot) new next
+          (prints-as out at (printCells slot) new next (printCells (drop i slot)) [] (ap printCells (drop-of-length-le slot h)) (x .prints));
       most-bytes = omega arith;
     }
 
 pub slot-printed : (out : List ℕ) (at number : ℕ) (slot mid : List ℕ) (at′ : ℕ) (mid2 : List ℕ) (at2 : ℕ) (new : List ℕ) (next : ℕ)
-    → PrintedIn 26 out at (wordThen (text "(slot ") number) mid at′ → PrintedIn 704 mid at′ (printCells 1 slot) mid2 at2 → Printed mid2 at2 (text ")\n") new next
-    → PrintedIn 800 out at (slotLine number slot) new next
+    → PrintedIn 26 out at (wordThen (text "(slot ") number) mid at′ → PrintedIn 336 mid at′ (printCells slot) mid2 at2 → Printed mid2 at2 (text ")\n") new next
+    → PrintedIn 400 out at (slotLine number slot) new next
 slot-printed out at number slot mid at′ mid2 at2 new next x y z =
     let b = slotLine number slot in
     let p = x .most-bytes in
@@ -228,14 +215,14 @@ slot-printed out at number slot mid at′ mid2 at2 new next x y z =
     record {
       printed = prints-end out at b new next
           (prints-on out at b mid2 at2 (text ")\n") [] new next
-          (prints-on out at b mid at′ (printCells 1 slot) (text ")\n") mid2 at2 (piece (text "(slot ") number (printCells 1 slot ++ text ")\n") (prints-all out at b) x) (y .printed)) z);
+          (prints-on out at b mid at′ (printCells slot) (text ")\n") mid2 at2 (piece (text "(slot ") number (printCells slot ++ text ")\n") (prints-all out at b) x) (y .printed)) z);
       most-bytes = omega arith;
     }
 
 -- ---- the slots of a frame
 pub record Slotted (out : List ℕ) (at ports slots : ℕ) (frame new : List ℕ) (next s : ℕ) : Type 0 where
   pub passed : s ≤ slots
-  pub most-bytes : next ≤ at + 800 * s
+  pub most-bytes : next ≤ at + 400 * s
   pub prints : Prints out at (printSlots ports 1 slots frame) new next (printSlots ports (suc s) (slots - s) (drop (s * ports) frame))
 
 pub slots-first : (out : List ℕ) (at ports slots : ℕ) (frame : List ℕ) → Slotted out at ports slots frame out at 0
@@ -268,7 +255,7 @@ part-is : (ports s : ℕ) (frame : List ℕ) → take (s * ports + ports - s * p
 part-is ports s frame = let e : s * ports + ports - s * ports ≡ ports = omega arith in ap (λ z. take z (drop (s * ports) frame)) e
 
 pub slots-next : (out : List ℕ) (at ports slots : ℕ) (frame mid : List ℕ) (at′ s : ℕ) (new : List ℕ) (next : ℕ) → Slotted out at ports slots frame mid at′ s → s < slots
-    → PrintedIn 800 mid at′ (slotLine (s + 1) (take (s * ports + ports - s * ports) (drop (s * ports) frame))) new next
+    → PrintedIn 400 mid at′ (slotLine (s + 1) (take (s * ports + ports - s * ports) (drop (s * ports) frame))) new next
     → Slotted out at ports slots frame new next (s + 1)
 slots-next out at ports slots frame mid at′ s new next x h y =
     let p = x .most-bytes in
@@ -305,6 +292,9 @@ slot-low {ports} {slots} {s} {frame} x h =
 
 pub from-fits : {ports slots s : ℕ} {frame : List ℕ} → Sized ports slots frame → s < slots → Fits w64 (s * ports)
 from-fits {ports} {slots} {s} {frame} x h = record { fits = (let k = slot-low x h in omega arith) }
+
+pub offset-fits : {ports slots s : ℕ} {frame : List ℕ} → Sized ports slots frame → s < slots → Fits w64 (s * ports * 2)
+offset-fits {ports} {slots} {s} {frame} x h = record { fits = (let k = slot-low x h in omega arith) }
 
 pub end-fits : {ports slots s : ℕ} {frame : List ℕ} → Sized ports slots frame → s < slots → Fits w64 (s * ports + ports)
 end-fits {ports} {slots} {s} {frame} x h = record { fits = (let k = slot-low x h in omega arith) }

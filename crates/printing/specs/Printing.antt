@@ -20,10 +20,10 @@ pub record PrintedIn (most : ℕ) (out : List ℕ) (at : ℕ) (bytes new : List 
   pub most-bytes : next ≤ at + most
 
 -- A frame of its size.
-pub record Sized (ports slots : ℕ) (bytes : List ℕ) : Type 0 where
+pub record Sized (ports slots : ℕ) (entries : List ℕ) : Type 0 where
   pub most-ports : ports ≤ 16
   pub most-slots : slots ≤ 1024
-  pub size : length bytes ≡ slots * ports
+  pub size : length entries ≡ slots * ports
 
 -- The test of it.
 abbrev pub ofSize : ℕ → ℕ → ℕ → Bool
@@ -36,13 +36,13 @@ frameBytes ports slots frame = if (ofSize ports slots (length frame)) (printFram
 abbrev pub wordThen : List ℕ → ℕ → List ℕ
 wordThen w n = w ++ decimal n
 
--- What an input sends in a slot.
-abbrev pub cellOf : ℕ → ℕ → List ℕ
-cellOf i b = if (eqb b 0) [] (text " (" ++ (decimal i ++ (text " " ++ (decimal b ++ text ")"))))
+-- What is written for an entry of a slot.
+abbrev pub cellOf : ℕ → List ℕ
+cellOf e = if (eqb e 0) [] (wordThen (text " ") e)
 
 -- The line of a slot.
 abbrev pub slotLine : ℕ → List ℕ → List ℕ
-slotLine s slot = text "(slot " ++ (decimal s ++ (printCells 1 slot ++ text ")\n"))
+slotLine s slot = text "(slot " ++ (decimal s ++ (printCells slot ++ text ")\n"))
 
 -- What is still to be written, from a place on, of what was to be written.
 pub record Prints (out : List ℕ) (at : ℕ) (bytes new : List ℕ) (next : ℕ) (rest : List ℕ) : Type 0 where

@@ -101,44 +101,42 @@ pub fn put_refusal(out: &mut [u8], r: Refusal) -> usize
     if n.number < 7 {
         return put_load(out, n.number, n.first, n.second);
     }
-    if n.number < 10 {
+    if n.number < 9 {
         return put_line(out, n.number, n.first);
     }
     put_plain(out, n.number)
 }
 
-// Writes what an input sends in a slot: nothing where it is idle.
-fn put_cell(out: &mut [u8], at: usize, input: usize, output: usize) -> usize
+// Writes the flow that an input sends a cell of in a slot: nothing where it is idle.
+fn put_cell(out: &mut [u8], at: usize, flow: usize) -> usize
     requires { ⌜ at ≤ 1000000000 ⌝ }
-    ensures { λ r. ⌜ PrintedIn 44 (now (out .entry)) at (cellOf input output) (now (out .exit)) r ⌝ }
+    ensures { λ r. ⌜ PrintedIn 21 (now (out .entry)) at (cellOf flow) (now (out .exit)) r ⌝ }
 {
-    if output == 0 {
+    if flow == 0 {
         return at;
     }
-    let next = put_both(out, at, b" (", input);
-    let next = put_both(out, next, b" ", output);
-    put_word(out, next, b")")
+    put_both(out, at, b" ", flow)
 }
 
-// Writes the cells of a slot, by rising input.
-fn put_cells(out: &mut [u8], at: usize, slot: &[u8]) -> usize
+// Writes the flows of a slot, by rising input.
+fn put_cells(out: &mut [u8], at: usize, slot: &[u16]) -> usize
     requires { ⌜ (at ≤ 100000000) × (length (now slot) ≤ 16) ⌝ }
-    ensures { λ r. ⌜ PrintedIn 704 (now (out .entry)) at (printCells 1 (now (slot .entry))) (now (out .exit)) r ⌝ }
+    ensures { λ r. ⌜ PrintedIn 336 (now (out .entry)) at (printCells (now (slot .entry))) (now (out .exit)) r ⌝ }
 {
     let mut i: usize = 0;
     let mut next = at;
     while i < slot.len() {
-        let byte = widths::byte(slot[i]);
-        next = put_cell(out, next, i + 1, byte);
+        let flow = widths::count(slot[i]);
+        next = put_cell(out, next, flow);
         i += 1;
     }
     next
 }
 
 // Writes the line of a slot.
-fn put_slot(out: &mut [u8], at: usize, number: usize, slot: &[u8]) -> usize
+fn put_slot(out: &mut [u8], at: usize, number: usize, slot: &[u16]) -> usize
     requires { ⌜ (at ≤ 10000000) × (length (now slot) ≤ 16) ⌝ }
-    ensures { λ r. ⌜ PrintedIn 800 (now (out .entry)) at (slotLine number (now (slot .entry))) (now (out .exit)) r ⌝ }
+    ensures { λ r. ⌜ PrintedIn 400 (now (out .entry)) at (slotLine number (now (slot .entry))) (now (out .exit)) r ⌝ }
 {
     let next = put_both(out, at, b"(slot ", number);
     let next = put_cells(out, next, slot);
@@ -146,7 +144,7 @@ fn put_slot(out: &mut [u8], at: usize, number: usize, slot: &[u8]) -> usize
 }
 
 // Writes the lines of the slots of a frame.
-fn put_slots(out: &mut [u8], at: usize, ports: usize, slots: usize, frame: &[u8]) -> usize
+fn put_slots(out: &mut [u8], at: usize, ports: usize, slots: usize, frame: &[u16]) -> usize
     requires { ⌜ (at ≤ 100) × Sized ports slots (now frame) ⌝ }
     ensures { λ r. ⌜ Printed (now (out .entry)) at (printSlots ports 1 slots (now (frame .entry))) (now (out .exit)) r ⌝ }
 {
@@ -162,7 +160,7 @@ fn put_slots(out: &mut [u8], at: usize, ports: usize, slots: usize, frame: &[u8]
 }
 
 // Writes a frame of its size.
-fn put_sized(out: &mut [u8], ports: usize, slots: usize, frame: &[u8]) -> usize
+fn put_sized(out: &mut [u8], ports: usize, slots: usize, frame: &[u16]) -> usize
     requires { ⌜ Sized ports slots (now frame) ⌝ }
     ensures { λ r. ⌜ Printed (now (out .entry)) 0 (printFrame ports slots (now (frame .entry))) (now (out .exit)) r ⌝ }
 {
@@ -172,9 +170,9 @@ fn put_sized(out: &mut [u8], ports: usize, slots: usize, frame: &[u8]) -> usize
     put_slots(out, next, ports, slots, frame)
 }
 
-// Up to 16 ports and 1024 slots, and a byte for each input and slot.
-fn of_size(ports: usize, slots: usize, bytes: usize) -> bool
-    ensures { λ r. ⌜ r ≡ ofSize ports slots bytes ⌝ }
+// Up to 16 ports and 1024 slots, and an entry for each input and slot.
+fn of_size(ports: usize, slots: usize, entries: usize) -> bool
+    ensures { λ r. ⌜ r ≡ ofSize ports slots entries ⌝ }
 {
     if 16 < ports {
         return false;
@@ -182,11 +180,11 @@ fn of_size(ports: usize, slots: usize, bytes: usize) -> bool
     if 1024 < slots {
         return false;
     }
-    bytes == slots * ports
+    entries == slots * ports
 }
 
 // Writes a frame; nothing where it is not of its size.
-pub fn put_frame(out: &mut [u8], ports: usize, slots: usize, frame: &[u8]) -> usize
+pub fn put_frame(out: &mut [u8], ports: usize, slots: usize, frame: &[u16]) -> usize
     ensures { λ r. ⌜ Printed (now (out .entry)) 0 (frameBytes ports slots (now (frame .entry))) (now (out .exit)) r ⌝ }
 {
     if of_size(ports, slots, frame.len()) {

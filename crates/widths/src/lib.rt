@@ -9,7 +9,7 @@ pub fn byte(x: u8) -> usize
     x as usize
 }
 
-// A count of cells as a number.
+// A count of cells, or an entry of a frame, as a number.
 pub fn count(cells: u16) -> usize
     ensures { λ r. ⌜ (r ≡ cells) × (r ≤ 65535) ⌝ }
 {

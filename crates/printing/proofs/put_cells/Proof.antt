@@ -20,8 +20,8 @@ put-cells-spec =
     μ-loop
     (λ c. search (needs, cells-first))
     (λ c. search needs)
-    (λ c κs. search needs)
     (λ c. search needs)
+    (λ c κs. search needs)
     (λ c κs. omega (arith, c .before .before .before .before .loop .inv .most-bytes))
     (λ c. search needs)
     (λ c. search needs)

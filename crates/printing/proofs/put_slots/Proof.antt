@@ -1,5 +1,5 @@
 use Prim.Native.Nat.{_-_}
-use Rattle.printing.proofs.Prints.{prints-size, Slotted, slots-first, slots-next, slots-done, slot-end, slot-size, slot-place, from-fits, end-fits}
+use Rattle.printing.proofs.Prints.{prints-size, Slotted, slots-first, slots-next, slots-done, slot-end, slot-size, slot-place, from-fits, end-fits, offset-fits}
 use borrow.Author.Needs.{needs}
 use Rattle.printing.proofs.put_slots.Statement.{statement}
 use Rattle.printing.proofs.put_slots.Tie as tie
@@ -20,6 +20,7 @@ put-slots-spec =
     (λ c. search (needs, from-fits))
     (λ c. search (needs, end-fits))
     (λ c. search needs)
+    (λ c. search (needs, offset-fits))
     (λ c. search needs)
     (λ c. search needs)
     (λ c. search (needs, slot-end))
