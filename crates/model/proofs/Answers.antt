@@ -210,7 +210,7 @@ NoPair bytes = (i o c : ℕ) (rest : List ℕ) → i ≤ 65535 → o ≤ 65535 �
 pub data ReadsPairs (ports slots : ℕ) : ℕ → List ℕ → List ℕ → Asked → Type 0 where
   ended : {n : ℕ} {list : List ℕ} → ReadsPairs ports slots n list [] (loads ports slots list)
   form-7 : {n : ℕ} {list bytes : List ℕ} → (bytes ≡ [] → ⊥) → NoPair bytes → ReadsPairs ports slots n list bytes (asked.refused (7 ∷ n ∷ []))
-  flow-21 : {n : ℕ} {list : List ℕ} (i o c : ℕ) (rest : List ℕ) → i ≤ 65535 → o ≤ 65535 → c ≤ 65535 → 512 ≤ flows list
+  flows-21 : {n : ℕ} {list : List ℕ} (i o c : ℕ) (rest : List ℕ) → i ≤ 65535 → o ≤ 65535 → c ≤ 65535 → 512 ≤ flows list
       → ReadsPairs ports slots n list (pairLine i o c ++ rest) (asked.refused (21 ∷ []))
   port-8 : {n : ℕ} {list : List ℕ} (i o c : ℕ) (rest : List ℕ) → i ≤ 65535 → o ≤ 65535 → c ≤ 65535 → flows list < 512
       → (Within 1 ports i × Within 1 ports o → ⊥) → ReadsPairs ports slots n list (pairLine i o c ++ rest) (asked.refused (8 ∷ n ∷ []))
