@@ -73,22 +73,22 @@ in-more c fs start a b =
     sum-append a b (λ t. cellsAt c fs (start + t))
     ∙ ap (λ z. sumTo a (λ t. cellsAt c fs (start + t)) + z) (sum-ext b _ _ (λ t _. ap (cellsAt c fs) (omega arith)))
 
-module _ (c : Class) (ports n : ℕ) (f : Carried) (fs : List Carried) (good : Good ports n f) where
+module _ (c : Class) (ports n : ℕ) (f : Carried) (fs : List Carried) (shape : Shape ports n f) where
   -- a slot of the first frame
   first-at : (t : ℕ) → t < n → cellsAt c (f ∷ fs) t ≡ cells c ports (f .call .list) (runOf ports t 1 (f .entries))
   unfolding cellsAt
-  first-at t h = let s = good .shape in rw (s .ports-are, s .slots-are, lt-ltb t n h)
+  first-at t h = rw (shape .ports-are, shape .slots-are, lt-ltb t n h)
 
   rest-at : (t : ℕ) → cellsAt c (f ∷ fs) (n + t) ≡ cellsAt c fs t
   unfolding cellsAt
-  rest-at t = let d : n + t - n ≡ t = omega arith in rw (good .shape .slots-are, le-ltb (n + t) n (omega arith), d)
+  rest-at t = let d : n + t - n ≡ t = omega arith in rw (shape .slots-are, le-ltb (n + t) n (omega arith), d)
 
   -- a run inside the first frame, and one after it
-  pub in-first : (start len : ℕ) → start + len ≤ n → cellsIn c (f ∷ fs) start len ≡ cells c ports (f .call .list) (runOf ports start len (f .entries))
+  pub in-first : length (f .entries) ≡ n * ports → (start len : ℕ) → start + len ≤ n → cellsIn c (f ∷ fs) start len ≡ cells c ports (f .call .list) (runOf ports start len (f .entries))
   unfolding cellsIn
-  in-first start len h =
+  in-first size start len h =
       sum-ext len _ _ (λ t l. first-at (start + t) (omega arith))
-      ∙ sym (cells-slots ports n (f .call .list) (f .entries) (good .legal .size) c start len h)
+      ∙ sym (cells-slots ports n (f .call .list) (f .entries) size c start len h)
 
   pub in-rest : (start len : ℕ) → cellsIn c (f ∷ fs) (n + start) len ≡ cellsIn c fs start len
   unfolding cellsIn
@@ -105,7 +105,7 @@ at-beyond c ports n [] good t h = cells-nowhere c t
 at-beyond c ports n (f ∷ fs) good t h =
     let r = t - n in
     let e : t ≡ n + r = omega arith in
-    ap (cellsAt c (f ∷ fs)) e ∙ rest-at c ports n f fs (good .0) r ∙ at-beyond c ports n fs (good .1) r (omega arith)
+    ap (cellsAt c (f ∷ fs)) e ∙ rest-at c ports n f fs (good .0 .shape) r ∙ at-beyond c ports n fs (good .1) r (omega arith)
 
 module _ (c : Class) (ports k : ℕ) (of : Of ports c) where
   -- in a frame, the first r slots are off by at most gap
@@ -129,7 +129,7 @@ module _ (c : Class) (ports k : ℕ) (of : Of ports c) where
       let top : f .call .slots ≡ n = good .0 .shape .slots-are in
       let short : t ≡ r = omega arith in
       let first : cellsIn c (f ∷ fs) 0 t ≡ cells c ports (f .call .list) (runOf ports 0 r (f .entries))
-      = ap (cellsIn c (f ∷ fs) 0) short ∙ in-first c ports n f fs (good .0) 0 r (omega arith) in
+      = ap (cellsIn c (f ∷ fs) 0) short ∙ in-first c ports n f fs (good .0 .shape) (good .0 .legal .size) 0 r (omega arith) in
       let e : inside lo hi start len ≡ r = omega arith in
       let none = share-none c fs hi start len (omega arith) in
       let law = off f (good .0) in
@@ -143,10 +143,10 @@ module _ (c : Class) (ports k : ℕ) (of : Of ports c) where
       let at : t ≡ n + later = omega arith in
       let e : inside lo hi start len ≡ n = omega arith in
       let first : cellsIn c (f ∷ fs) 0 n ≡ m
-      = in-first c ports n f fs (good .0) 0 n (omega arith)
+      = in-first c ports n f fs (good .0 .shape) (good .0 .legal .size) 0 n (omega arith)
       ∙ ap (cells c ports (f .call .list)) (run-all ports n (f .entries) (good .0 .legal .size)) ∙ legal-exact (good .0 .legal) c in
       let shift : 0 + n ≡ n + 0 = omega arith in
-      let second : cellsIn c (f ∷ fs) (0 + n) later ≡ cellsIn c fs 0 later = rw shift (in-rest c ports n f fs (good .0) 0 later) in
+      let second : cellsIn c (f ∷ fs) (0 + n) later ≡ cellsIn c fs 0 later = rw shift (in-rest c ports n f fs (good .0 .shape) 0 later) in
       let law = prefix-chain r gap less off fs (good .1) b hi start len later refl (omega arith) (omega arith) (omega arith) in
       let whole : cellsIn c (f ∷ fs) 0 t ≡ m + cellsIn c fs 0 later
       = ap (cellsIn c (f ∷ fs) 0) at ∙ in-more c (f ∷ fs) 0 n later ∙ omega arith in

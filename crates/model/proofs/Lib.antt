@@ -12,6 +12,7 @@ pub mod Settled
 pub mod Groups
 pub mod Ties
 pub mod Splits
+pub mod SamePorts
 pub mod Halves
 pub mod Cells
 pub mod Flows
@@ -19,6 +20,7 @@ pub mod Slots
 pub mod Blocks
 pub mod Legal
 pub mod OneFrame
+pub mod Pairs
 pub mod Reports
 pub mod Replies
 pub mod Overloads

@@ -79,7 +79,7 @@ legal-laid {ports} {slots} {list} {entries} l =
       once = l .once;
     }
 
-abbrev Sound : ℕ → ℕ → List ℕ → List ℕ → List ℕ → Type 0
+abbrev pub Sound : ℕ → ℕ → List ℕ → List ℕ → List ℕ → Type 0
 Sound ports slots list m entries = Laid ports slots list m entries × Balanced ports slots list entries
 
 slot-sound : (ports : ℕ) (list m entries : List ℕ) → length m ≡ flows list → Placed ports (portOf list) (flows list) → Fits ports 1 (portOf list) m
@@ -151,7 +151,7 @@ module _ (ports n : ℕ) (list m a b f g : List ℕ) (size : length m ≡ flows 
     λ c of start half b. halves-balanced c of start half (block-part (2 * n) n start (2 * half) refl b),
   )
 
-rules-sound : (ports k : ℕ) (list m entries : List ℕ) → length m ≡ flows list → Placed ports (portOf list) (flows list) → Fits ports (2 ^ k) (portOf list) m
+pub rules-sound : (ports k : ℕ) (list m entries : List ℕ) → length m ≡ flows list → Placed ports (portOf list) (flows list) → Fits ports (2 ^ k) (portOf list) m
     → Scheduled ports (portOf list) k m entries → Sound ports (2 ^ k) list m entries
 unfolding Scheduled
 rules-sound ports zero list m entries size placed fits s = slot-sound ports list m entries size placed fits s

@@ -69,12 +69,12 @@ module _ (c : Class) (ports k j z : ℕ) (of : Of ports c) (low : j ≤ k) (is :
       (λ h.
       let fits : b * z + z ≤ 2 ^ k = omega (arith, frame-blocks, mul-le-mul-right z h) in
       let one = block-least c ports (2 ^ k) k of (f .call .list) (f .entries) refl size (g .balanced) j 1 b z low h is (omega (arith, has .0)) in
-      rw (in-first c ports (2 ^ k) f fs g (b * z) z fits) one)
+      rw (in-first c ports (2 ^ k) f fs (g .shape) size (b * z) z fits) one)
       (λ h.
       let rest = b - 2 ^ j in
       let parts : b ≡ 2 ^ j + rest = omega arith in
       let at : b * z ≡ 2 ^ k + rest * z = omega (arith, frame-blocks, ap (λ y. y * z) parts) in
-      rw (at, in-rest c ports (2 ^ k) f fs g (rest * z) z) (chain-block fs (good .1) (has .1) rest (omega arith)))
+      rw (at, in-rest c ports (2 ^ k) f fs (g .shape) (rest * z) z) (chain-block fs (good .1) (has .1) rest (omega arith)))
 
   module _ (fs : List Carried) (good : Every (Good ports (2 ^ k)) fs) (has : HasAtLeast (2 ^ j) c ports fs) where
     -- so w blocks in a row have w

@@ -1,41 +1,45 @@
 -- Work: the odd counts settled for a frame are those of its load, split down to blocks of two slots; and how many they can be.
 use Prim.Native.Nat.{ℕ, suc, zero, _+_, _-_, _*_, _/_, _%_, _^_, _≤_, _<_, min}
 use mathlib.Core.Path.{_≡_, refl, sym, ap, ap₂, _∙_, subst}
-use mathlib.Core.Logic.{_≢_}
 use mathlib.Core.List.{List, _++_}
 use mathlib.Core.Bool.{true}
 use native.Mathlib.Omega.{arith}
-use native.Mathlib.Nat.{div-add-mod', mod-le, mul-div-cancel, mul-le-mul-right, pow-le-pow-right, le-min, min-le-left}
+use native.Mathlib.Nat.{mod-le, mod-lt, mul-mod-left, mul-div-cancel, div-lt-iff-lt-mul, mul-le-mul, mul-le-mul-right, pow-le-pow-right, le-min, min-le-left}
 use lib.Arith.{digits-div, digits-mod}
 use lib.Dec.{eqb}
 use lib.Pow.{pow-pos}
 use lib.ListN.{length, getD, replicate, length-append, length-replicate, getD-replicate}
 use borrow.Author.Tests.{eq-eqb, ne-eqb}
-use Rattle.model.specs.Words.{both, bit, Near, sumTo}
-use Rattle.model.specs.Flows.{Side, inputs, outputs, portOf, pair, total, load, Fits}
-use Rattle.model.specs.Frames.{counts, cells, runOf, Legal, Block}
+use Rattle.model.specs.Words.{if, bit, Near, sumTo, sumIf}
+use Rattle.model.specs.Flows.{flows, Side, inputs, outputs, portOf, countsOf, flow, total, loadIn, load, Fits}
+use Rattle.model.specs.Frames.{counts, cells, runOf, Block}
 use Rattle.model.specs.Refusals.{levels}
 use Rattle.model.specs.Rules.{Split, Scheduled}
 use Rattle.model.specs.Schedule.{oddShares, settled}
-use Rattle.model.specs.Work.{oddPairs, blockOf, work}
+use Rattle.model.specs.Work.{oddFlows, blockOf, work}
 use Rattle.model.specs.Build.{buildAccepts, left}
+use Rattle.model.specs.Pairs.{pairPort}
 use Rattle.model.specs.Budget.{WorkMost, WorkByDepth, ones, WorkReached}
 use Rattle.model.proofs.Cases.{byEq, byLt, is-yes, is-no}
 use Rattle.model.proofs.Sums.{sum-none, sum-more, sum-ext, sum-shift, sum-append, sum-add, sum-le, sum-most, sum-zero, sum-one, sum-swap, sum-rows, sum-times, sum-ones}
 use Rattle.model.proofs.Levels.{Power, pow-only, levels-of, power-level, level-is, depth-size, depth-fill}
 use Rattle.model.proofs.Shares.{two-halves}
-use Rattle.model.proofs.Halves.{port-low, halves-fit}
+use Rattle.model.proofs.Halves.{halves-fit}
+use Rattle.model.proofs.Flows.{counts-length, flow-counts}
+use Rattle.model.proofs.Slots.{Placed}
+use Rattle.model.proofs.Reports.{Ported}
 use Rattle.model.proofs.Cells.{run-all, run-length, run-first, run-second}
 use Rattle.model.proofs.Blocks.{number-block, block-numbered}
-use Rattle.model.proofs.OneFrame.{double, rules-sound}
-use Rattle.model.proofs.Demand2.{accepts-is, accepts-yes, build-frame, build-sound}
+use Rattle.model.proofs.OneFrame.{double, Laid, rules-sound}
+use Rattle.model.proofs.Pairs.{order-length, order-flows, order-number, order-counts, order-ports}
+use Rattle.model.proofs.Demand2.{well-placed, accepts-is, accepts-yes, build-frame, build-sound}
 
 -- ---- the blocks of a frame of 2 ^ k slots, depth by depth
-abbrev atDepth : ℕ → ℕ → List ℕ → ℕ → ℕ
-atDepth ports slots bytes t = sumTo (2 ^ t) (λ b. oddPairs ports (blockOf ports (slots / 2 ^ t) b bytes))
+abbrev atDepth : ℕ → ℕ → List ℕ → List ℕ → ℕ → ℕ
+atDepth ports slots list entries t = sumTo (2 ^ t) (λ b. oddFlows ports list (blockOf ports (slots / 2 ^ t) b entries))
 
-abbrev deep : ℕ → ℕ → List ℕ → ℕ
-deep ports k bytes = sumTo k (atDepth ports (2 ^ k) bytes)
+abbrev deep : ℕ → ℕ → List ℕ → List ℕ → ℕ
+deep ports k list entries = sumTo k (atDepth ports (2 ^ k) list entries)
 
 -- Blocks by depth and number are those of rule 1 with two or more slots, each once.
 pub record EachOnce (slots k : ℕ) : Type 0 where
@@ -77,9 +81,9 @@ each-once slots k e = record { block = block; found = found; once = once }
         let low : 0 < slots / 2 ^ u = omega (arith, size-at u (omega arith), pow-pos (k - u)) in
         (omega arith, sym (mul-div-cancel b low) ∙ ap (λ n. n / (slots / 2 ^ u)) (sym (ap (λ z. b * z) d) ∙ f) ∙ mul-div-cancel c low)
 
-module _ (ports k : ℕ) (f g : List ℕ) (lf : length f ≡ 2 ^ k * ports) (lg : length g ≡ 2 ^ k * ports) where
+module _ (ports k : ℕ) (list f g : List ℕ) (lf : length f ≡ 2 ^ k * ports) (lg : length g ≡ 2 ^ k * ports) where
   -- at depth 0 there is the whole frame
-  at-top : atDepth ports (2 ^ suc k) (f ++ g) 0 ≡ oddPairs ports (f ++ g)
+  at-top : atDepth ports (2 ^ suc k) list (f ++ g) 0 ≡ oddFlows ports list (f ++ g)
   unfolding sumTo
   at-top =
       let d = double k in
@@ -89,9 +93,9 @@ module _ (ports k : ℕ) (f g : List ℕ) (lf : length f ≡ 2 ^ k * ports) (lg 
       rw (size, none, run-all ports (2 ^ suc k) (f ++ g) len) (omega arith)
 
   -- at each further depth the blocks of the first half, then those of the second
-  at-next : (t : ℕ) → t < k → atDepth ports (2 ^ suc k) (f ++ g) (suc t) ≡ atDepth ports (2 ^ k) f t + atDepth ports (2 ^ k) g t
+  at-next : (t : ℕ) → t < k → atDepth ports (2 ^ suc k) list (f ++ g) (suc t) ≡ atDepth ports (2 ^ k) list f t + atDepth ports (2 ^ k) list g t
   at-next t h =
-      let odd : ℕ → ℕ → ℕ = λ z b. oddPairs ports (blockOf ports z b (f ++ g)) in
+      let odd : ℕ → ℕ → ℕ = λ z b. oddFlows ports list (blockOf ports z b (f ++ g)) in
       let z : ℕ = 2 ^ k / 2 ^ t in
       let less : suc k - suc t ≡ k - t = omega arith in
       let size : 2 ^ suc k / 2 ^ suc t ≡ z = depth-size (suc k) (suc t) (omega arith) ∙ ap (λ x. 2 ^ x) less ∙ sym (depth-size k t (omega arith)) in
@@ -102,24 +106,19 @@ module _ (ports k : ℕ) (f g : List ℕ) (lf : length f ≡ 2 ^ k * ports) (lg 
       ∙ ap₂ _+_
       (sum-ext (2 ^ t) _ _ (λ b l.
       let m : suc b * z ≤ 2 ^ t * z = mul-le-mul-right z l in
-      ap (oddPairs ports) (run-first ports (2 ^ k) (b * z) z f g lf (omega arith))))
+      ap (oddFlows ports list) (run-first ports (2 ^ k) (b * z) z f g lf (omega arith))))
       (sum-ext (2 ^ t) _ _ (λ b l.
       let e : (2 ^ t + b) * z ≡ 2 ^ k + b * z = omega arith in
-      ap (λ x. oddPairs ports (runOf ports x z (f ++ g))) e ∙ ap (oddPairs ports) (run-second ports (2 ^ k) (b * z) z f g lf)))
+      ap (λ x. oddFlows ports list (runOf ports x z (f ++ g))) e ∙ ap (oddFlows ports list) (run-second ports (2 ^ k) (b * z) z f g lf)))
 
-  pub deep-halves : deep ports (suc k) (f ++ g) ≡ oddPairs ports (f ++ g) + (deep ports k f + deep ports k g)
+  pub deep-halves : deep ports (suc k) list (f ++ g) ≡ oddFlows ports list (f ++ g) + (deep ports k list f + deep ports k list g)
   deep-halves =
-      sum-shift k (atDepth ports (2 ^ suc k) (f ++ g))
-      ∙ ap₂ _+_ at-top (sum-ext k _ _ at-next ∙ sum-add k (atDepth ports (2 ^ k) f) (atDepth ports (2 ^ k) g))
+      sum-shift k (atDepth ports (2 ^ suc k) list (f ++ g))
+      ∙ ap₂ _+_ at-top (sum-ext k _ _ at-next ∙ sum-add k (atDepth ports (2 ^ k) list f) (atDepth ports (2 ^ k) list g))
 
--- the pairs of a legal frame that are odd are the odd counts of its load
-odd-load : (ports slots : ℕ) (m bytes : List ℕ) → Legal ports slots m bytes → oddPairs ports bytes ≡ sumTo (ports * ports) (λ p. getD m p 0 % 2)
-unfolding load
-odd-load ports slots m bytes legal =
-    sum-ext (ports * ports) _ _ (λ p h.
-    let l : 1 ≤ ports = byEq ports 0 (λ e. absurd (let z = ap₂ _*_ e e in omega arith)) (λ n. omega arith) in
-    ap (λ n. n % 2) (legal .exact (p / ports) (p % ports) (port-low inputs {ports = ports} {p = p} l h) (port-low outputs {ports = ports} {p = p} l h)
-    ∙ ap (λ q. getD m q 0) (div-add-mod' p ports)))
+-- the flows of a block that are odd are its odd counts
+odd-load : (ports slots : ℕ) (list m entries : List ℕ) → Laid ports slots list m entries → oddFlows ports list entries ≡ sumTo (flows list) (λ f. getD m f 0 % 2)
+odd-load ports slots list m entries laid = sum-ext (flows list) _ _ (λ f h. ap (λ n. n % 2) (laid .exact f h))
 
 -- ---- counts, split
 -- two shares of a count are its smaller and its larger half, in either order
@@ -148,40 +147,43 @@ settled-halves port k m a b sp =
     ∙ ap (λ n. sumTo (length m) (λ p. getD m p 0 % 2) + n) (sum-add (length m) (share a) (share b) ∙ sym (ap₂ _+_ la lb))
 
 -- ---- whatever meets the rules: the frame's number is the splitting's own
-rules-deep : (ports k : ℕ) (m bytes : List ℕ) → length m ≡ ports * ports → Fits ports (2 ^ k) m → Scheduled ports k m bytes → deep ports k bytes ≡ settled k m
-unfolding Scheduled oddShares settled
-rules-deep ports zero m bytes size fits s = sum-none _ ∙ sym (sum-zero (length m) _ (λ p h. refl))
-rules-deep ports (suc k) m bytes size fits s =
-    let sp = s .split in
-    let half = halves-fit ports m (s .first) (s .second) size sp (2 ^ k) (rw (double k) at fits) in
-    let front = rules-sound ports k (s .first) (s .front) (sp .first-size ∙ size) (half .0) (s .first-half) in
-    let back = rules-sound ports k (s .second) (s .back) (sp .second-size ∙ size) (half .1) (s .second-half) in
-    let whole = rules-sound ports (suc k) m bytes size fits s in
-    ap (deep ports (suc k)) (s .joined)
-    ∙ deep-halves ports k (s .front) (s .back) (front .0 .size) (back .0 .size)
-    ∙ ap₂ _+_
-    (ap (oddPairs ports) (sym (s .joined)) ∙ odd-load ports (2 ^ suc k) m bytes (whole .0) ∙ ap (λ n. sumTo n (λ p. getD m p 0 % 2)) (sym size))
-    (ap₂ _+_
-    (rules-deep ports k (s .first) (s .front) (sp .first-size ∙ size) (half .0) (s .first-half))
-    (rules-deep ports k (s .second) (s .back) (sp .second-size ∙ size) (half .1) (s .second-half)))
-    ∙ sym (settled-halves (portOf ports) k m (s .first) (s .second) sp)
+module _ (ports : ℕ) (list : List ℕ) (placed : Placed ports (portOf list) (flows list)) where
+  rules-deep : (k : ℕ) (m entries : List ℕ) → length m ≡ flows list → Fits ports (2 ^ k) (portOf list) m → Scheduled ports (portOf list) k m entries
+      → deep ports k list entries ≡ settled k m
+  unfolding Scheduled oddShares settled
+  rules-deep zero m entries size fits s = sum-none _ ∙ sym (sum-zero (length m) _ (λ p h. refl))
+  rules-deep (suc k) m entries size fits s =
+      let sp = s .split in
+      let half = halves-fit (portOf list) m (s .first) (s .second) sp ports (2 ^ k) (rw (double k) at fits) in
+      let front = rules-sound ports k list (s .first) (s .front) (sp .first-size ∙ size) placed (half .0) (s .first-half) in
+      let back = rules-sound ports k list (s .second) (s .back) (sp .second-size ∙ size) placed (half .1) (s .second-half) in
+      let whole = rules-sound ports (suc k) list m entries size placed fits s in
+      ap (deep ports (suc k) list) (s .joined)
+      ∙ deep-halves ports k list (s .front) (s .back) (front .0 .size) (back .0 .size)
+      ∙ ap₂ _+_
+      (ap (oddFlows ports list) (sym (s .joined)) ∙ odd-load ports (2 ^ suc k) list m entries (whole .0) ∙ ap (λ n. sumTo n (λ p. getD m p 0 % 2)) (sym size))
+      (ap₂ _+_
+      (rules-deep k (s .first) (s .front) (sp .first-size ∙ size) (half .0) (s .first-half))
+      (rules-deep k (s .second) (s .back) (sp .second-size ∙ size) (half .1) (s .second-half)))
+      ∙ sym (settled-halves (portOf list) k m (s .first) (s .second) sp)
 
-pub work-settled : (ports k : ℕ) (m bytes : List ℕ) → k ≤ 10 → length m ≡ ports * ports → Fits ports (2 ^ k) m → Scheduled ports k m bytes
-    → work ports (2 ^ k) bytes ≡ settled k m
-unfolding work
-work-settled ports k m bytes low size fits s =
-    ap (λ n. sumTo n (atDepth ports (2 ^ k) bytes)) (levels-of k low) ∙ rules-deep ports k m bytes size fits s
+  pub work-settled : (k : ℕ) (entries : List ℕ) → k ≤ 10 → Fits ports (2 ^ k) (portOf list) (countsOf list)
+      → Scheduled ports (portOf list) k (countsOf list) entries → work ports (2 ^ k) list entries ≡ settled k (countsOf list)
+  unfolding work
+  work-settled k entries low fits s =
+      ap (λ n. sumTo n (atDepth ports (2 ^ k) list entries)) (levels-of k low) ∙ rules-deep k (countsOf list) entries (counts-length list) fits s
 
 -- so is Build's
-pub work-built : (ports slots : ℕ) (m buffer : List ℕ) → buildAccepts ports slots m buffer ≡ true
-    → work ports slots (left ports slots m buffer) ≡ settled (levels slots) m
-work-built ports slots m buffer e =
-    let a = accepts-is ports slots m buffer e in
-    let b = build-frame ports slots m buffer e in
+pub work-built : (ports slots : ℕ) (list buffer : List ℕ) → buildAccepts ports slots list buffer ≡ true
+    → work ports slots list (left ports slots list buffer) ≡ settled (levels slots) (countsOf list)
+work-built ports slots list buffer e =
+    let a = accepts-is ports slots list buffer e in
+    let b = build-frame ports slots list buffer e in
     let k = levels slots in
     let low : k ≤ 10 = (let n = a .well .power .most in omega (arith, power-level (a .well .power))) in
-    ap (λ (n : ℕ). work ports n (left ports slots m buffer)) (b .1)
-    ∙ work-settled ports k m (left ports slots m buffer) low (a .well .square) (subst (λ (n : ℕ). Fits ports n m) (b .1) (a .fits)) (b .0 .meets)
+    ap (λ (n : ℕ). work ports n list (left ports slots list buffer)) (b .1)
+    ∙ work-settled ports list (well-placed (a .well)) k (left ports slots list buffer) low
+    (subst (λ (n : ℕ). Fits ports n (portOf list) (countsOf list)) (b .1) (a .fits)) (b .0 .meets)
 
 -- ---- how many they can be
 -- no more than k for each cell,
@@ -195,7 +197,7 @@ shares-most (suc k) c =
     let o : c % 2 ≤ c = omega arith in
     omega arith
 
--- and as many where the pair has one cell, or none
+-- and as many where the flow has one cell, or none
 shares-none : (k : ℕ) → oddShares k 0 ≡ 0
 unfolding oddShares
 shares-none zero = refl
@@ -216,140 +218,162 @@ pub settled-room : (k : ℕ) (m : List ℕ) → settled k m ≤ length m * 2 ^ k
 unfolding settled
 settled-room k m = sum-most (length m) (2 ^ k) _ (λ p h. omega (arith, shares-less k (getD m p 0)))
 
-settled-most : (ports k : ℕ) (m : List ℕ) → length m ≡ ports * ports → settled k m ≤ k * load total ports m
-unfolding load settled
-settled-most ports k m size =
+settled-most : (port : Side → ℕ → ℕ) (k : ℕ) (m : List ℕ) → settled k m ≤ k * loadIn total port m
+unfolding loadIn settled
+settled-most port k m =
     let each = sum-le (length m) (λ p. oddShares k (getD m p 0)) (λ p. k * getD m p 0) (λ p h. shares-most k (getD m p 0)) in
-    omega (arith, each, sum-times (length m) k (λ p. getD m p 0), ap (λ n. k * sumTo n (λ p. getD m p 0)) size)
+    omega (arith, each, sum-times (length m) k (λ p. getD m p 0))
 
 -- No load that Build accepts settles more than k for each of its cells.
-pub work-cells : (ports slots : ℕ) (m buffer : List ℕ) → buildAccepts ports slots m buffer ≡ true → (k : ℕ) → slots ≡ 2 ^ k
-    → work ports slots (left ports slots m buffer) ≤ k * load total ports m
-work-cells ports slots m buffer e k power =
-    let a = accepts-is ports slots m buffer e in
-    rw (work-built ports slots m buffer e, level-is (a .well .power) power) (settled-most ports k m (a .well .square))
+pub work-cells : (ports slots : ℕ) (list buffer : List ℕ) → buildAccepts ports slots list buffer ≡ true → (k : ℕ) → slots ≡ 2 ^ k
+    → work ports slots list (left ports slots list buffer) ≤ k * load total list
+work-cells ports slots list buffer e k power =
+    let a = accepts-is ports slots list buffer e in
+    rw (work-built ports slots list buffer e, level-is (a .well .power) power) (settled-most (portOf list) k (countsOf list))
 
--- ---- nor more than the cells of all slots, whatever the bytes
--- a byte is a cell of one pair at most
-one-output : (byte n : ℕ) → sumTo n (λ o. bit (eqb byte (suc o))) ≤ 1
-one-output byte zero = omega (arith, sum-none (λ o. bit (eqb byte (suc o))))
-one-output byte (suc n) =
-    byEq byte (suc n)
-    (λ e. omega (arith, sum-more n (λ o. bit (eqb byte (suc o))), is-yes byte (suc n) e, sum-zero n (λ o. bit (eqb byte (suc o))) (λ o h. is-no byte (suc o) (omega arith))))
-    (λ e. omega (arith, sum-more n (λ o. bit (eqb byte (suc o))), is-no byte (suc n) e, one-output byte n))
+-- ---- nor more than the cells of all slots, whatever the entries
+-- an entry is a cell of one flow at most
+one-number : (e n : ℕ) → sumTo n (λ f. bit (eqb e (suc f))) ≤ 1
+one-number e zero = omega (arith, sum-none (λ f. bit (eqb e (suc f))))
+one-number e (suc n) =
+    byEq e (suc n)
+    (λ d. omega (arith, sum-more n (λ f. bit (eqb e (suc f))), is-yes e (suc n) d, sum-zero n (λ f. bit (eqb e (suc f))) (λ f h. is-no e (suc f) (omega arith))))
+    (λ d. omega (arith, sum-more n (λ f. bit (eqb e (suc f))), is-no e (suc n) d, one-number e n))
 
-one-pair : (ports at-input byte : ℕ) → sumTo (ports * ports) (λ p. bit (counts (pair (p / ports) (p % ports)) at-input byte)) ≤ 1
-one-pair ports x byte =
-    rw (sum-rows ports ports (λ p. bit (counts (pair (p / ports) (p % ports)) x byte)), sum-ext ports _ row (λ i hi. at-row i))
-    (byLt x ports
-    (λ h. rw (sum-one ports x row h (λ i hi n. other i n)) (omega (arith, own h)))
-    (λ h. rw (sum-zero ports row (λ i hi. other i (omega arith))) (omega arith)))
-  where
-    row : ℕ → ℕ
-    row i = sumTo ports (λ o. bit (both (eqb x i) (eqb byte (suc o))))
-
-    at-row : (i : ℕ) → sumTo ports (λ o. bit (counts (pair ((i * ports + o) / ports) ((i * ports + o) % ports)) x byte)) ≡ row i
-    at-row i = sum-ext ports _ _ (λ o ho. rw (digits-div i ho, digits-mod i ho))
-
-    other : (i : ℕ) → i ≢ x → row i ≡ 0
-    other i n = sum-zero ports _ (λ o ho. rw (ne-eqb x i (λ e. n (sym e))))
-
-    own : x < ports → row x ≤ 1
-    own h = rw (eq-eqb x x refl) (one-output byte ports)
-
-odd-cells : (ports : ℕ) (bytes : List ℕ) → oddPairs ports bytes ≤ length bytes
+odd-cells : (ports : ℕ) (list entries : List ℕ) → oddFlows ports list entries ≤ length entries
 unfolding cells
-odd-cells ports bytes =
-    let pairs : ℕ → ℕ → ℕ = λ p q. bit (counts (pair (p / ports) (p % ports)) (q % ports) (getD bytes q 0)) in
-    let odd = sum-le (ports * ports) _ (λ p. sumTo (length bytes) (pairs p)) (λ p h. mod-le (sumTo (length bytes) (pairs p)) 2) in
-    let byte = sum-most (length bytes) 1 (λ q. sumTo (ports * ports) (λ p. pairs p q)) (λ q h. one-pair ports (q % ports) (getD bytes q 0)) in
-    omega (arith, odd, byte, sum-swap (ports * ports) (length bytes) pairs)
+odd-cells ports list entries =
+    let one : ℕ → ℕ → ℕ = λ f q. bit (counts (flow f) list (q % ports) (getD entries q 0)) in
+    let odd = sum-le (flows list) _ (λ f. sumTo (length entries) (one f)) (λ f h. mod-le (sumTo (length entries) (one f)) 2) in
+    let entry = sum-most (length entries) 1 (λ q. sumTo (flows list) (λ f. one f q)) (λ q h.
+    rw (sum-ext (flows list) _ _ (λ f l. flow-counts list f (q % ports) (getD entries q 0) l)) (one-number (getD entries q 0) (flows list))) in
+    omega (arith, odd, entry, sum-swap (flows list) (length entries) one)
 
-odd-pairs : (ports : ℕ) (bytes : List ℕ) → oddPairs ports bytes ≤ ports * ports
-odd-pairs ports bytes = omega (arith, sum-most (ports * ports) 1 _ (λ p h. low (cells (pair (p / ports) (p % ports)) ports bytes)))
+odd-flows : (ports : ℕ) (list entries : List ℕ) → oddFlows ports list entries ≤ flows list
+odd-flows ports list entries = omega (arith, sum-most (flows list) 1 _ (λ f h. low (cells (flow f) ports list entries)))
   where
     low : (n : ℕ) → n % 2 ≤ 1
     low n = omega arith
 
 -- at depth t there are 2 ^ t blocks, and together they have all slots
-depth-most : (ports k : ℕ) (bytes : List ℕ) → length bytes ≡ 2 ^ k * ports → (t : ℕ) → t < k
-    → atDepth ports (2 ^ k) bytes t ≤ min (ports * 2 ^ k) (2 ^ t * (ports * ports))
-depth-most ports k bytes size t h =
+depth-most : (ports k : ℕ) (list entries : List ℕ) → length entries ≡ 2 ^ k * ports → (t : ℕ) → t < k
+    → atDepth ports (2 ^ k) list entries t ≤ min (ports * 2 ^ k) (2 ^ t * flows list)
+depth-most ports k list entries size t h =
     let z : ℕ = 2 ^ k / 2 ^ t in
     let fill : 2 ^ t * z ≡ 2 ^ k = depth-fill k t (omega arith) in
-    let in-cells = sum-most (2 ^ t) (z * ports) (λ b. oddPairs ports (blockOf ports z b bytes)) (λ b l.
+    let in-cells = sum-most (2 ^ t) (z * ports) (λ b. oddFlows ports list (blockOf ports z b entries)) (λ b l.
     let m : suc b * z ≤ 2 ^ t * z = mul-le-mul-right z l in
     let n : (b * z + z) * ports ≤ 2 ^ k * ports = mul-le-mul-right ports (omega arith) in
-    omega (arith, odd-cells ports (blockOf ports z b bytes), run-length ports (b * z) z bytes (omega arith))) in
-    let in-pairs = sum-most (2 ^ t) (ports * ports) (λ b. oddPairs ports (blockOf ports z b bytes)) (λ b l. odd-pairs ports (blockOf ports z b bytes)) in
-    le-min (omega (arith, in-cells, ap (λ n. n * ports) fill)) in-pairs
+    omega (arith, odd-cells ports list (blockOf ports z b entries), run-length ports (b * z) z entries (omega arith))) in
+    let in-flows = sum-most (2 ^ t) (flows list) (λ b. oddFlows ports list (blockOf ports z b entries)) (λ b l. odd-flows ports list (blockOf ports z b entries)) in
+    le-min (omega (arith, in-cells, ap (λ n. n * ports) fill)) in-flows
 
-pub frame-most : (ports slots k : ℕ) (bytes : List ℕ) → Power slots → slots ≡ 2 ^ k → length bytes ≡ slots * ports
-    → work ports slots bytes ≤ sumTo k (λ t. min (ports * slots) (2 ^ t * (ports * ports)))
+pub frame-most : (ports slots k : ℕ) (list entries : List ℕ) → Power slots → slots ≡ 2 ^ k → length entries ≡ slots * ports
+    → work ports slots list entries ≤ sumTo k (λ t. min (ports * slots) (2 ^ t * flows list))
 unfolding work
-frame-most ports slots k bytes p power size =
-    rw (level-is p power, power) (sum-le k (atDepth ports (2 ^ k) bytes) _ (depth-most ports k bytes (size ∙ ap (λ n. n * ports) power)))
+frame-most ports slots k list entries p power size =
+    rw (level-is p power, power) (sum-le k (atDepth ports (2 ^ k) list entries) _ (depth-most ports k list entries (size ∙ ap (λ n. n * ports) power)))
 
 pub work-by-depth : WorkByDepth
-work-by-depth ports slots m buffer e k power =
-    frame-most ports slots k (left ports slots m buffer) (accepts-is ports slots m buffer e .well .power) power (build-sound ports slots m buffer e .0 .size)
+work-by-depth ports slots list buffer e k power =
+    frame-most ports slots k list (left ports slots list buffer) (accepts-is ports slots list buffer e .well .power) power (build-sound ports slots list buffer e .0 .size)
 
 -- Nor more than ports × slots × k.
 pub work-most : WorkMost
-work-most ports slots m buffer e k power =
-    let most = sum-most k (ports * slots) (λ t. min (ports * slots) (2 ^ t * (ports * ports))) (λ t h. min-le-left (ports * slots) (2 ^ t * (ports * ports))) in
-    omega (arith, most, work-by-depth ports slots m buffer e k power)
+work-most ports slots list buffer e k power =
+    let most = sum-most k (ports * slots) (λ t. min (ports * slots) (2 ^ t * flows list)) (λ t h. min-le-left (ports * slots) (2 ^ t * flows list)) in
+    omega (arith, most, work-by-depth ports slots list buffer e k power)
 
 -- ---- that is reached
--- Where no pair has more than one cell, each cell settles k.
-pub work-single : (ports slots : ℕ) (m buffer : List ℕ) → buildAccepts ports slots m buffer ≡ true → (k : ℕ) → slots ≡ 2 ^ k
-    → ((p : ℕ) → getD m p 0 ≤ 1) → work ports slots (left ports slots m buffer) ≡ k * load total ports m
-unfolding load settled
-work-single ports slots m buffer e k power low =
-    let a = accepts-is ports slots m buffer e in
-    rw (work-built ports slots m buffer e, level-is (a .well .power) power)
-    (sum-ext (length m) _ (λ p. k * getD m p 0) (λ p h. one-or-none p)
-    ∙ sum-times (length m) k (λ p. getD m p 0) ∙ ap (λ n. k * sumTo n (λ p. getD m p 0)) (a .well .square))
+-- Where no flow has more than one cell, each cell settles k.
+pub work-single : (ports slots : ℕ) (list buffer : List ℕ) → buildAccepts ports slots list buffer ≡ true → (k : ℕ) → slots ≡ 2 ^ k
+    → ((f : ℕ) → getD (countsOf list) f 0 ≤ 1) → work ports slots list (left ports slots list buffer) ≡ k * load total list
+unfolding loadIn settled
+work-single ports slots list buffer e k power low =
+    let a = accepts-is ports slots list buffer e in
+    let m = countsOf list in
+    rw (work-built ports slots list buffer e, level-is (a .well .power) power)
+    (sum-ext (length m) _ (λ f. k * getD m f 0) (λ f h. one-or-none f) ∙ sum-times (length m) k (λ f. getD m f 0))
   where
-    one-or-none : (p : ℕ) → oddShares k (getD m p 0) ≡ k * getD m p 0
-    one-or-none p =
-        byEq (getD m p 0) 0 (λ z. rw z (omega (arith, shares-none k)))
-        (λ n. let one : getD m p 0 ≡ 1 = (let l = low p in omega arith) in rw one (omega (arith, shares-one k)))
+    one-or-none : (f : ℕ) → oddShares k (getD (countsOf list) f 0) ≡ k * getD (countsOf list) f 0
+    one-or-none f =
+        byEq (getD (countsOf list) f 0) 0 (λ z. rw z (omega (arith, shares-none k)))
+        (λ n. let one : getD (countsOf list) f 0 ≡ 1 = (let l = low f in omega arith) in rw one (omega (arith, shares-one k)))
 
 one-most : (n p : ℕ) → getD (replicate {A = ℕ} n 1) p 0 ≤ 1
 one-most zero p = omega arith
 one-most (suc n) zero = omega arith
 one-most (suc n) (suc p) = one-most n p
 
+module _ (k : ℕ) (low : k ≤ 4) where
+  abbrev n : ℕ
+  n = 2 ^ k
+
+  abbrev each : List ℕ
+  each = replicate (n * n) 1
+
+  most : n ≤ 16
+  most = let p : 2 ^ k ≤ 2 ^ 4 = pow-le-pow-right (omega arith) {j = 4} low in omega arith
+
+  size : length each ≡ n * n
+  size = length-replicate {A = ℕ} (n * n) 1
+
+  pairs : flows (ones k) ≡ n * n
+  pairs = order-flows n each ∙ size
+
+  -- each input and each output has a cell of every other
+  side-load : (s : Side) (x : ℕ) → x < n → sumIf (n * n) (λ p. eqb (pairPort n s p) x) (λ p. getD each p 0) ≤ n
+  side-load inputs x h =
+      let at : ℕ → ℕ → ℕ = λ i o. if (eqb ((i * n + o) / n) x) (getD each (i * n + o) 0) 0 in
+      let one = sum-one n x (λ i. sumTo n (at i)) h (λ i hi d. sum-zero n (at i) (λ o ho. rw (ne-eqb ((i * n + o) / n) x (λ e. d (sym (digits-div i ho) ∙ e))))) in
+      let few = sum-most n 1 (at x) (λ o ho. rw (eq-eqb ((x * n + o) / n) x (digits-div x ho)) (one-most (n * n) (x * n + o))) in
+      omega (arith, sum-rows n n (λ p. if (eqb (p / n) x) (getD each p 0) 0))
+  side-load outputs x h =
+      let at : ℕ → ℕ → ℕ = λ i o. if (eqb ((i * n + o) % n) x) (getD each (i * n + o) 0) 0 in
+      let few = sum-most n 1 (λ i. sumTo n (at i)) (λ i hi.
+      let one = sum-one n x (at i) h (λ o ho d. rw (ne-eqb ((i * n + o) % n) x (λ e. d (sym (digits-mod i ho) ∙ e)))) in
+      let own : at i x ≤ 1 = rw (eq-eqb ((i * n + x) % n) x (digits-mod i h)) (one-most (n * n) (i * n + x)) in
+      omega arith) in
+      omega (arith, sum-rows n n (λ p. if (eqb (p % n) x) (getD each p 0) 0))
+
+  -- the list has the same ports
+  at-side : (s : Side) (x : ℕ) → x < n → sumIf (n * n) (λ p. eqb (portOf (ones k) s p) x) (λ p. getD each p 0) ≤ n
+  at-side s x h =
+      omega (arith, side-load s x h, sum-ext (n * n) _ _ (λ p l. ap (λ z. if (eqb z x) (getD each p 0) 0) (order-ports n each s p (omega (arith, size)))))
+
+  fits : Fits n n (portOf (ones k)) (countsOf (ones k))
+  unfolding loadIn
+  fits x h = rw (order-counts n each, size) (at-side inputs x h, at-side outputs x h)
+
+  ported : Ported n (ones k)
+  ported inputs f h =
+      let l : f < n * n = omega (arith, pairs) in
+      rw (order-number n each f (omega (arith, size)) .0) (omega arith, div-lt-iff-lt-mul {k = n} {x = f} {y = n} (pow-pos k) .1 l)
+  ported outputs f h =
+      let l : f < n * n = omega (arith, pairs) in
+      rw (order-number n each f (omega (arith, size)) .1) (omega arith, mod-lt f (pow-pos k))
+
+  pub ones-accepted : (buffer : List ℕ) → length buffer ≡ n * n → buildAccepts n n (ones k) buffer ≡ true
+  ones-accepted buffer e =
+      accepts-yes n n (ones k) buffer
+      (record {
+        well = record {
+          rack = (pow-pos k, most);
+          power = record { k = k; most = omega arith; is = refl };
+          whole = rw (order-length n each) (mul-mod-left (length each) 3);
+          few = omega (arith, pairs, mul-le-mul most most);
+          ported = ported;
+        };
+        size = e;
+        fits = fits;
+      })
+
+  pub ones-cells : load total (ones k) ≡ n * n
+  unfolding loadIn
+  ones-cells = rw (order-counts n each, size) (sum-ext (n * n) _ (λ p. 1) (λ p h. getD-replicate (n * n) p 1 0 h) ∙ sum-ones (n * n))
+
 pub work-reached : WorkReached
-unfolding load
-work-reached k low buffer size = (
-  accepts,
-  work-single (2 ^ k) (2 ^ k) (ones k) buffer accepts k refl (one-most (2 ^ k * 2 ^ k)) ∙ ap (λ n. k * n) all ∙ omega arith,
-)
-  where
-    most : 2 ^ k ≤ 2 ^ 4
-    most = pow-le-pow-right (omega arith) {j = 4} low
-
-    port-load : (f : ℕ → ℕ) → sumTo (2 ^ k) (λ x. getD (ones k) (f x) 0) ≤ 2 ^ k
-    port-load f = omega (arith, sum-most (2 ^ k) 1 (λ x. getD (ones k) (f x) 0) (λ x h. one-most (2 ^ k * 2 ^ k) (f x)))
-
-    fits : Fits (2 ^ k) (2 ^ k) (ones k)
-    fits x h = (port-load (λ o. x * 2 ^ k + o), port-load (λ i. i * 2 ^ k + x))
-
-    accepts : buildAccepts (2 ^ k) (2 ^ k) (ones k) buffer ≡ true
-    accepts =
-        accepts-yes (2 ^ k) (2 ^ k) (ones k) buffer
-        (record {
-          well = record {
-            rack = (pow-pos k, omega (arith, most));
-            power = record { k = k; most = omega arith; is = refl };
-            square = length-replicate {A = ℕ} (2 ^ k * 2 ^ k) 1;
-          };
-          size = size;
-          fits = fits;
-        })
-
-    all : load total (2 ^ k) (ones k) ≡ 2 ^ k * 2 ^ k
-    all =
-        sum-ext (2 ^ k * 2 ^ k) _ (λ p. 1) (λ p h. getD-replicate (2 ^ k * 2 ^ k) p 1 0 h) ∙ sum-ones (2 ^ k * 2 ^ k)
+work-reached k low buffer size =
+    let a = ones-accepted k low buffer size in
+    (a, work-single (2 ^ k) (2 ^ k) (ones k) buffer a k refl (λ f. rw (order-counts (2 ^ k) (replicate (2 ^ k * 2 ^ k) 1)) (one-most (2 ^ k * 2 ^ k) f))
+    ∙ ap (λ n. k * n) (ones-cells k low) ∙ omega arith)

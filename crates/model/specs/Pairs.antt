@@ -45,5 +45,5 @@ sendsTo list e = if (eqb e 0) 0 (suc (portOf list outputs (e - 1)))
 -- Whatever the ports, the slots and the counts, every input sends to the same output in every slot.
 abbrev pub SamePairs : Type 0
 SamePairs =
-    (ports k : ℕ) (matrix : List ℕ) → length matrix ≡ ports * ports
+    (ports k : ℕ) (matrix : List ℕ)
     → (let list = inMatrixOrder ports matrix in map (sendsTo list) (frameOf ports (portOf list) k (countsOf list)) ≡ frameByPairs ports k matrix)
