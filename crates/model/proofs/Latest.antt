@@ -7,13 +7,11 @@ use native.Mathlib.Omega.{arith}
 use lib.Pow.{pow-pos, pow-add}
 use lib.ListN.{length}
 use Rattle.model.specs.Words.{Every}
-use Rattle.model.specs.Flows.{load}
-use Rattle.model.specs.Frames.{cells, runOf}
-use Rattle.model.specs.Wire.{Carried, none, chain, wire, Shape, deviation}
+use Rattle.model.specs.Wire.{Carried, none, chain, cellsIn, Shape, deviation}
 use Rattle.model.specs.Wait.{HasAtLeast, byDemand3, bySharp, longest}
 use Rattle.model.proofs.OneFrame.{double}
-use Rattle.model.proofs.OneInput.{flow, row-whole, row-parts, once, framed, rows-framed}
-use Rattle.model.proofs.Reached.{count, edge, count-less, Leans, alone, behind, first-of, last-of, first-leans, last-leans, over-cells, framed-shape, frames-short}
+use Rattle.model.proofs.OneInput.{second, row-whole, row-parts, rows-framed}
+use Rattle.model.proofs.Reached.{count, edge, count-less, Leans, others, first-of, last-of, first-leans, last-leans, seam, seam-shape, over-cells, frames-short, aloneCall, behindCall}
 use Rattle.model.proofs.Queues.{share-is}
 
 -- ---- the numbers
@@ -23,7 +21,7 @@ unfolding count
 count-third zero = (omega arith, omega arith)
 count-third (suc j) = let r = count-third j in (omega (arith, r .1, double j, count-less j), omega (arith, r .0, double j, count-less j))
 
--- demand 3's bound is less than one such load above the sharp bound
+-- demand 3's bound is at most half a frame's slots above the sharp one
 near-demand : (j : ℕ) → byDemand3 (suc j) ≤ bySharp (suc j) + 2 ^ j
 unfolding deviation
 near-demand zero = omega arith
@@ -42,6 +40,7 @@ near-demand (suc (suc j)) =
       ap (λ z. (2 * suc (suc (suc j)) + 1) * z) three,
     )
 
+-- which is less than one such load
 near-count : (k : ℕ) → 1 ≤ k → byDemand3 k < bySharp k + 3 * count k
 near-count zero h = absurd (omega arith)
 near-count (suc j) h =
@@ -93,25 +92,25 @@ module _ (a : ℕ → ℕ → ℕ → ℕ) (l : Leans a) where
 -- A run of len slots that has fewer than w cells of the flow, in frames that each have at least m of them.
 pub record Fewer (k m w start len : ℕ) (frames : List Carried) : Type 0 where
   pub shape : Every (Shape 2 (2 ^ k)) frames
-  pub has : HasAtLeast m flow 2 frames
+  pub has : HasAtLeast m second 2 frames
   pub fits : start + len ≤ length frames * 2 ^ k
-  pub few : cells flow 2 (runOf 2 start len (wire frames)) < w
+  pub few : cellsIn second frames start len < w
 
 -- both frames have m cells of it
-framed-has : (k m : ℕ) → m ≤ 2 ^ k → HasAtLeast m flow 2 (framed k (alone m) (behind k m))
-framed-has k m h = (omega (arith, row-whole k 0 m (omega arith)), (omega (arith, row-whole k (2 ^ k - m) m (omega arith)), tt))
+seam-has : (k m : ℕ) → m ≤ 2 ^ k → HasAtLeast m second 2 (seam k m 0 (others k m))
+seam-has k m h = (omega (arith, row-whole 0 m k 0 m (omega arith)), (omega (arith, row-whole (2 ^ k - m) m k (2 ^ k - m) m (omega arith)), tt))
 
 -- the run that is short by all of the bound is one slot shorter than the longest wait for one cell more than it has
 frames-wait : (k gap : ℕ) → 1 ≤ k → bySharp k ≤ gap → gap ≤ byDemand3 k
-    → (w : ℕ) × (1 ≤ w) × Fewer k (count k) w (edge k) (longest gap k (count k) w - 1) (framed k (alone (count k)) (behind k (count k)))
+    → (w : ℕ) × (1 ≤ w) × Fewer k (count k) w (edge k) (longest gap k (count k) w - 1) (seam k (count k) 0 (others k (count k)))
 frames-wait k gap h low high =
     let m = count k in
     let rest = 2 ^ k - edge k in
     let len = rest + rest in
-    let frames = framed k (alone m) (behind k m) in
+    let frames = seam k m 0 (others k m) in
     let short = frames-short k in
-    let n = cells flow 2 (runOf 2 (edge k) len (wire frames)) in
-    let share-of = share-is flow 2 k m frames (short .0 .shape) (short .0 .same) (edge k) len (short .0 .fits) in
+    let n = cellsIn second frames (edge k) len in
+    let share-of = share-is second 2 k m frames (short .0 .shape) (short .0 .same) (edge k) len (short .0 .fits) in
     let near = near-count k h in
     let before : 3 * 2 ^ k * (suc n - 1) ≡ 3 * 2 ^ k * n = ap (λ z. 3 * 2 ^ k * z) (omega arith) in
     let same : (gap + 3 * 2 ^ k * (suc n - 1)) / (3 * m) ≡ len = div-eq-of-lt-le (3 * m) (omega (arith, short .1)) (omega (arith, short .1)) in
@@ -119,13 +118,12 @@ frames-wait k gap h low high =
     let small = count-less k in (
       suc n,
       omega arith,
-      record { shape = short .0 .shape; has = framed-has k m (omega arith); fits = rw is (short .0 .fits); few = rw is (omega arith) },
+      record { shape = short .0 .shape; has = seam-has k m (omega arith); fits = rw is (short .0 .fits); few = rw is (omega arith) },
     )
 
 -- from the last cell of the one frame to the first of the other there are two blocks of 2 ^ i slots less two slots
 frames-head : (i d : ℕ) → 1 ≤ i → let k = d + i in let m = most d in
-    Fewer k m 1 (filled i d) (2 * 2 ^ i - 2) (framed k (alone m) (behind k m))
-unfolding load
+    Fewer k m 1 (filled i d) (2 * 2 ^ i - 2) (seam k m 0 (others k m))
 frames-head i d h =
     let k = d + i in
     let m = most d in
@@ -135,15 +133,16 @@ frames-head i d h =
     let q = block-most i d in
     let p = pow-pos i in
     let len : 2 * 2 ^ i - 2 ≡ u + u = omega arith in
-    let a = all-in first-of first-leans i d h in
-    let b = all-in last-of last-leans i d h in
-    let x = row-parts k 0 m f u (omega arith) (omega arith) in
-    let y = row-parts k (2 ^ k - m) m u f (omega arith) (omega arith) in
+    let o = 2 ^ k - m in
+    let a = all-in (first-of 0 m) (first-leans 0 m) i d h in
+    let b = all-in (last-of o m) (last-leans o m) i d h in
+    let x = row-parts 0 m k 0 m f u (omega arith) (omega arith) in
+    let y = row-parts o m k o m u f (omega arith) (omega arith) in
     let back : 2 ^ k - f ≡ u = omega arith in
-    let r = over-cells k m f u u (alone m) (behind k m) refl refl (omega arith) (omega arith) in
+    let r = over-cells k m f u u 0 o (omega arith) (omega arith) in
     rw len (record {
-      shape = framed-shape k (alone m) (behind k m);
-      has = framed-has k m (omega arith);
+      shape = seam-shape k m 0 o;
+      has = seam-has k m (omega arith);
       fits = omega arith;
       few = omega (arith, r, rw back at b);
     })
@@ -153,7 +152,7 @@ frames-head i d h =
 -- flow, and a run over their seam that is one slot shorter and has fewer than w.
 pub wait-reached : (k : ℕ) → 1 ≤ k → k ≤ 10 → (buffer : List ℕ) → length buffer ≡ 2 ^ k * 2 → (gap : ℕ) → bySharp k ≤ gap → gap ≤ byDemand3 k
     → let m = count k in
-    (w : ℕ) × (1 ≤ w) × Fewer k m w (edge k) (longest gap k m w - 1) (chain none buffer (once k (alone m) ∷ once k (behind k m) ∷ []))
+    (w : ℕ) × (1 ≤ w) × Fewer k m w (edge k) (longest gap k m w - 1) (chain none buffer (aloneCall k m ∷ behindCall k m ∷ []))
 wait-reached k least h buffer e gap low high =
     let small = count-less k in
     rw (rows-framed k 0 (count k) (2 ^ k - count k) (count k) buffer h (omega arith) (omega arith) e) (frames-wait k gap least low high)
@@ -161,7 +160,7 @@ wait-reached k least h buffer e gap low high =
 -- So is the wait at the head of the queue: two such calls, each with as many cells of the flow as there are below 2 ^ (d + 1), and a run of two
 -- blocks of 2 ^ i slots, less two slots, that has none. One slot more always has one: `block-wait`.
 pub head-reached : (i d : ℕ) → 1 ≤ i → d + i ≤ 10 → (buffer : List ℕ) → length buffer ≡ 2 ^ (d + i) * 2
-    → let k = d + i in let m = most d in Fewer k m 1 (filled i d) (2 * 2 ^ i - 2) (chain none buffer (once k (alone m) ∷ once k (behind k m) ∷ []))
+    → let k = d + i in let m = most d in Fewer k m 1 (filled i d) (2 * 2 ^ i - 2) (chain none buffer (aloneCall k m ∷ behindCall k m ∷ []))
 head-reached i d least h buffer e =
     let low = most-less i d least in
     rw (rows-framed (d + i) 0 (most d) (2 ^ (d + i) - most d) (most d) buffer h (omega arith) (omega arith) e) (frames-head i d least)

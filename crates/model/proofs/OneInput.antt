@@ -1,4 +1,5 @@
--- One input: frames of two ports in which only the first input sends. Two odd counts of a row favour opposite halves, a lone one the first.
+-- One input: frames of two ports in which only the first input sends, by a flow to each output. Two odd counts favour opposite halves, a
+-- lone one the first.
 use Prim.Native.Nat.{ℕ, suc, zero, _+_, _*_, _/_, _%_, _^_, _≤_}
 use mathlib.Core.Path.{_≡_, refl, ap, ap₂, _∙_}
 use mathlib.Core.Logic.{_≢_}
@@ -9,7 +10,7 @@ use native.Mathlib.Nat.{add-zero, zero-add}
 use lib.Dec.{eqb}
 use lib.ListN.{length, getD, replicate, length-append}
 use Rattle.model.specs.Words.{both, sumTo, upFrom}
-use Rattle.model.specs.Flows.{inputs, outputs, portOf, Class, pair, load, Fits}
+use Rattle.model.specs.Flows.{Side, inputs, outputs, portOf, countsOf, Class, flow, loadIn, Fits}
 use Rattle.model.specs.Frames.{cells, runOf}
 use Rattle.model.specs.Rules.{odd}
 use Rattle.model.specs.Schedule.{partner, walk, groupOf, level, settleAt, settle, favours, frameOf}
@@ -18,16 +19,25 @@ use Rattle.model.specs.Wire.{Call, Carried, none, chain}
 use Rattle.model.proofs.Levels.{levels-of}
 use Rattle.model.proofs.Walks.{walk-on, walk-off}
 use Rattle.model.proofs.Cells.{cells-run, run-first, run-second, run-all}
-use Rattle.model.proofs.OneFrame.{frame-length, one-frame}
+use Rattle.model.proofs.OneFrame.{frame-is, frame-length, rules-sound}
+use Rattle.model.proofs.Slots.{Placed}
+use Rattle.model.proofs.Reports.{Ported}
 use Rattle.model.proofs.Demand2.{accepts-yes}
 
--- d cells of the first input to the first output and c to the second
-abbrev pub row : ℕ → ℕ → List ℕ
-row d c = d ∷ c ∷ 0 ∷ 0 ∷ []
+-- a flow of d cells from the first input to the first output, and one of c to the second: the list, and its counts
+abbrev pub listed : ℕ → ℕ → List ℕ
+listed d c = 1 ∷ 1 ∷ d ∷ 1 ∷ 2 ∷ c ∷ []
 
--- the pair of the first input and the second output
-abbrev pub flow : Class
-flow = pair 0 1
+abbrev pub row : ℕ → ℕ → List ℕ
+row d c = d ∷ c ∷ []
+
+pub listed-counts : (d c : ℕ) → countsOf (listed d c) ≡ row d c
+unfolding countsOf
+listed-counts d c = refl
+
+-- the second of them
+abbrev pub second : Class
+second = flow 1
 
 -- ---- what each count favours
 -- a walk whose first step comes to a settled count changes nothing
@@ -41,104 +51,137 @@ unfolding settleAt
 settle-on i o m p c d e g l = rw (e, settleAt, g, l)
 
 -- a lone odd count is the first of its group, and the whole of it
-alone-settled : (i o : ℕ → ℕ) (c : ℕ) → c % 2 ≡ 1 → i 1 ≡ 1 → o 1 ≡ 1 → settle i o (row 0 c) (upFrom 0 4) (replicate 4 0) ≡ row 0 1
+alone-settled : (i o : ℕ → ℕ) (c : ℕ) → c % 2 ≡ 1 → i 1 ≡ 1 → o 1 ≡ 1 → settle i o (row 0 c) (upFrom 0 2) (replicate 2 0) ≡ row 0 1
 unfolding settleAt
 alone-settled i o c e f g =
-    settle-on i o (row 0 c) 1 (replicate 4 0) (row 0 1) (rw e)
-    (ap (walk 4 o i 1 1) (still 3 i o 1 1 1 (row 0 1) f (omega arith)) ∙ still 3 o i 1 1 1 (row 0 1) g (omega arith))
+    settle-on i o (row 0 c) 1 (replicate 2 0) (row 0 1) (rw e)
+    (ap (walk 2 o i 1 1) (still 1 i o 1 1 1 (row 0 1) f (omega arith)) ∙ still 1 o i 1 1 1 (row 0 1) g (omega arith))
     refl
 
--- two odd counts of a row are a group, and the first of them is first in it
+-- two odd counts are a group, and the first of them is first in it
 full-settled : (i o : ℕ → ℕ) (d c : ℕ) → d % 2 ≡ 1 → c % 2 ≡ 1 → i 0 ≡ 1 → o 0 ≡ 0 → o 1 ≡ 1
-    → settle i o (row d c) (upFrom 0 4) (replicate 4 0) ≡ row 1 2
+    → settle i o (row d c) (upFrom 0 2) (replicate 2 0) ≡ row 1 2
 unfolding settleAt
 full-settled i o d c e f g h k =
     ap (settleAt i o (row d c) 1)
-    (settle-on i o (row d c) 0 (replicate 4 0) (row 1 2) (rw e)
-    (ap (walk 4 o i 0 1) (walk-on 3 i o 0 1 (row 1 0) (rw g) ∙ rw g (still 2 o i 1 1 2 (row 1 2) k (omega arith)))
-    ∙ still 3 o i 0 0 1 (row 1 2) h (omega arith))
+    (settle-on i o (row d c) 0 (replicate 2 0) (row 1 2) (rw e)
+    (ap (walk 2 o i 0 1) (walk-on 1 i o 0 1 (row 1 0) (rw g) ∙ rw g (still 0 o i 1 1 2 (row 1 2) k (omega arith)))
+    ∙ still 1 o i 0 0 1 (row 1 2) h (omega arith))
     refl)
     ∙ rw (f, settleAt)
 
--- an odd count alone in its row favours the first half
-alone-favours : (c : ℕ) → c % 2 ≡ 1 → favours (portOf 2) (row 0 c) ≡ row 0 1
-unfolding favours
-alone-favours c e = alone-settled (partner (portOf 2 inputs) (row 0 c)) (partner (portOf 2 outputs) (row 0 c)) c e (rw e) (rw e)
+-- over the ports of a list of such flows, whatever their cells
+module _ (D C : ℕ) where
+  abbrev pub port : Side → ℕ → ℕ
+  port = portOf (listed D C)
 
--- of two odd counts of a row the first favours the first half and the other the second
-full-favours : (d c : ℕ) → d % 2 ≡ 1 → c % 2 ≡ 1 → favours (portOf 2) (row d c) ≡ row 1 2
-unfolding favours
-full-favours d c e f = full-settled (partner (portOf 2 inputs) (row d c)) (partner (portOf 2 outputs) (row d c)) d c e f (rw (e, f)) (rw (e, f)) (rw (e, f))
+  -- an odd count alone favours the first half
+  alone-favours : (c : ℕ) → c % 2 ≡ 1 → favours port (row 0 c) ≡ row 0 1
+  unfolding favours portOf
+  alone-favours c e = alone-settled (partner (port inputs) (row 0 c)) (partner (port outputs) (row 0 c)) c e (rw e) (rw e)
 
--- ---- the halves of a frame
--- of an odd count alone in its row the first half gets one more
-pub alone-halves : (j x : ℕ) → frameOf 2 (suc j) (row 0 (2 * x + 1)) ≡ frameOf 2 j (row 0 (x + 1)) ++ frameOf 2 j (row 0 x)
-unfolding frameOf
-alone-halves j x =
-    let h : (2 * x + 1) / 2 ≡ x = omega arith in
-    rw (alone-favours (2 * x + 1) (omega arith), h, add-zero x)
+  -- of two odd counts the first favours the first half and the other the second
+  full-favours : (d c : ℕ) → d % 2 ≡ 1 → c % 2 ≡ 1 → favours port (row d c) ≡ row 1 2
+  unfolding favours portOf
+  full-favours d c e f = full-settled (partner (port inputs) (row d c)) (partner (port outputs) (row d c)) d c e f (rw (e, f)) (rw (e, f)) (rw (e, f))
 
--- of two odd counts of a row the first half gets one more of the first, and the second half one more of the other
-pub full-halves : (j y x : ℕ) → frameOf 2 (suc j) (row (2 * y + 1) (2 * x + 1)) ≡ frameOf 2 j (row (y + 1) x) ++ frameOf 2 j (row y (x + 1))
-unfolding frameOf
-full-halves j y x =
-    let g : (2 * y + 1) / 2 ≡ y = omega arith in
-    let h : (2 * x + 1) / 2 ≡ x = omega arith in
-    rw (full-favours (2 * y + 1) (2 * x + 1) (omega arith) (omega arith), g, h, add-zero y, add-zero x)
+  -- the entries of a block with d cells of the one and c of the other
+  abbrev pub laid : ℕ → ℕ → ℕ → List ℕ
+  laid j d c = frameOf 2 port j (row d c)
 
--- ---- the cells of the flow
--- a row of no more cells than slots fits
-row-fits : (n d c : ℕ) → d + c ≤ n → Fits 2 n (row d c)
-unfolding load sumTo
-row-fits n d c h zero l = (omega arith, omega arith)
-row-fits n d c h (suc zero) l = (omega arith, omega arith)
-row-fits n d c h (suc (suc x)) l = absurd (omega arith)
+  pub laid-length : (j d c : ℕ) → length (laid j d c) ≡ 2 ^ j * 2
+  laid-length j d c = frame-length 2 port j (row d c)
 
--- the whole frame has the flow's count
-pub row-whole : (j d c : ℕ) → d + c ≤ 2 ^ j → cells flow 2 (frameOf 2 j (row d c)) ≡ c
-unfolding load
-row-whole j d c h = one-frame 2 j (row d c) refl (row-fits (2 ^ j) d c h) .legal .exact 0 1 (omega arith) (omega arith)
+  -- ---- the halves of a frame
+  -- of an odd count alone the first half gets one more
+  pub alone-halves : (j x : ℕ) → laid (suc j) 0 (2 * x + 1) ≡ laid j 0 (x + 1) ++ laid j 0 x
+  unfolding frameOf
+  alone-halves j x =
+      let h : (2 * x + 1) / 2 ≡ x = omega arith in
+      rw (alone-favours (2 * x + 1) (omega arith), h, add-zero x)
 
--- and so have all its slots
-pub row-cells : (j d c : ℕ) → d + c ≤ 2 ^ j → cells flow 2 (runOf 2 0 (2 ^ j) (frameOf 2 j (row d c))) ≡ c
-row-cells j d c h = ap (cells flow 2) (run-all 2 (2 ^ j) (frameOf 2 j (row d c)) (frame-length 2 j (row d c))) ∙ row-whole j d c h
+  -- of two odd counts the first half gets one more of the first, and the second half one more of the other
+  pub full-halves : (j y x : ℕ) → laid (suc j) (2 * y + 1) (2 * x + 1) ≡ laid j (y + 1) x ++ laid j y (x + 1)
+  unfolding frameOf
+  full-halves j y x =
+      let g : (2 * y + 1) / 2 ≡ y = omega arith in
+      let h : (2 * x + 1) / 2 ≡ x = omega arith in
+      rw (full-favours (2 * y + 1) (2 * x + 1) (omega arith) (omega arith), g, h, add-zero y, add-zero x)
 
--- those before one and those from it on, together, too
-pub row-parts : (j d c s t : ℕ) → d + c ≤ 2 ^ j → s + t ≡ 2 ^ j
-    → cells flow 2 (runOf 2 0 s (frameOf 2 j (row d c))) + cells flow 2 (runOf 2 s t (frameOf 2 j (row d c))) ≡ c
-row-parts j d c s t h e =
-    let f = frameOf 2 j (row d c) in
-    let sum : cells flow 2 (runOf 2 0 (s + t) f) ≡ cells flow 2 (runOf 2 0 s f) + cells flow 2 (runOf 2 s t f) = rw zero-add at (cells-run 2 flow 0 s t f (omega (arith, frame-length 2 j (row d c)))) in
-    omega (arith, ap (λ z. cells flow 2 (runOf 2 0 z f)) e, row-cells j d c h)
+  -- ---- the cells of the flow
+  abbrev pub cellsOf : List ℕ → ℕ
+  cellsOf entries = cells second 2 (listed D C) entries
 
--- a run over the seam of v, of n slots, and w
-pub seam-cells : (n s t r : ℕ) (v w : List ℕ) → length v ≡ n * 2 → s + t ≡ n
-    → cells flow 2 (runOf 2 s (t + r) (v ++ w)) ≡ cells flow 2 (runOf 2 s t v) + cells flow 2 (runOf 2 0 r w)
-seam-cells n s t r v w e h =
-    let z : s + t ≡ n + 0 = omega arith in
-    cells-run 2 flow s t r (v ++ w) (omega (arith, length-append v w))
-    ∙ ap₂ _+_
-    (ap (cells flow 2) (run-first 2 n s t v w e (omega arith)))
-    (ap (λ y. cells flow 2 (runOf 2 y r (v ++ w))) z ∙ ap (cells flow 2) (run-second 2 n 0 r v w e))
+  -- no more cells than slots fit
+  pub row-fits : (n d c : ℕ) → d + c ≤ n → Fits 2 n port (row d c)
+  unfolding loadIn sumTo portOf
+  row-fits n d c h zero l = (omega arith, omega arith)
+  row-fits n d c h (suc zero) l = (omega arith, omega arith)
+  row-fits n d c h (suc (suc x)) l = absurd (omega arith)
+
+  pub row-placed : Placed 2 port 2
+  unfolding portOf
+  row-placed zero h = omega arith
+  row-placed (suc zero) h = omega arith
+  row-placed (suc (suc f)) h = absurd (omega arith)
+
+  -- the whole frame has the flow's count
+  pub row-whole : (j d c : ℕ) → d + c ≤ 2 ^ j → cellsOf (laid j d c) ≡ c
+  row-whole j d c h =
+      let fits = row-fits (2 ^ j) d c h in
+      rules-sound 2 j (listed D C) (row d c) (laid j d c) refl row-placed fits (frame-is 2 port j (row d c) row-placed fits) .0 .exact 1 (omega arith)
+
+  -- and so have all its slots
+  pub row-cells : (j d c : ℕ) → d + c ≤ 2 ^ j → cellsOf (runOf 2 0 (2 ^ j) (laid j d c)) ≡ c
+  row-cells j d c h = ap cellsOf (run-all 2 (2 ^ j) (laid j d c) (laid-length j d c)) ∙ row-whole j d c h
+
+  -- those before one and those from it on, together, too
+  pub row-parts : (j d c s t : ℕ) → d + c ≤ 2 ^ j → s + t ≡ 2 ^ j → cellsOf (runOf 2 0 s (laid j d c)) + cellsOf (runOf 2 s t (laid j d c)) ≡ c
+  row-parts j d c s t h e =
+      let f = laid j d c in
+      let sum : cellsOf (runOf 2 0 (s + t) f) ≡ cellsOf (runOf 2 0 s f) + cellsOf (runOf 2 s t f) = rw zero-add at (cells-run 2 (listed D C) second 0 s t f (omega (arith, laid-length j d c))) in
+      omega (arith, ap (λ z. cellsOf (runOf 2 0 z f)) e, row-cells j d c h)
+
+  -- a run over the seam of v, of n slots, and w
+  pub seam-cells : (n s t r : ℕ) (v w : List ℕ) → length v ≡ n * 2 → s + t ≡ n
+      → cellsOf (runOf 2 s (t + r) (v ++ w)) ≡ cellsOf (runOf 2 s t v) + cellsOf (runOf 2 0 r w)
+  seam-cells n s t r v w e h =
+      let z : s + t ≡ n + 0 = omega arith in
+      cells-run 2 (listed D C) second s t r (v ++ w) (omega (arith, length-append v w))
+      ∙ ap₂ _+_
+      (ap cellsOf (run-first 2 n s t v w e (omega arith)))
+      (ap (λ y. cellsOf (runOf 2 y r (v ++ w))) z ∙ ap cellsOf (run-second 2 n 0 r v w e))
 
 -- ---- Build
 -- a call of two ports and 2 ^ k slots, carried once
 abbrev pub once : ℕ → List ℕ → Call
-once k matrix = record { ports = 2; slots = 2 ^ k; matrix = matrix; times = 1 }
+once k list = record { ports = 2; slots = 2 ^ k; list = list; times = 1 }
 
--- the two frames of two such calls
-abbrev pub framed : ℕ → List ℕ → List ℕ → List Carried
-framed k a b = record { call = once k a; bytes = frameOf 2 k a } ∷ record { call = once k b; bytes = frameOf 2 k b } ∷ []
+-- what it puts on the wire
+abbrev pub framed : ℕ → ℕ → ℕ → Carried
+framed k d c = record { call = once k (listed d c); entries = laid d c k d c }
 
--- Build accepts a row of no more cells than slots
-pub row-accepted : (k d c : ℕ) (buffer : List ℕ) → k ≤ 10 → d + c ≤ 2 ^ k → length buffer ≡ 2 ^ k * 2 → buildAccepts 2 (2 ^ k) (row d c) buffer ≡ true
+-- Build accepts no more cells than slots
+pub row-accepted : (k d c : ℕ) (buffer : List ℕ) → k ≤ 10 → d + c ≤ 2 ^ k → length buffer ≡ 2 ^ k * 2 → buildAccepts 2 (2 ^ k) (listed d c) buffer ≡ true
 row-accepted k d c buffer h l e =
-    accepts-yes 2 (2 ^ k) (row d c) buffer
-    (record { well = record { rack = (omega arith, omega arith); power = record { k = k; most = h; is = refl }; square = refl }; size = e; fits = row-fits (2 ^ k) d c l })
+    accepts-yes 2 (2 ^ k) (listed d c) buffer
+    (record {
+      well = record { rack = (omega arith, omega arith); power = record { k = k; most = h; is = refl }; whole = refl; few = omega arith; ported = ported };
+      size = e;
+      fits = rw (listed-counts d c) (row-fits d c (2 ^ k) d c l);
+    })
+  where
+    ported : Ported 2 (listed d c)
+    ported inputs zero h = (omega arith, omega arith)
+    ported inputs (suc zero) h = (omega arith, omega arith)
+    ported inputs (suc (suc f)) h = absurd (omega arith)
+    ported outputs zero h = (omega arith, omega arith)
+    ported outputs (suc zero) h = (omega arith, omega arith)
+    ported outputs (suc (suc f)) h = absurd (omega arith)
 
 -- so two such calls put their two frames on the wire
 pub rows-framed : (k d c d′ c′ : ℕ) (buffer : List ℕ) → k ≤ 10 → d + c ≤ 2 ^ k → d′ + c′ ≤ 2 ^ k → length buffer ≡ 2 ^ k * 2
-    → chain none buffer (once k (row d c) ∷ once k (row d′ c′) ∷ []) ≡ framed k (row d c) (row d′ c′)
+    → chain none buffer (once k (listed d c) ∷ once k (listed d′ c′) ∷ []) ≡ framed k d c ∷ framed k d′ c′ ∷ []
 unfolding chain
 rows-framed k d c d′ c′ buffer h l l′ e =
-    rw (row-accepted k d c buffer h l e, levels-of k h, row-accepted k d′ c′ (frameOf 2 k (row d c)) h l′ (frame-length 2 k (row d c)))
+    rw (row-accepted k d c buffer h l e, levels-of k h, listed-counts d c, row-accepted k d′ c′ (laid d c k d c) h l′ (laid-length d c k d c), listed-counts d′ c′)

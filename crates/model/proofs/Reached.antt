@@ -1,22 +1,24 @@
--- The bound of accuracy is reached at every k: two frames of 2 ^ k slots with one load of a pair, and a run over their seam that is 2 × deviation k
--- from its share. In the first frame the pair is alone and leans to the first half of every block that the run cuts; in the second it comes
--- behind another that fills the row, and leans to the second half.
+-- The bound of accuracy is reached at every k: two frames of 2 ^ k slots with one load of a flow, and a run over their seam that is 2 × deviation k
+-- from its share. In the first frame the flow is alone and leans to the first half of every block that the run cuts; in the second it comes
+-- behind another that fills the input, and leans to the second half.
 use Prim.Native.Nat.{ℕ, suc, zero, _+_, _*_, _-_, _^_, _≤_, _<_}
 use mathlib.Core.Path.{_≡_, refl, ap, ap₂, _∙_}
 use mathlib.Core.List.{List, [], _∷_, _++_}
 use native.Mathlib.Omega.{arith}
-use lib.ListN.{length, replicate, length-replicate}
+use lib.ListN.{length, getD, replicate, length-replicate}
 use Rattle.model.specs.Words.{sumTo, Near, Every}
-use Rattle.model.specs.Flows.{Class, Of, load}
+use Rattle.model.specs.Flows.{portOf, countsOf, Class, Of, load}
 use Rattle.model.specs.Frames.{cells, runOf}
 use Rattle.model.specs.Schedule.{slotOf, frameOf}
-use Rattle.model.specs.Wire.{Call, Carried, none, chain, wire, inside, share, Shape, deviation}
+use Rattle.model.specs.Wire.{Call, Carried, none, chain, cellsIn, inside, share, Shape, deviation}
 use Rattle.model.proofs.Cells.{run-first, run-second}
-use Rattle.model.proofs.OneFrame.{double, frame-length}
-use Rattle.model.proofs.OneInput.{row, flow, alone-halves, full-halves, row-cells, row-parts, seam-cells, once, framed, rows-framed}
+use Rattle.model.proofs.OneFrame.{double}
+use Rattle.model.proofs.Halves.{load-flow}
+use Rattle.model.proofs.Demand3.{in-more, in-first, in-rest}
+use Rattle.model.proofs.OneInput.{listed, listed-counts, second, laid, laid-length, cellsOf, alone-halves, full-halves, row-cells, row-parts, seam-cells, once, framed, rows-framed}
 
 -- ---- the numbers
--- the load of the pair at k: 0, 1, 1, 5, 5, 21, 21, 85, ..
+-- the load of the flow at k: 0, 1, 1, 5, 5, 21, 21, 85, ..
 unfoldable pub count : ℕ → ℕ
 count zero = 0
 count (suc j) = 2 ^ suc j - suc (2 * count j)
@@ -26,7 +28,7 @@ unfoldable pub edge : ℕ → ℕ
 edge zero = 0
 edge (suc j) = 2 ^ j - edge j
 
--- the pair does not fill the frame
+-- the flow does not fill the frame
 pub count-less : (j : ℕ) → count j < 2 ^ j
 unfolding count
 count-less zero = omega arith
@@ -88,153 +90,174 @@ module _ (a : ℕ → ℕ → ℕ → ℕ) (l : Leans a) where
         omega (arith, ap (λ y. y * a (suc j) c e) (double j), ap (λ y. 2 ^ j * y) half, ap (λ y. y * e) c-is, ap (λ y. (2 * x + 1) * y) e-is, deviation-more j)
 
 -- ---- the two frames
--- the pair alone, and behind another that fills the row
-abbrev pub alone : ℕ → List ℕ
-alone c = row 0 c
-
-abbrev pub behind : ℕ → ℕ → List ℕ
-behind j c = row (2 ^ j - c) c
+-- the cells of the other flow, where it is alone, and where it comes behind one that fills the input
+abbrev pub others : ℕ → ℕ → ℕ
+others j c = 2 ^ j - c
 
 -- its cells in the first t slots of the one and in the last t slots of the other
-abbrev pub first-of : ℕ → ℕ → ℕ → ℕ
-first-of j c t = cells flow 2 (runOf 2 0 t (frameOf 2 j (alone c)))
+abbrev pub first-of : ℕ → ℕ → ℕ → ℕ → ℕ → ℕ
+first-of D C j c t = cellsOf D C (runOf 2 0 t (laid D C j 0 c))
 
-abbrev pub last-of : ℕ → ℕ → ℕ → ℕ
-last-of j c t = cells flow 2 (runOf 2 (2 ^ j - t) t (frameOf 2 j (behind j c)))
+abbrev pub last-of : ℕ → ℕ → ℕ → ℕ → ℕ → ℕ
+last-of D C j c t = cellsOf D C (runOf 2 (2 ^ j - t) t (laid D C j (others j c) c))
 
--- the pair alone leans to the first slots
-pub first-leans : Leans first-of
-unfolding cells runOf sumTo slotOf frameOf
-first-leans = record { idle = refl; busy = refl; near = near; far = far }
-  where
-    near : (j x t : ℕ) → x < 2 ^ j → t ≤ 2 ^ j → first-of (suc j) (2 * x + 1) t ≡ first-of j (x + 1) t
-    near j x t h l =
-        ap (λ b. cells flow 2 (runOf 2 0 t b)) (alone-halves j x)
-        ∙ ap (cells flow 2) (run-first 2 (2 ^ j) 0 t (frameOf 2 j (row 0 (x + 1))) (frameOf 2 j (row 0 x)) (frame-length 2 j (row 0 (x + 1))) (omega arith))
+module _ (D C : ℕ) where
+  -- the flow alone leans to the first slots
+  pub first-leans : Leans (first-of D C)
+  unfolding cells runOf sumTo portOf slotOf frameOf
+  first-leans = record { idle = refl; busy = refl; near = near; far = far }
+    where
+      near : (j x t : ℕ) → x < 2 ^ j → t ≤ 2 ^ j → first-of D C (suc j) (2 * x + 1) t ≡ first-of D C j (x + 1) t
+      near j x t h l =
+          ap (λ b. cellsOf D C (runOf 2 0 t b)) (alone-halves D C j x)
+          ∙ ap (cellsOf D C) (run-first 2 (2 ^ j) 0 t (laid D C j 0 (x + 1)) (laid D C j 0 x) (laid-length D C j 0 (x + 1)) (omega arith))
 
-    far : (j x t : ℕ) → x < 2 ^ j → t ≤ 2 ^ j → first-of (suc j) (2 * x + 1) (2 ^ j + t) ≡ x + 1 + first-of j x t
-    far j x t h l =
-        ap (λ b. cells flow 2 (runOf 2 0 (2 ^ j + t) b)) (alone-halves j x)
-        ∙ seam-cells (2 ^ j) 0 (2 ^ j) t (frameOf 2 j (row 0 (x + 1))) (frameOf 2 j (row 0 x)) (frame-length 2 j (row 0 (x + 1))) (omega arith)
-        ∙ ap (λ y. y + first-of j x t) (row-cells j 0 (x + 1) (omega arith))
+      far : (j x t : ℕ) → x < 2 ^ j → t ≤ 2 ^ j → first-of D C (suc j) (2 * x + 1) (2 ^ j + t) ≡ x + 1 + first-of D C j x t
+      far j x t h l =
+          ap (λ b. cellsOf D C (runOf 2 0 (2 ^ j + t) b)) (alone-halves D C j x)
+          ∙ seam-cells D C (2 ^ j) 0 (2 ^ j) t (laid D C j 0 (x + 1)) (laid D C j 0 x) (laid-length D C j 0 (x + 1)) (omega arith)
+          ∙ ap (λ y. y + first-of D C j x t) (row-cells D C j 0 (x + 1) (omega arith))
 
--- behind another, the second half gets the odd cell, and both halves of the row are full
-behind-halves : (j x : ℕ) → x < 2 ^ j → frameOf 2 (suc j) (behind (suc j) (2 * x + 1)) ≡ frameOf 2 j (behind j x) ++ frameOf 2 j (behind j (x + 1))
-behind-halves j x h =
-    let y = 2 ^ j - (x + 1) in
-    let e : 2 ^ suc j - (2 * x + 1) ≡ 2 * y + 1 = omega arith in
-    let f : y + 1 ≡ 2 ^ j - x = omega arith in
-    ap (λ d. frameOf 2 (suc j) (row d (2 * x + 1))) e ∙ full-halves j y x ∙ ap (λ d. frameOf 2 j (row d x) ++ frameOf 2 j (row y (x + 1))) f
+  -- behind another, the second half gets the odd cell, and the input is full in both halves
+  behind-halves : (j x : ℕ) → x < 2 ^ j
+      → laid D C (suc j) (others (suc j) (2 * x + 1)) (2 * x + 1) ≡ laid D C j (others j x) x ++ laid D C j (others j (x + 1)) (x + 1)
+  behind-halves j x h =
+      let y = 2 ^ j - (x + 1) in
+      let e : 2 ^ suc j - (2 * x + 1) ≡ 2 * y + 1 = omega arith in
+      let f : y + 1 ≡ 2 ^ j - x = omega arith in
+      ap (λ d. laid D C (suc j) d (2 * x + 1)) e ∙ full-halves D C j y x ∙ ap (λ d. laid D C j d x ++ laid D C j y (x + 1)) f
 
--- so it leans to the last slots
-pub last-leans : Leans last-of
-unfolding cells runOf sumTo slotOf frameOf
-last-leans = record { idle = refl; busy = refl; near = near; far = far }
-  where
-    near : (j x t : ℕ) → x < 2 ^ j → t ≤ 2 ^ j → last-of (suc j) (2 * x + 1) t ≡ last-of j (x + 1) t
-    near j x t h l =
-        let s : 2 ^ suc j - t ≡ 2 ^ j + (2 ^ j - t) = omega arith in
-        ap₂ (λ y b. cells flow 2 (runOf 2 y t b)) s (behind-halves j x h)
-        ∙ ap (cells flow 2) (run-second 2 (2 ^ j) (2 ^ j - t) t (frameOf 2 j (behind j x)) (frameOf 2 j (behind j (x + 1))) (frame-length 2 j (behind j x)))
+  -- so it leans to the last slots
+  pub last-leans : Leans (last-of D C)
+  unfolding cells runOf sumTo portOf slotOf frameOf
+  last-leans = record { idle = refl; busy = refl; near = near; far = far }
+    where
+      near : (j x t : ℕ) → x < 2 ^ j → t ≤ 2 ^ j → last-of D C (suc j) (2 * x + 1) t ≡ last-of D C j (x + 1) t
+      near j x t h l =
+          let s : 2 ^ suc j - t ≡ 2 ^ j + (2 ^ j - t) = omega arith in
+          ap₂ (λ y b. cellsOf D C (runOf 2 y t b)) s (behind-halves j x h)
+          ∙ ap (cellsOf D C) (run-second 2 (2 ^ j) (2 ^ j - t) t (laid D C j (others j x) x) (laid D C j (others j (x + 1)) (x + 1)) (laid-length D C j (others j x) x))
 
-    far : (j x t : ℕ) → x < 2 ^ j → t ≤ 2 ^ j → last-of (suc j) (2 * x + 1) (2 ^ j + t) ≡ x + 1 + last-of j x t
-    far j x t h l =
-        let s : 2 ^ suc j - (2 ^ j + t) ≡ 2 ^ j - t = omega arith in
-        let r : 2 ^ j + t ≡ t + 2 ^ j = omega arith in
-        ap (λ b. cells flow 2 (runOf 2 (2 ^ suc j - (2 ^ j + t)) (2 ^ j + t) b)) (behind-halves j x h)
-        ∙ ap₂ (λ y z. cells flow 2 (runOf 2 y z (frameOf 2 j (behind j x) ++ frameOf 2 j (behind j (x + 1))))) s r
-        ∙ seam-cells (2 ^ j) (2 ^ j - t) t (2 ^ j) (frameOf 2 j (behind j x)) (frameOf 2 j (behind j (x + 1))) (frame-length 2 j (behind j x)) (omega arith)
-        ∙ omega (arith, row-cells j (2 ^ j - (x + 1)) (x + 1) (omega arith))
+      far : (j x t : ℕ) → x < 2 ^ j → t ≤ 2 ^ j → last-of D C (suc j) (2 * x + 1) (2 ^ j + t) ≡ x + 1 + last-of D C j x t
+      far j x t h l =
+          let s : 2 ^ suc j - (2 ^ j + t) ≡ 2 ^ j - t = omega arith in
+          let r : 2 ^ j + t ≡ t + 2 ^ j = omega arith in
+          ap (λ b. cellsOf D C (runOf 2 (2 ^ suc j - (2 ^ j + t)) (2 ^ j + t) b)) (behind-halves j x h)
+          ∙ ap₂ (λ y z. cellsOf D C (runOf 2 y z (laid D C j (others j x) x ++ laid D C j (others j (x + 1)) (x + 1)))) s r
+          ∙ seam-cells D C (2 ^ j) (2 ^ j - t) t (2 ^ j) (laid D C j (others j x) x) (laid D C j (others j (x + 1)) (x + 1)) (laid-length D C j (others j x) x) (omega arith)
+          ∙ omega (arith, row-cells D C j (2 ^ j - (x + 1)) (x + 1) (omega arith))
 
 -- ---- runs over the seam
-module _ (k m s t r : ℕ) (a b : List ℕ) (la : load flow 2 a ≡ m) (lb : load flow 2 b ≡ m) (e : s + t ≡ 2 ^ k) (h : r ≤ 2 ^ k) where
+-- two frames, end to end, with m cells of the flow in each
+abbrev pub seam : ℕ → ℕ → ℕ → ℕ → List Carried
+seam k m d d′ = framed k d m ∷ framed k d′ m ∷ []
+
+pub listed-load : (d c : ℕ) → load second (listed d c) ≡ c
+listed-load d c = load-flow 1 (portOf (listed d c)) (countsOf (listed d c)) ∙ ap (λ (l : List ℕ). getD l 1 0) (listed-counts d c)
+
+-- the frames have one shape
+pub seam-shape : (k m d d′ : ℕ) → Every (Shape 2 (2 ^ k)) (seam k m d d′)
+seam-shape k m d d′ = (record { ports-are = refl; slots-are = refl }, (record { ports-are = refl; slots-are = refl }, tt))
+
+module _ (k m s t r d d′ : ℕ) (e : s + t ≡ 2 ^ k) (h : r ≤ 2 ^ k) where
   -- the share is the load times the slots on each side
-  over-share : share flow 0 (framed k a b) s (t + r) ≡ m * t + m * r
+  over-share : share second 0 (seam k m d d′) s (t + r) ≡ m * t + m * r
   unfolding share
   over-share =
       let n = 2 ^ k in
       let x : inside 0 (0 + n) s (t + r) ≡ t = omega arith in
       let y : inside (0 + n) (0 + n + n) s (t + r) ≡ r = omega arith in
-      rw (la, lb) (omega (arith, ap (λ z. m * z) x, ap (λ z. m * z) y))
+      rw (listed-load d m, listed-load d′ m) (omega (arith, ap (λ z. m * z) x, ap (λ z. m * z) y))
 
   -- the cells are those of the two sides
-  pub over-cells : cells flow 2 (runOf 2 s (t + r) (wire (framed k a b)))
-      ≡ cells flow 2 (runOf 2 s t (frameOf 2 k a)) + cells flow 2 (runOf 2 0 r (frameOf 2 k b))
-  unfolding wire
+  pub over-cells : cellsIn second (seam k m d d′) s (t + r) ≡ cellsOf d m (runOf 2 s t (laid d m k d m)) + cellsOf d′ m (runOf 2 0 r (laid d′ m k d′ m))
   over-cells =
-      seam-cells (2 ^ k) s t r (frameOf 2 k a) (frameOf 2 k b ++ []) (frame-length 2 k a) e
-      ∙ ap (λ z. cells flow 2 (runOf 2 s t (frameOf 2 k a)) + cells flow 2 z) (run-first 2 (2 ^ k) 0 r (frameOf 2 k b) [] (frame-length 2 k b) (omega arith))
+      let n = 2 ^ k in
+      let shape = seam-shape k m d d′ in
+      let at : s + t ≡ n + 0 = omega arith in
+      in-more second (seam k m d d′) s t r
+      ∙ ap₂ _+_
+      (in-first second 2 n (framed k d m) (framed k d′ m ∷ []) (shape .0) (laid-length d m k d m) s t (omega arith))
+      (ap (λ z. cellsIn second (seam k m d d′) z r) at
+      ∙ in-rest second 2 n (framed k d m) (framed k d′ m ∷ []) (shape .0) 0 r
+      ∙ in-first second 2 n (framed k d′ m) [] (shape .1 .0) (laid-length d′ m k d′ m) 0 r (omega arith))
 
--- The frames have two ports, 2 ^ k slots and one load of the pair, and the run is inside them.
+-- The frames have two ports, 2 ^ k slots and one load of the flow, and the run is inside them.
 pub record Steady (k start len : ℕ) (frames : List Carried) : Type 0 where
   pub shape : Every (Shape 2 (2 ^ k)) frames
-  pub same : Every (λ f. load flow 2 (f .call .matrix) ≡ count k) frames
+  pub same : Every (λ f. load second (f .call .list) ≡ count k) frames
   pub fits : start + len ≤ length frames * 2 ^ k
 
 -- and the run has 2 × deviation k less than its share, both times 2 ^ k
 abbrev pub Short : ℕ → ℕ → ℕ → List Carried → Type 0
 Short k start len frames =
-    Steady k start len frames × (share flow 0 frames start len ≡ 2 ^ k * cells flow 2 (runOf 2 start len (wire frames)) + 2 * deviation k)
+    Steady k start len frames × (share second 0 frames start len ≡ 2 ^ k * cellsIn second frames start len + 2 * deviation k)
 
 -- or as much more
 abbrev pub Long : ℕ → ℕ → ℕ → List Carried → Type 0
 Long k start len frames =
-    Steady k start len frames × (2 ^ k * cells flow 2 (runOf 2 start len (wire frames)) ≡ share flow 0 frames start len + 2 * deviation k)
+    Steady k start len frames × (2 ^ k * cellsIn second frames start len ≡ share second 0 frames start len + 2 * deviation k)
 
--- the two frames have one shape
-pub framed-shape : (k : ℕ) (a b : List ℕ) → Every (Shape 2 (2 ^ k)) (framed k a b)
-framed-shape k a b = (record { ports-are = refl; slots-are = refl }, (record { ports-are = refl; slots-are = refl }, tt))
+seam-same : (k d d′ : ℕ) → Every (λ f. load second (f .call .list) ≡ count k) (seam k (count k) d d′)
+seam-same k d d′ = (listed-load d (count k), (listed-load d′ (count k), tt))
 
 -- the run that is left of the first frame after its edge, and of the second before its edge
-pub frames-short : (k : ℕ) → let rest = 2 ^ k - edge k in Short k (edge k) (rest + rest) (framed k (alone (count k)) (behind k (count k)))
-unfolding load
+pub frames-short : (k : ℕ) → let rest = 2 ^ k - edge k in Short k (edge k) (rest + rest) (seam k (count k) 0 (others k (count k)))
 frames-short k =
     let n = 2 ^ k in
     let m = count k in
+    let o = n - m in
     let e = edge k in
     let u = n - e in
     let small = count-less k in
     let most = edge-most k in
-    let s = over-share k m e u u (alone m) (behind k m) refl refl (omega arith) (omega arith) in
-    let r = over-cells k m e u u (alone m) (behind k m) refl refl (omega arith) (omega arith) in
-    let x = row-parts k 0 m e u (omega arith) (omega arith) in
-    let y = row-parts k (n - m) m u e (omega arith) (omega arith) in
-    let p = peak first-of first-leans k m e refl refl in
-    let q = peak last-of last-leans k m e refl refl in
+    let s = over-share k m e u u 0 o (omega arith) (omega arith) in
+    let r = over-cells k m e u u 0 o (omega arith) (omega arith) in
+    let x = row-parts 0 m k 0 m e u (omega arith) (omega arith) in
+    let y = row-parts o m k o m u e (omega arith) (omega arith) in
+    let p = peak (first-of 0 m) (first-leans 0 m) k m e refl refl in
+    let q = peak (last-of o m) (last-leans o m) k m e refl refl in
     let f : e + u ≡ n = omega arith in (
-      record { shape = framed-shape k (alone m) (behind k m); same = (refl, (refl, tt)); fits = omega arith },
+      record { shape = seam-shape k m 0 o; same = seam-same k 0 o; fits = omega arith },
       omega (arith, ap (λ z. n * z) r, ap (λ z. n * z) x, ap (λ z. n * z) y, ap (λ z. z * m) f),
     )
 
 -- the run from the edge of the one to the edge of the other
-pub frames-long : (k : ℕ) → Long k (2 ^ k - edge k) (edge k + edge k) (framed k (behind k (count k)) (alone (count k)))
-unfolding load
+pub frames-long : (k : ℕ) → Long k (2 ^ k - edge k) (edge k + edge k) (seam k (count k) (others k (count k)) 0)
 frames-long k =
     let n = 2 ^ k in
     let m = count k in
+    let o = n - m in
     let e = edge k in
     let u = n - e in
     let small = count-less k in
     let most = edge-most k in
-    let s = over-share k m u e e (behind k m) (alone m) refl refl (omega arith) (omega arith) in
-    let r = over-cells k m u e e (behind k m) (alone m) refl refl (omega arith) (omega arith) in
-    let p = peak first-of first-leans k m e refl refl in
-    let q = peak last-of last-leans k m e refl refl in (
-      record { shape = framed-shape k (behind k m) (alone m); same = (refl, (refl, tt)); fits = omega arith },
+    let s = over-share k m u e e o 0 (omega arith) (omega arith) in
+    let r = over-cells k m u e e o 0 (omega arith) (omega arith) in
+    let p = peak (first-of 0 m) (first-leans 0 m) k m e refl refl in
+    let q = peak (last-of o m) (last-leans o m) k m e refl refl in (
+      record { shape = seam-shape k m o 0; same = seam-same k o 0; fits = omega arith },
       omega (arith, ap (λ z. n * z) r),
     )
 
 -- ---- Build
+-- the calls of the one and of the other
+abbrev pub aloneCall : ℕ → ℕ → Call
+aloneCall k m = once k (listed 0 m)
+
+abbrev pub behindCall : ℕ → ℕ → Call
+behindCall k m = once k (listed (others k m) m)
+
 -- The bound is reached: two calls of Build, both accepted and carried once, and a run over their seam that is short by all of it.
 pub reached : (k : ℕ) → k ≤ 10 → (buffer : List ℕ) → length buffer ≡ 2 ^ k * 2
-    → let rest = 2 ^ k - edge k in Short k (edge k) (rest + rest) (chain none buffer (once k (alone (count k)) ∷ once k (behind k (count k)) ∷ []))
+    → let rest = 2 ^ k - edge k in Short k (edge k) (rest + rest) (chain none buffer (aloneCall k (count k) ∷ behindCall k (count k) ∷ []))
 reached k h buffer e =
     let small = count-less k in
     rw (rows-framed k 0 (count k) (2 ^ k - count k) (count k) buffer h (omega arith) (omega arith) e) (frames-short k)
 
 -- The other way too: the same two calls, the second one first.
 pub reached-above : (k : ℕ) → k ≤ 10 → (buffer : List ℕ) → length buffer ≡ 2 ^ k * 2
-    → Long k (2 ^ k - edge k) (edge k + edge k) (chain none buffer (once k (behind k (count k)) ∷ once k (alone (count k)) ∷ []))
+    → Long k (2 ^ k - edge k) (edge k + edge k) (chain none buffer (behindCall k (count k) ∷ aloneCall k (count k) ∷ []))
 reached-above k h buffer e =
     let small = count-less k in
     rw (rows-framed k (2 ^ k - count k) (count k) 0 (count k) buffer h (omega arith) (omega arith) e) (frames-long k)
@@ -243,12 +266,12 @@ reached-above k h buffer e =
 pub none-sharper : (k bound : ℕ) → k ≤ 10
     → ((buffer : List ℕ) (calls : List Call) → let frames = chain none buffer calls in Every (Shape 2 (2 ^ k)) frames
     → (start len : ℕ) → start + len ≤ length frames * 2 ^ k → (c : Class) → Of 2 c
-    → Near bound (2 ^ k * cells c 2 (runOf 2 start len (wire frames))) (share c 0 frames start len))
+    → Near bound (2 ^ k * cellsIn c frames start len) (share c 0 frames start len))
     → 2 * deviation k ≤ bound
 none-sharper k bound h all =
     let buffer : List ℕ = replicate (2 ^ k * 2) 0 in
     let rest = 2 ^ k - edge k in
     let r = reached k h buffer (length-replicate (2 ^ k * 2) 0) in
-    let calls : List Call = once k (alone (count k)) ∷ once k (behind k (count k)) ∷ [] in
-    let b = all buffer calls (r .0 .shape) (edge k) (rest + rest) (r .0 .fits) flow (omega arith, omega arith) in
+    let calls : List Call = aloneCall k (count k) ∷ behindCall k (count k) ∷ [] in
+    let b = all buffer calls (r .0 .shape) (edge k) (rest + rest) (r .0 .fits) second tt in
     omega (arith, r .1, b .1)
