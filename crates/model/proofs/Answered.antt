@@ -90,7 +90,6 @@ module _ (ports slots : ℕ) (entries : List ℕ) (slot : ℕ) where
   slot-clear : {s : ℕ} → SlotFound ports slots entries slot s → (cs : List Check) (asked : List ℕ) → report (slotChecks cs) asked ≡ report cs asked
   slot-clear f cs asked = let m = slot-met f in rw (m .0, m .1, m .2, m .3)
 
-
 -- one of them holds, or none
 byRack : {P : Type 0} (ports slots : ℕ) → ((n : ℕ) → RackRefused ports slots n → P) → (Within 1 16 ports → Power slots → P) → P
 byRack ports slots off on =

@@ -8,36 +8,36 @@ use native.Mathlib.Omega.{arith}
 use lib.IntN.{ℤ, pos, negsuc}
 use lib.ListN.{replicate}
 use Rattle.model.specs.Words.{Near, sumTo}
-use Rattle.model.specs.Flows.{pair, load}
+use Rattle.model.specs.Flows.{portOf, countsOf, flow, loadIn}
 use Rattle.model.specs.Frames.{cells, runOf}
 use Rattle.model.specs.Refusals.{admitted}
 use Rattle.model.specs.Schedule.{walk, settleAt, favours, slotOf, frameOf}
 use Rattle.model.specs.Work.{work}
 use Rattle.model.specs.Build.{buildChecks, built, left}
-use Rattle.model.specs.Inspect.{tooLarge, twiceIn, usedTwice, wrongCount, unbalanced, unbalancedNumber, unbalancedAt, inspected}
+use Rattle.model.specs.Inspect.{isWrong, twiceIn, usedTwice, wrongCount, unbalanced, unbalancedNumber, unbalancedAt, inspected}
 use Rattle.model.specs.Service.{viewChecks, viewNumber, viewStart, viewSize, viewed, repeated, lead, Reply, countChecks, service}
-use Rattle.model.specs.Wire.{Carried, none, chain, wire, share, Accurate}
+use Rattle.model.specs.Wire.{Carried, none, chain, cellsAt, cellsIn, share, Accurate}
 use Rattle.model.specs.Sheet.{text, digits, portsLine, slotsLine, pairLine, lines, numbersFrom, readPairs, loads, readSheet, printSlots, response}
 use Rattle.model.specs.declared.Who.{Who}
-use Rattle.model.specs.declared.Who.the-variants.{Pair, Input, Output}
+use Rattle.model.specs.declared.Who.the-variants.{Flow, Input, Output}
 
 -- What the definitions give, and what document 01 says.
 pub record Case : Type 0 where
   pub gives : List ℕ
   pub says : List ℕ
 
--- A load that is accepted, the odd counts settled, and the frame that stands in the buffer after.
+-- A list that is accepted, the odd counts settled, and the frame that stands in the buffer after.
 frame : ℕ → ℕ → List ℕ → ℕ → List ℕ → Case
-frame ports slots matrix settled bytes =
+frame ports slots list settled entries =
     let buffer : List ℕ = replicate (slots * ports) 77 in
-    record { gives = built ports slots matrix buffer ++ left ports slots matrix buffer; says = 0 ∷ settled ∷ bytes }
+    record { gives = built ports slots list buffer ++ left ports slots list buffer; says = 0 ∷ settled ∷ entries }
 
--- A load that is refused, by Admit and by Build, and the buffer as it was.
+-- A list that is refused, by Admit and by Build, and the buffer as it was.
 turnedAway : ℕ → ℕ → List ℕ → List ℕ → Case
-turnedAway ports slots matrix refusal =
+turnedAway ports slots list refusal =
     let buffer : List ℕ = replicate (slots * ports) 77 in
     record {
-      gives = admitted ports slots matrix ++ (built ports slots matrix buffer ++ left ports slots matrix buffer);
+      gives = admitted ports slots list ++ (built ports slots list buffer ++ left ports slots list buffer);
       says = refusal ++ (refusal ++ buffer);
     }
 
@@ -56,67 +56,73 @@ counting reply numbers ahead behind =
 
 -- one cell from each port to its own number
 abbrev own : List ℕ
-own = 1 ∷ 0 ∷ 0 ∷ 0 ∷ 0 ∷ 1 ∷ 0 ∷ 0 ∷ 0 ∷ 0 ∷ 1 ∷ 0 ∷ 0 ∷ 0 ∷ 0 ∷ 1 ∷ []
+own = 1 ∷ 1 ∷ 1 ∷ 2 ∷ 2 ∷ 1 ∷ 3 ∷ 3 ∷ 1 ∷ 4 ∷ 4 ∷ 1 ∷ []
 
--- one of them in each slot: (1 1), (3 3), (2 2), (4 4)
+-- one of them in each slot: flow 1, 3, 2, 4
 abbrev ownFrame : List ℕ
 ownFrame = 1 ∷ 0 ∷ 0 ∷ 0 ∷ 0 ∷ 0 ∷ 3 ∷ 0 ∷ 0 ∷ 2 ∷ 0 ∷ 0 ∷ 0 ∷ 0 ∷ 0 ∷ 4 ∷ []
 
+-- the flows of the sheet, in the order of its lines
 abbrev table7 : List ℕ
-table7 = 2 ∷ 2 ∷ 0 ∷ 0 ∷ 0 ∷ 0 ∷ 0 ∷ 0 ∷ 0 ∷ 0 ∷ 0 ∷ 0 ∷ 1 ∷ 1 ∷ 0 ∷ 2 ∷ []
+table7 = 1 ∷ 1 ∷ 2 ∷ 1 ∷ 2 ∷ 2 ∷ 4 ∷ 1 ∷ 1 ∷ 4 ∷ 2 ∷ 1 ∷ 4 ∷ 4 ∷ 2 ∷ []
 
 abbrev table7Frame : List ℕ
-table7Frame = 1 ∷ 0 ∷ 0 ∷ 4 ∷ 2 ∷ 0 ∷ 0 ∷ 1 ∷ 1 ∷ 0 ∷ 0 ∷ 2 ∷ 2 ∷ 0 ∷ 0 ∷ 4 ∷ []
+table7Frame = 1 ∷ 0 ∷ 0 ∷ 5 ∷ 2 ∷ 0 ∷ 0 ∷ 3 ∷ 1 ∷ 0 ∷ 0 ∷ 4 ∷ 2 ∷ 0 ∷ 0 ∷ 5 ∷ []
 
--- the frame of four loads of 1
+-- four loads of 1, and their frame
+abbrev four : List ℕ
+four = 1 ∷ 1 ∷ 1 ∷ 1 ∷ 2 ∷ 1 ∷ 2 ∷ 1 ∷ 1 ∷ 2 ∷ 2 ∷ 1 ∷ []
+
 abbrev crossed : List ℕ
-crossed = 1 ∷ 2 ∷ 2 ∷ 1 ∷ []
+crossed = 1 ∷ 4 ∷ 2 ∷ 3 ∷ []
 
 -- the sheet's frame, carried twice
 abbrev twice : List Carried
-twice = chain none (replicate 16 77) (record { ports = 4; slots = 4; matrix = table7; times = 2 } ∷ [])
+twice = chain none (replicate 16 77) (record { ports = 4; slots = 4; list = table7; times = 2 } ∷ [])
 
 sheet : List ℕ
 sheet =
     text "(ports 4)\n(slots 4)\n(pair (in 1) (out 1) (cells 2))\n(pair (in 1) (out 2) (cells 2))\n(pair (in 4) (out 1) (cells 1))\n(pair (in 4) (out 2) (cells 1))\n(pair (in 4) (out 4) (cells 2))\n"
 
 printed : List ℕ
-printed =
-    text "(frame (ports 4) (slots 4))\n(slot 1 (1 1) (4 4))\n(slot 2 (1 2) (4 1))\n(slot 3 (1 1) (4 2))\n(slot 4 (1 2) (4 4))\n"
+printed = text "(frame (ports 4) (slots 4))\n(slot 1 1 5)\n(slot 2 2 3)\n(slot 3 1 4)\n(slot 4 2 5)\n"
 
 pub cases : List Case
 cases =
-    frame 1 1 (1 ∷ []) 0 (1 ∷ [])
-    ∷ frame 1 4 (3 ∷ []) 2 (1 ∷ 1 ∷ 1 ∷ 0 ∷ [])
-    ∷ frame 2 2 (1 ∷ 1 ∷ 1 ∷ 1 ∷ []) 4 crossed
+    frame 1 1 (1 ∷ 1 ∷ 1 ∷ []) 0 (1 ∷ [])
+    ∷ frame 1 4 (1 ∷ 1 ∷ 3 ∷ []) 2 (1 ∷ 1 ∷ 1 ∷ 0 ∷ [])
+    ∷ frame 2 2 four 4 crossed
     ∷ frame 4 4 own 8 ownFrame
     ∷ frame 4 4 table7 10 table7Frame
     ∷ record { gives = response sheet; says = printed }
-    ∷ turnedAway 2 4 (3 ∷ 2 ∷ 0 ∷ 0 ∷ []) (5 ∷ 1 ∷ 5 ∷ [])
-    ∷ record { gives = admitted 2 4 (2 ∷ 2 ∷ 0 ∷ 0 ∷ []); says = 0 ∷ [] }
-    ∷ turnedAway 2 4 (3 ∷ 0 ∷ 2 ∷ 0 ∷ []) (6 ∷ 1 ∷ 5 ∷ [])
-    ∷ turnedAway 2 4 (5 ∷ 0 ∷ 0 ∷ 0 ∷ []) (5 ∷ 1 ∷ 5 ∷ [])
+    ∷ turnedAway 2 4 (1 ∷ 1 ∷ 3 ∷ 1 ∷ 2 ∷ 2 ∷ []) (5 ∷ 1 ∷ 5 ∷ [])
+    ∷ record { gives = admitted 2 4 (1 ∷ 1 ∷ 2 ∷ 1 ∷ 2 ∷ 2 ∷ []); says = 0 ∷ [] }
+    ∷ turnedAway 2 4 (1 ∷ 1 ∷ 3 ∷ 2 ∷ 1 ∷ 2 ∷ []) (6 ∷ 1 ∷ 5 ∷ [])
+    ∷ turnedAway 2 4 (1 ∷ 1 ∷ 5 ∷ []) (5 ∷ 1 ∷ 5 ∷ [])
     -- one cell more than its share: four parts of a quarter
-    ∷ counting (service 4 4 table7Frame (Pair 4 4) 4 2) (0 ∷ 2 ∷ []) 4 0
+    ∷ counting (service 4 4 table7 table7Frame (Flow 5) 4 2) (0 ∷ 2 ∷ []) 4 0
     -- the same run on the wire: 2 cells, and a share of 1, which is 4 over 2 ^ k
-    ∷ record { gives = cells (pair 3 3) 4 (runOf 4 3 2 (wire twice)) ∷ share (pair 3 3) 0 twice 3 2 ∷ []; says = 2 ∷ 4 ∷ [] }
+    ∷ record { gives = cellsIn (flow 4) twice 3 2 ∷ share (flow 4) 0 twice 3 2 ∷ []; says = 2 ∷ 4 ∷ [] }
     ∷ []
 
--- ---- the frames of the loads, and what the sheet comes to
-table7-framed : frameOf 4 2 table7 ≡ table7Frame
-unfolding walk settleAt favours slotOf frameOf
+-- ---- the frames of the lists, and what the sheet comes to
+abbrev frameAt : ℕ → ℕ → List ℕ → List ℕ
+frameAt ports k list = frameOf ports (portOf list) k (countsOf list)
+
+table7-framed : frameAt 4 2 table7 ≡ table7Frame
+unfolding portOf countsOf walk settleAt favours slotOf frameOf
 table7-framed = refl
 
-own-framed : frameOf 4 2 own ≡ ownFrame
-unfolding walk settleAt favours slotOf frameOf
+own-framed : frameAt 4 2 own ≡ ownFrame
+unfolding portOf countsOf walk settleAt favours slotOf frameOf
 own-framed = refl
 
-small-framed : (frameOf 1 0 (1 ∷ []) ≡ 1 ∷ []) × (frameOf 1 2 (3 ∷ []) ≡ 1 ∷ 1 ∷ 1 ∷ 0 ∷ []) × (frameOf 2 1 (1 ∷ 1 ∷ 1 ∷ 1 ∷ []) ≡ 1 ∷ 2 ∷ 2 ∷ 1 ∷ [])
-unfolding walk settleAt favours slotOf frameOf
+small-framed : (frameAt 1 0 (1 ∷ 1 ∷ 1 ∷ []) ≡ 1 ∷ []) × (frameAt 1 2 (1 ∷ 1 ∷ 3 ∷ []) ≡ 1 ∷ 1 ∷ 1 ∷ 0 ∷ []) × (frameAt 2 1 four ≡ crossed)
+unfolding portOf countsOf walk settleAt favours slotOf frameOf
 small-framed = (refl, refl, refl)
 
 sheet-asks : readSheet sheet ≡ loads 4 4 table7
-unfolding sheet sumTo load digits portsLine slotsLine pairLine lines numbersFrom readPairs readSheet
+unfolding sheet sumTo portOf countsOf loadIn digits portsLine slotsLine pairLine lines numbersFrom readPairs readSheet
 sheet-asks = refl
 
 sheet-printed : response sheet ≡ printed
@@ -124,13 +130,13 @@ unfolding printed digits printSlots response
 sheet-printed = rw (sheet-asks, table7-framed)
 
 pub bench : map (λ c. c .gives) cases ≡ map (λ c. c .says) cases
-unfolding cases frame turnedAway counting sumTo load cells runOf work admitted buildChecks countChecks service repeated lead chain wire share
-bench = rw (small-framed .0, small-framed .1, small-framed .2, own-framed, table7-framed, sheet-printed)
+unfolding cases frame turnedAway counting sumTo portOf countsOf loadIn cells runOf work admitted buildChecks countChecks service repeated lead chain cellsAt cellsIn share walk settleAt favours slotOf frameOf
+bench = rw sheet-printed
 
 -- the bound of that run for k = 2 is 5/3, which is 20 over 3 × 2 ^ k: 24 for the cells is within 20 of 12 for the share
 pub ninth-bound : Accurate 4 2 twice → Near 20 24 12
-unfolding chain wire share cells runOf buildChecks sumTo load
-ninth-bound a = rw table7-framed at (a 3 2 (omega arith) (pair 3 3) (omega arith, omega arith))
+unfolding chain cellsAt cellsIn share cells runOf buildChecks sumTo portOf countsOf loadIn walk settleAt favours slotOf frameOf
+ninth-bound a = a 3 2 (omega arith) (flow 4) tt
 
 -- ---- an answer of each kind that the nine loads do not reach
 -- A sheet, and the line that is printed for it.
@@ -145,13 +151,20 @@ views slot says =
       says = says;
     }
 
--- A count in a frame of two slots with two cells of (1, 2) and one of (2, 1).
+-- A flow of two cells from input 1 to output 2, and one of one cell from input 2 to output 1.
+abbrev there : List ℕ
+there = 1 ∷ 2 ∷ 2 ∷ 2 ∷ 1 ∷ 1 ∷ []
+
+-- A count in a frame of two slots with those cells, and in one whose first slot has the second flow at input 1 and no flow at input 2.
 counts : Who → ℕ → ℕ → ℕ → ℕ → ℕ → Case
-counts who start len had ahead behind = counting (service 2 2 (2 ∷ 0 ∷ 2 ∷ 1 ∷ []) who start len) (0 ∷ had ∷ []) ahead behind
+counts who start len had ahead behind = counting (service 2 2 there (1 ∷ 0 ∷ 1 ∷ 2 ∷ []) who start len) (0 ∷ had ∷ []) ahead behind
+
+countsAny : Who → ℕ → Case
+countsAny who had = counting (service 2 2 there (2 ∷ 9 ∷ 1 ∷ 2 ∷ []) who 1 2) (0 ∷ had ∷ []) 0 0
 
 -- Inspect of a frame of two slots for one cell from each of two ports to its own number.
 inspects : List ℕ → List ℕ → Case
-inspects bytes says = record { gives = inspected 2 2 (1 ∷ 0 ∷ 0 ∷ 1 ∷ []) bytes; says = says }
+inspects entries says = record { gives = inspected 2 2 (1 ∷ 1 ∷ 1 ∷ 2 ∷ 2 ∷ 1 ∷ []) entries; says = says }
 
 pub others : List Case
 others =
@@ -162,7 +175,8 @@ others =
     ∷ answers (text "(ports 2)\n(slots 1)\n(pair (in 1) (out 2) (cells 1))\n(pair (in 2) (out 2) (cells 1))\n") "(refused 6 (port 2) (cells 2))\n"
     ∷ answers (text "(ports 2)\n(slots 1)\n(pair (in 1) (out 1) (cells 01))\n") "(refused 7 (line 3))\n"
     ∷ answers (text "(ports 2)\n(slots 1)\n(pair (in 1) (out 3) (cells 0))\n") "(refused 8 (line 3))\n"
-    ∷ answers (text "(ports 2)\n(slots 1)\n(pair (in 1) (out 2) (cells 0))\n(pair (in 1) (out 2) (cells 0))\n") "(refused 9 (line 4))\n"
+    -- a pair named twice is two flows
+    ∷ answers (text "(ports 2)\n(slots 2)\n(pair (in 1) (out 2) (cells 1))\n(pair (in 1) (out 2) (cells 1))\n") "(frame (ports 2) (slots 2))\n(slot 1 1)\n(slot 2 2)\n"
     -- lines that break the form: a number above 65535, byte 13 before byte 10, no byte 10 at the end, an empty line, none
     ∷ answers (text "(ports 65536)\n") "(refused 7 (line 1))\n"
     ∷ answers (text "(ports 2)" ++ (13 ∷ 10 ∷ text "(slots 1)\n")) "(refused 7 (line 1))\n"
@@ -173,24 +187,40 @@ others =
     -- an idle slot
     ∷ answers (text "(ports 1)\n(slots 1)\n") "(frame (ports 1) (slots 1))\n(slot 1)\n"
     -- slot 2 of a frame, and slots outside it
-    ∷ views 2 (0 ∷ 2 ∷ 2 ∷ 2 ∷ 1 ∷ [])
+    ∷ views 2 (0 ∷ 2 ∷ 2 ∷ 2 ∷ 3 ∷ [])
     ∷ views 0 (11 ∷ 0 ∷ 0 ∷ [])
     ∷ views 3 (11 ∷ 0 ∷ 0 ∷ [])
-    -- a pair and the one turned round, an input, an output, over the whole frame
-    ∷ counts (Pair 1 2) 1 2 2 0 0
-    ∷ counts (Pair 2 1) 1 2 1 0 0
+    -- each flow, an input, an output, over the whole frame
+    ∷ counts (Flow 1) 1 2 2 0 0
+    ∷ counts (Flow 2) 1 2 1 0 0
     ∷ counts (Input 1) 1 2 2 0 0
     ∷ counts (Output 1) 1 2 1 0 0
     -- one behind after the first slot, one ahead after the second, two turns on too, and a run of no slots
-    ∷ counts (Pair 2 1) 1 1 0 0 1
+    ∷ counts (Flow 2) 1 1 0 0 1
     ∷ counts (Input 2) 2 1 1 1 0
     ∷ counts (Output 1) 2 5 3 1 0
     ∷ counts (Output 2) 2 0 0 0 0
-    -- one cell in each slot, and both in the first: its halves differ by two cells in total, and by one for every pair and port
+    -- a flow counts for itself and its output wherever it stands, and what is no flow for its input only
+    ∷ countsAny (Flow 2) 2
+    ∷ countsAny (Output 1) 2
+    ∷ countsAny (Output 2) 1
+    ∷ countsAny (Input 2) 2
+    -- a flow that is not in the list
+    ∷ counting (service 2 2 there (1 ∷ 0 ∷ 1 ∷ 2 ∷ []) (Flow 3) 1 1) (12 ∷ []) 0 0
+    -- lists: not of whole flows, 513 flows, whose ports are outside too, a port outside, none
+    ∷ turnedAway 2 2 (1 ∷ 1 ∷ []) (3 ∷ [])
+    ∷ turnedAway 2 2 (replicate 1539 9) (21 ∷ [])
+    ∷ turnedAway 2 2 (1 ∷ 3 ∷ 0 ∷ []) (22 ∷ [])
+    ∷ frame 1 2 [] 0 (0 ∷ 0 ∷ [])
+    -- one cell in each slot, and both in the first: its halves differ by two cells in total, and by one for every flow and port
     ∷ inspects (1 ∷ 0 ∷ 0 ∷ 2 ∷ []) (0 ∷ [])
     ∷ inspects (1 ∷ 2 ∷ 0 ∷ 0 ∷ []) (104 ∷ 1 ∷ 2 ∷ [])
+    -- a number above the list, another input's flow, a flow that is missing
+    ∷ inspects (1 ∷ 0 ∷ 0 ∷ 3 ∷ []) (101 ∷ 2 ∷ 2 ∷ [])
+    ∷ inspects (2 ∷ 0 ∷ 0 ∷ 1 ∷ []) (101 ∷ 1 ∷ 1 ∷ [])
+    ∷ inspects (1 ∷ 0 ∷ 0 ∷ 0 ∷ []) (103 ∷ 2 ∷ [])
     ∷ []
 
 pub others-answered : map (λ c. c .gives) others ≡ map (λ c. c .says) others
-unfolding others answers views counting counts inspects inspected tooLarge twiceIn usedTwice wrongCount unbalanced unbalancedNumber unbalancedAt digits portsLine slotsLine pairLine lines numbersFrom readPairs readSheet printSlots response sumTo load cells runOf countChecks service repeated lead viewChecks walk settleAt favours slotOf frameOf
+unfolding others answers views frame turnedAway counting counts countsAny inspects inspected isWrong twiceIn usedTwice wrongCount unbalanced unbalancedNumber unbalancedAt digits portsLine slotsLine pairLine lines numbersFrom readPairs readSheet printSlots response sumTo portOf countsOf loadIn cells runOf work admitted buildChecks countChecks service repeated lead viewChecks walk settleAt favours slotOf frameOf
 others-answered = refl

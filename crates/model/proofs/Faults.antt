@@ -134,12 +134,14 @@ module _ (ports : ℕ) (list entries : List ℕ) where
   pub count-found : flowCount ports list entries .0 ≡ true → (f : ℕ) × FirstNot (flows list) (CountRight ports list entries) f
   count-found e =
       let f = first test 0 (flows list) in
-      let l = ltb-true f (flows list) e in
-      (f, record {
-        low = l;
-        wrong = λ r. true≢false (sym (first-found test (flows list) 0 (omega (arith, l))) ∙ right-test f r);
-        before = λ y h. test-right y (first-before test (flows list) 0 y (omega arith) h);
-      })
+      let l = ltb-true f (flows list) e in (
+        f,
+        record {
+          low = l;
+          wrong = λ r. true≢false (sym (first-found test (flows list) 0 (omega (arith, l))) ∙ right-test f r);
+          before = λ y h. test-right y (first-before test (flows list) 0 y (omega arith) h);
+        },
+      )
 
   pub count-reported : {f : ℕ} → FirstNot (flows list) (CountRight ports list entries) f → flowCount ports list entries ≡ (true, 103 ∷ suc f ∷ [])
   count-reported {f} n =

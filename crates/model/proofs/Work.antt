@@ -374,6 +374,8 @@ module _ (k : ℕ) (low : k ≤ 4) where
 
 pub work-reached : WorkReached
 work-reached k low buffer size =
-    let a = ones-accepted k low buffer size in
-    (a, work-single (2 ^ k) (2 ^ k) (ones k) buffer a k refl (λ f. rw (order-counts (2 ^ k) (replicate (2 ^ k * 2 ^ k) 1)) (one-most (2 ^ k * 2 ^ k) f))
-    ∙ ap (λ n. k * n) (ones-cells k low) ∙ omega arith)
+    let a = ones-accepted k low buffer size in (
+      a,
+      work-single (2 ^ k) (2 ^ k) (ones k) buffer a k refl (λ f. rw (order-counts (2 ^ k) (replicate (2 ^ k * 2 ^ k) 1)) (one-most (2 ^ k * 2 ^ k) f))
+          ∙ ap (λ n. k * n) (ones-cells k low) ∙ omega arith,
+    )
