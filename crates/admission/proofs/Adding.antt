@@ -1,169 +1,135 @@
--- Every port's load, row by row: a row is added count by count, and its sum is its input's load.
+-- Every port's load, flow by flow: the cells of each are added at its input and at its output.
 use Prim.Native.Nat.{ℕ, suc, _+_, _-_, _*_, _≤_, _<_}
-use mathlib.Core.Path.{_≡_, refl, sym, ap, _∙_, subst}
+use mathlib.Core.Path.{_≡_, refl, sym, ap, _∙_}
 use mathlib.Core.List.{List}
 use native.Mathlib.Omega.{arith}
-use native.Mathlib.Nat.{mul-le-mul, mul-le-mul-right}
+use native.Mathlib.Nat.{mul-le-mul-right}
 use native.Mathlib.Numerals.{add-one}
 use mir.Syntax.{w64}
 use mir.Val.{Fits}
-use lib.ListN.{length, set, take, drop, replicate, length-set, length-take, length-drop, List·getD-eq-default}
-use lib.Seq.{getD-set-same, getD-set-other, getD-take, getD-drop}
-use Rattle.model.specs.Words.{sumTo}
-use Rattle.model.specs.Loads.{input, countOf, load}
-use Rattle.model.proofs.Cases.{byEq, byLt}
+use lib.Dec.{eqb}
+use lib.ListN.{length, getD, set, replicate, length-set}
+use lib.Seq.{getD-set-same, getD-set-other}
+use borrow.Author.Tests.{eq-eqb, ne-eqb}
+use Rattle.model.specs.Words.{if, sumTo, sumIf}
+use Rattle.model.specs.Flows.{flows, numberOf, Side, inputs, outputs, placeOf, portOf, countsOf, Class, input, output, isOf, loadIn, load}
+use Rattle.model.proofs.Cases.{byBool, byEq}
 use Rattle.model.proofs.Settled.{zero-at}
-use Rattle.model.proofs.Sums.{sum-none, sum-more, sum-ext, sum-most}
-use Rattle.admission.specs.Overloads.{Size, valueAt, Given, EveryLoad, Room, RowAdded}
+use Rattle.model.proofs.Sums.{sum-none, sum-more, sum-ext, sum-zero}
+use Rattle.model.proofs.Flows.{counts-length, counts-at}
+use Rattle.admission.specs.Lists.{Taken}
+use Rattle.admission.specs.Overloads.{valueAt, Given, EveryLoad}
 
--- ---- a row: all but the last so many of its counts are added
-pub record Adding (row old : List ℕ) (left : ℕ) (new : List ℕ) (total : ℕ) : Type 0 where
-  pub most : left ≤ length row
-  pub len : length new ≡ 16
-  pub added : (x : ℕ) → x < length row - left → valueAt new x ≡ valueAt old x + valueAt row x
-  pub kept : (x : ℕ) → length row - left ≤ x → valueAt new x ≡ valueAt old x
-  pub total-is : total ≡ sumTo (length row - left) (valueAt row)
-  pub small : (x : ℕ) → x < length row - left → valueAt row x ≤ 65535
+-- the cells of those of the first f flows that are at port x of a side
+abbrev addedAt : Side → List ℕ → ℕ → ℕ → ℕ
+addedAt s list f x = sumIf f (λ g. eqb (portOf list s g) x) (numberOf 2 list)
 
-pub adding-start : {row old : List ℕ} → Room old → Adding row old (length row) old 0
-adding-start {row} {old} room =
-    let e : length row - length row ≡ 0 = omega arith in
+-- ---- one side: the cells of the first f flows are added
+pub record Side-summed (s : Side) (list : List ℕ) (f : ℕ) (sums : List ℕ) : Type 0 where
+  pub len : length sums ≡ 16
+  pub each : (x : ℕ) → valueAt sums x ≡ addedAt s list f x
+  pub low : (x : ℕ) → valueAt sums x ≤ f * 65535
+
+side-start : (s : Side) (list sums : List ℕ) → sums ≡ replicate 16 0 → Side-summed s list 0 sums
+side-start s list sums e =
+    let zero : (x : ℕ) → valueAt sums x ≡ 0 = λ x. rw e (zero-at 16 x) in
+    record { len = rw e; each = λ x. zero x ∙ sym (sum-none _); low = λ x. omega (arith, zero x) }
+
+-- what one flow more adds at a port
+added-more : (s : Side) (list : List ℕ) (f x : ℕ) → addedAt s list (f + 1) x ≡ addedAt s list f x + if (eqb (portOf list s f) x) (numberOf 2 list f) 0
+added-more s list f x = rw (add-one f) (sum-more f (λ g. if (eqb (portOf list s g) x) (numberOf 2 list g) 0))
+
+side-on : (s : Side) (list sums : List ℕ) (f p cells : ℕ) → Side-summed s list f sums → p ≡ portOf list s f → p < 16 → cells ≡ numberOf 2 list f → cells ≤ 65535
+    → Side-summed s list (f + 1) (set sums p (valueAt sums p + cells))
+side-on s list sums f p cells a at here is small =
+    let sum = valueAt sums p + cells in
+    let own : valueAt (set sums p sum) p ≡ sum = getD-set-same sums p sum 0 (omega (arith, a .len)) in
+    let other : (x : ℕ) → (x ≡ p → ⊥) → valueAt (set sums p sum) x ≡ valueAt sums x = λ x d. getD-set-other sums p x sum 0 d in
     record {
-      most = omega arith;
-      len = room .len;
-      added = λ x l. absurd (omega arith);
-      kept = λ x l. refl;
-      total-is = rw e (sym (sum-none (valueAt row)));
-      small = λ x l. absurd (omega arith);
+      len = length-set sums p sum ∙ a .len;
+      each = λ x. byEq x p
+          (λ d.
+          let add : if (eqb (portOf list s f) x) (numberOf 2 list f) 0 ≡ cells = rw (eq-eqb (portOf list s f) x (omega arith)) (sym is) in
+          rw d (omega (arith, own, a .each p, rw d at add, added-more s list f p)))
+          (λ d.
+          let add : if (eqb (portOf list s f) x) (numberOf 2 list f) 0 ≡ 0 = rw (ne-eqb (portOf list s f) x (omega arith)) in
+          omega (arith, other x d, a .each x, add, added-more s list f x));
+      low = λ x. byEq x p (λ d. rw d (omega (arith, own, a .low p))) (λ d. omega (arith, other x d, a .low x));
     }
 
-module _ {row old new : List ℕ} {left total count : ℕ} (short : length row ≤ 16) (a : Adding row old left new total) (low : count ≤ 65535) where
-  -- the room for one count more
-  pub sum-fits : Room old → Fits w64 (valueAt new (length row - left) + count)
-  sum-fits room = record { fits = omega (arith, a .kept (length row - left) (omega arith), room .most (length row - left)) }
-
-  pub total-fits : Fits w64 (total + count)
-  total-fits = record { fits = omega (arith, a .total-is, sum-most (length row - left) 65535 (valueAt row) (a .small)) }
-
-  pub adding-on : {next : List ℕ} → 0 < left → count ≡ valueAt row (length row - left) → next ≡ set new (length row - left) (valueAt new (length row - left) + count)
-      → Adding row old (left - 1) next (total + count)
-  adding-on {next} here c e =
-      let n : ℕ = length row - left in
-      let sum : ℕ = valueAt new n + count in
-      let m = a .most in
-      let more : length row - (left - 1) ≡ suc n = omega arith in
-      let own : valueAt next n ≡ sum = rw e (getD-set-same new n sum 0 (omega (arith, a .len))) in
-      let other : (x : ℕ) → (x ≡ n → ⊥) → valueAt next x ≡ valueAt new x = λ x d. rw e (getD-set-other new n x sum 0 d) in
-      record {
-        most = omega arith;
-        len = ap length e ∙ length-set new n sum ∙ a .len;
-        added = λ x l. byEq x n
-            (λ d. rw d (omega (arith, own, a .kept n (omega arith))))
-            (λ d. omega (arith, other x d, a .added x (omega arith)));
-        kept = λ x l. omega (arith, other x (omega arith), a .kept x (omega arith));
-        total-is = rw more (omega (arith, a .total-is, sum-more n (valueAt row)));
-        small = λ x l. byEq x n (λ d. rw d (omega arith)) (λ d. a .small x (omega arith));
-      }
-
-pub adding-end : {row old new : List ℕ} {left total : ℕ} → Adding row old left new total → left ≤ 0 → RowAdded row old new total
-adding-end {row} {old} {new} {left} {total} a h =
-    let e : length row - left ≡ length row = omega arith in
-    let past : (x : ℕ) → length row ≤ x → valueAt row x ≡ 0 = λ x l. List·getD-eq-default row 0 l in
+-- all flows are added: the sums are the loads, and 0 at a place of no port
+side-end : (s : Side) (kind : ℕ → Class) → ((x : ℕ) (port : Side → ℕ → ℕ) (f : ℕ) → isOf (kind x) port f ≡ eqb (port s f) x) → {ports : ℕ} {list sums : List ℕ}
+    → Taken ports list → Side-summed s list (flows list) sums → Given ports (λ x. load (kind x) list) sums
+unfolding loadIn portOf
+side-end s kind is {ports} {list} {sums} t a =
     record {
       len = a .len;
-      each = λ x. byLt x (length row) (λ l. a .added x (omega arith)) (λ l. omega (arith, a .kept x (omega arith), past x l));
-      total-is = a .total-is ∙ ap (λ z. sumTo z (valueAt row)) e;
-      small = λ x. byLt x (length row) (λ l. a .small x (omega arith)) (λ l. omega (arith, past x l));
+      each = λ x h.
+          a .each x
+          ∙ sum-ext (flows list) _ _ (λ f l. ap (λ z. if (eqb (portOf list s f) x) z 0) (sym (counts-at list f l)) ∙ ap (λ b. if b (getD (countsOf list) f 0) 0) (sym (is x (portOf list) f)))
+          ∙ ap (λ n. sumIf n (isOf (kind x) (portOf list)) (λ f. getD (countsOf list) f 0)) (sym (counts-length list));
+      none = λ x h. a .each x ∙ sum-zero (flows list) _ (λ f l. rw (ne-eqb (portOf list s f) x (let w = t .ported s f l in omega arith)));
     }
 
--- ---- the rows: the first i of them are added, which are the first `from` counts
-pub record Rows (ports : ℕ) (matrix : List ℕ) (i from : ℕ) (ins outs : List ℕ) : Type 0 where
-  pub most : i ≤ ports
-  pub is : from ≡ i * ports
-  pub of-inputs : Given i (λ x. load (input x) ports matrix) ins
-  pub of-outputs : Given ports (λ x. sumTo i (λ t. countOf ports matrix t x)) outs
-  pub low : (x : ℕ) → valueAt outs x ≤ i * 65535
+-- ---- both sides
+pub record Summed (list : List ℕ) (n f : ℕ) (ins outs : List ℕ) : Type 0 where
+  pub all : n ≡ flows list
+  pub most : f ≤ flows list
+  pub of-inputs : Side-summed inputs list f ins
+  pub of-outputs : Side-summed outputs list f outs
 
-pub rows-start : {ports : ℕ} {matrix ins outs : List ℕ} → ins ≡ replicate 16 0 → outs ≡ replicate 16 0 → Rows ports matrix 0 0 ins outs
-rows-start {ports} {matrix} {ins} {outs} e d =
-    let zero-in : (x : ℕ) → valueAt ins x ≡ 0 = λ x. rw e (zero-at 16 x) in
-    let zero-out : (x : ℕ) → valueAt outs x ≡ 0 = λ x. rw d (zero-at 16 x) in
-    record {
-      most = omega arith;
-      is = omega arith;
-      of-inputs = record { len = rw e; each = λ x l. absurd (omega arith); none = λ x l. zero-in x };
-      of-outputs = record { len = rw d; each = λ x l. zero-out x ∙ sym (sum-none (λ t. countOf ports matrix t x)); none = λ x l. zero-out x };
-      low = λ x. omega (arith, zero-out x);
-    }
+pub summed-start : {n : ℕ} {list ins outs : List ℕ} → n ≡ flows list → ins ≡ replicate 16 0 → outs ≡ replicate 16 0 → Summed list n 0 ins outs
+summed-start {n} {list} {ins} {outs} all e d = record { all = all; most = omega arith; of-inputs = side-start inputs list ins e; of-outputs = side-start outputs list outs d }
 
-module _ {ports i from : ℕ} {matrix ins outs : List ℕ} (size : Size ports matrix) (r : Rows ports matrix i from ins outs) (here : i < ports) where
-  -- the next row is a part of the matrix
-  pub row-ends : from + ports ≤ length matrix
-  row-ends = let k = mul-le-mul-right {m = i + 1} {n = ports} ports (omega arith) in omega (arith, size .square, r .is)
+pub summed-in : {n f : ℕ} {list ins outs : List ℕ} → Summed list n f ins outs → f < n → f < flows list
+summed-in a h = omega (arith, a .all)
 
-  matrix-most : length matrix ≤ 256
-  matrix-most = let k = mul-le-mul (size .most) (size .most) in omega (arith, size .square)
+module _ {ports n f x : ℕ} {list ins outs : List ℕ} (s : Side) (t : Taken ports list) (a : Summed list n f ins outs) (here : f < n) (is : x ≡ numberOf (placeOf s) list f) where
+  port-from-one : 1 ≤ x
+  port-from-one = omega (arith, t .ported s f (summed-in a here) .0)
 
-  -- its places and their offsets in bytes are numbers
-  pub end-fits : Fits w64 (from + ports)
-  end-fits = record { fits = omega (arith, row-ends, matrix-most) }
+  port-low : {p : ℕ} → p ≡ x - 1 → p < 16
+  port-low {p} d = omega (arith, t .ported s f (summed-in a here) .1, t .most)
 
-  pub start-fits : Fits w64 (from * 2)
-  start-fits = record { fits = omega (arith, row-ends, matrix-most) }
+-- of inputs and of outputs
+module _ {ports n f x : ℕ} {list ins outs : List ℕ} (t : Taken ports list) (a : Summed list n f ins outs) (here : f < n) where
+  pub input-from-one : x ≡ numberOf 0 list f → 1 ≤ x
+  input-from-one is = port-from-one inputs t a here is
 
-  abbrev row : List ℕ
-  row = take (from + ports - from) (drop from matrix)
+  pub output-from-one : x ≡ numberOf 1 list f → 1 ≤ x
+  output-from-one is = port-from-one outputs t a here is
 
-  row-length : length row ≡ ports
-  row-length = let k = row-ends in simp (length-take, length-drop) (omega arith)
+  pub input-low : {p : ℕ} → x ≡ numberOf 0 list f → p ≡ x - 1 → p < 16
+  input-low {p} is d = port-low inputs t a here is d
 
-  pub row-short : length row ≤ 16
-  row-short = omega (arith, row-length, size .most)
+  pub output-low : {p : ℕ} → x ≡ numberOf 1 list f → p ≡ x - 1 → p < 16
+  output-low {p} is d = port-low outputs t a here is d
 
-  row-at : (o : ℕ) → o < ports → valueAt row o ≡ countOf ports matrix i o
-  row-at o l = rw (getD-take (from + ports - from) (drop from matrix) o 0 (omega arith), getD-drop from matrix o 0, r .is)
+port-at : (s : Side) (list : List ℕ) (f : ℕ) {x p : ℕ} → x ≡ numberOf (placeOf s) list f → p ≡ x - 1 → p ≡ portOf list s f
+unfolding portOf
+port-at s list f e d = rw (sym e) d
 
-  row-load : sumTo (length row) (valueAt row) ≡ load (input i) ports matrix
-  unfolding load
-  row-load = ap (λ z. sumTo z (valueAt row)) row-length ∙ sum-ext ports (valueAt row) (λ o. countOf ports matrix i o) row-at
+module _ {ports n f cells : ℕ} {list ins outs : List ℕ} (t : Taken ports list) (a : Summed list n f ins outs) (here : f < n) (small : cells ≤ 65535) where
+  pub in-fits : (p : ℕ) → Fits w64 (valueAt ins p + cells)
+  in-fits p = record { fits = omega (arith, a .of-inputs .low p, t .few, mul-le-mul-right 65535 (summed-in a here)) }
 
-  -- the outputs' sums have room for it
-  pub rows-room : Room outs
-  rows-room =
-      let m = size .most in
-      record { len = r .of-outputs .len; most = λ x. omega (arith, r .low x) }
+  pub out-fits : (p : ℕ) → Fits w64 (valueAt outs p + cells)
+  out-fits p = record { fits = omega (arith, a .of-outputs .low p, t .few, mul-le-mul-right 65535 (summed-in a here)) }
 
-  pub input-low : i < 16
-  input-low = let m = size .most in omega arith
-
-  pub rows-on : {ins′ outs′ : List ℕ} {total : ℕ} → RowAdded row outs outs′ total → ins′ ≡ set ins i total → Rows ports matrix (i + 1) (from + ports) ins′ outs′
-  rows-on {ins′} {outs′} {total} a e =
-      let ri = r .of-inputs in
-      let ro = r .of-outputs in
-      let own : valueAt ins′ i ≡ total = rw e (getD-set-same ins i total 0 (omega (arith, ri .len, input-low))) in
-      let other : (x : ℕ) → (x ≡ i → ⊥) → valueAt ins′ x ≡ valueAt ins x = λ x d. rw e (getD-set-other ins i x total 0 d) in
+  pub summed-on : {x y i o : ℕ} {ins′ outs′ : List ℕ} → x ≡ numberOf 0 list f → y ≡ numberOf 1 list f → i ≡ x - 1 → o ≡ y - 1 → cells ≡ numberOf 2 list f
+      → ins′ ≡ set ins i (valueAt ins i + cells) → outs′ ≡ set outs o (valueAt outs o + cells) → Summed list n (f + 1) ins′ outs′
+  summed-on {x} {y} {i} {o} {ins′} {outs′} ex ey pi po is e d =
       record {
-        most = omega arith;
-        is = omega (arith, r .is);
-        of-inputs = record {
-          len = ap length e ∙ length-set ins i total ∙ ri .len;
-          each = λ x l. byEq x i (λ d. rw d (own ∙ a .total-is ∙ row-load)) (λ d. other x d ∙ ri .each x (omega arith));
-          none = λ x l. other x (omega arith) ∙ ri .none x (omega arith);
-        };
-        of-outputs = record {
-          len = a .len;
-          each = λ x l. rw (add-one i) (omega (arith, a .each x, ro .each x l, row-at x l, sum-more i (λ t. countOf ports matrix t x)));
-          none = λ x l. omega (arith, a .each x, ro .none x l, List·getD-eq-default row 0 {n = x} (omega (arith, row-length)));
-        };
-        low = λ x. omega (arith, a .each x, r .low x, a .small x);
+        all = a .all;
+        most = omega (arith, a .all);
+        of-inputs = rw e (side-on inputs list ins f i cells (a .of-inputs) (port-at inputs list f ex pi) (port-low inputs t a here ex pi) is small);
+        of-outputs = rw d (side-on outputs list outs f o cells (a .of-outputs) (port-at outputs list f ey po) (port-low outputs t a here ey po) is small);
       }
 
-pub rows-end : {ports i from : ℕ} {matrix ins outs : List ℕ} → Rows ports matrix i from ins outs → ports ≤ i → EveryLoad ports matrix ins outs
-unfolding load
-rows-end {ports} {i} {from} {matrix} {ins} {outs} r h =
-    let m = r .most in
-    let e : i ≡ ports = omega arith in
+pub summed-end : {ports n f : ℕ} {list ins outs : List ℕ} → Taken ports list → Summed list n f ins outs → n ≤ f → EveryLoad ports list ins outs
+summed-end {ports} {n} {f} {list} {ins} {outs} t a h =
+    let e : f ≡ flows list = omega (arith, a .most, a .all) in
     record {
-      of-inputs = subst (λ (n : ℕ). Given n (λ x. load (input x) ports matrix) ins) e (r .of-inputs);
-      of-outputs = subst (λ (n : ℕ). Given ports (λ x. sumTo n (λ t. countOf ports matrix t x)) outs) e (r .of-outputs);
+      of-inputs = side-end inputs input (λ x port g. refl) t (rw e at (a .of-inputs));
+      of-outputs = side-end outputs output (λ x port g. refl) t (rw e at (a .of-outputs));
     }

@@ -3,11 +3,12 @@ use Prim.Native.Nat.{ℕ, _+_, _≤_, _<_}
 use mathlib.Core.Path.{_≡_, sym, ap, _∙_}
 use mathlib.Core.List.{List, [], _∷_}
 use Rattle.model.specs.Words.{if}
-use Rattle.model.specs.Loads.{input, output, load}
-use Rattle.model.specs.Refusals.{Check, report, accepted, lowestAbove, aboveSlots, overload}
+use Rattle.model.specs.Flows.{input, output, load}
+use Rattle.model.specs.Refusals.{Check, report, accepted, lowestAbove, aboveSlots, overload, overloads}
 use Rattle.model.proofs.Overloads.{above-found, above-none, above-same}
 use Rattle.model.proofs.Reports.{report-found, report-on}
-use Rattle.admission.specs.Overloads.{Size, valueAt, EveryLoad, decided}
+use Rattle.admission.specs.Lists.{Taken}
+use Rattle.admission.specs.Overloads.{valueAt, EveryLoad, decided}
 
 module _ (slots : ℕ) (ins outs : List ℕ) where
   abbrev fifth : Check
@@ -36,10 +37,10 @@ module _ (slots : ℕ) (ins outs : List ℕ) where
       none-above k = sym (report-on sixth [] accepted (above-none 6 16 slots (valueAt outs) y next k)) ∙ no-input h
 
   -- where the numbers are every port's load, the answer is that of the loads
-  pub decided-loads : {ports : ℕ} {matrix : List ℕ} → Size ports matrix → EveryLoad ports matrix ins outs
-      → decided slots ins outs ≡ report (overload 5 input ports slots matrix ∷ overload 6 output ports slots matrix ∷ []) accepted
-  decided-loads {ports} {matrix} size e =
-      let five = overload 5 input ports slots matrix in
-      above-same 5 ports 16 slots (λ x. load (input x) ports matrix) (valueAt ins) (size .most) (e .of-inputs .each) (e .of-inputs .none) (sixth ∷ []) accepted
+  pub decided-loads : {ports : ℕ} {list : List ℕ} → Taken ports list → EveryLoad ports list ins outs
+      → decided slots ins outs ≡ report (overloads ports slots list) accepted
+  decided-loads {ports} {list} t e =
+      let five = overload 5 input ports slots list in
+      above-same 5 ports 16 slots (λ x. load (input x) list) (valueAt ins) (t .most) (e .of-inputs .each) (e .of-inputs .none) (sixth ∷ []) accepted
       ∙ ap (λ (l : List ℕ). if (five .0) (five .1) l)
-      (above-same 6 ports 16 slots (λ x. load (output x) ports matrix) (valueAt outs) (size .most) (e .of-outputs .each) (e .of-outputs .none) [] accepted)
+      (above-same 6 ports 16 slots (λ x. load (output x) list) (valueAt outs) (t .most) (e .of-outputs .each) (e .of-outputs .none) [] accepted)

@@ -2,4 +2,7 @@
 pub mod Lengths
 pub mod Searching
 pub mod Adding
+pub mod Ports
+pub mod Listed
 pub mod Deciding
+pub mod Admitted

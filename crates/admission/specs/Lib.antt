@@ -1,2 +1,3 @@
 -- What the inner functions of Admit promise.
+pub mod Lists
 pub mod Overloads

@@ -1,12 +1,16 @@
 // Admit, and the conditions of the refusals that other calls share with it.
 ghost use mathlib.Core.Path.{_≡_};
 ghost use mathlib.Core.Bool.{not};
-ghost use Prim.Native.Nat.{_*_, _≤_};
+ghost use Prim.Native.Nat.{_*_, _<_};
 ghost use lib.Dec.{eqb};
 ghost use lib.ListN.{length};
 ghost use Rattle.model.specs.Words.{within};
-ghost use Rattle.model.specs.Refusals.{levels, lowestAbove, answered, admitted};
-ghost use Rattle.admission.specs.Overloads.{Size, valueAt, EveryLoad, Room, RowAdded, decided};
+ghost use Rattle.model.specs.Flows.{flows};
+ghost use Rattle.model.specs.Refusals.{levels, portsWithin, bad-flow, lowestAbove, answered, admitted};
+ghost use Rattle.admission.specs.Lists.{ListAnswer, Taken};
+ghost use Rattle.admission.specs.Overloads.{valueAt, EveryLoad, decided};
+use flows::flows_of;
+use flows::number_of;
 use model::Answer;
 use model::Refusal;
 
@@ -43,7 +47,7 @@ pub fn bad_slots(slots: usize) -> bool
     levels_of(slots) == 11
 }
 
-// Refusals 3 and 4: a length that is not so many rows of so many columns. It is divided, for a product could be too large.
+// Refusal 4: a length that is not so many rows of so many columns. It is divided, for a product could be too large.
 pub fn bad_length(length: usize, rows: usize, columns: usize) -> bool
     ensures { λ r. ⌜ r ≡ not (eqb length (rows * columns)) ⌝ }
 {
@@ -56,46 +60,78 @@ pub fn bad_length(length: usize, rows: usize, columns: usize) -> bool
     length / columns != rows
 }
 
+// The input or the output of flow f is not one of 1, 2, .., ports.
+fn port_outside(ports: usize, list: &[u16], f: usize) -> bool
+    requires { ⌜ f < flows (now list) ⌝ }
+    ensures { λ r. ⌜ r ≡ not (portsWithin ports (now (list .entry)) f) ⌝ }
+{
+    if outside(ports, number_of(list, f, 0)) {
+        return true;
+    }
+    outside(ports, number_of(list, f, 1))
+}
+
+// Refusal 22: that is so of some flow.
+fn bad_port(ports: usize, list: &[u16]) -> bool
+    ensures { λ r. ⌜ r ≡ bad-flow ports (now (list .entry)) .0 ⌝ }
+{
+    let count = flows_of(list);
+    let mut f: usize = 0;
+    while f < count {
+        if port_outside(ports, list, f) {
+            return true;
+        }
+        f += 1;
+    }
+    false
+}
+
+// What is tried first wherever a list is taken: 1, 2, 3, 21, 22.
+pub fn check_list(ports: usize, slots: usize, list: &[u16]) -> Answer
+    ensures { λ r. ⌜ ListAnswer ports slots (now (list .entry)) (answered r) ⌝ }
+{
+    if outside(16, ports) {
+        return Answer::Refused(Refusal::Ports);
+    }
+    if bad_slots(slots) {
+        return Answer::Refused(Refusal::Slots);
+    }
+    if list.len() % 3 != 0 {
+        return Answer::Refused(Refusal::ListLength);
+    }
+    if 512 < flows_of(list) {
+        return Answer::Refused(Refusal::TooManyFlows);
+    }
+    if bad_port(ports, list) {
+        return Answer::Refused(Refusal::FlowPort);
+    }
+    Answer::Accepted
+}
+
 // The load of each input and of each output, at the place of its number less 1, and 0 at a place of no port.
 pub struct Loads {
     pub inputs: [usize; 16],
     pub outputs: [usize; 16],
 }
 
-// Adds the counts of a row to the loads of its outputs; what they sum to is the load of its input.
-fn add_row(row: &[u16], outputs: &mut [usize; 16]) -> usize
-    requires { ⌜ (length (now row) ≤ 16) × Room (now outputs) ⌝ }
-    ensures { λ r. ⌜ RowAdded (now (row .entry)) (now (outputs .entry)) (now (outputs .exit)) r ⌝ }
-{
-    let mut load: usize = 0;
-    let mut left = row.len();
-    while 0 < left {
-        let o = row.len() - left;
-        let count = widths::count(row[o]);
-        outputs[o] = outputs[o] + count;
-        load = load + count;
-        left -= 1;
-    }
-    load
-}
-
-// Every port's load, in one pass over the matrix.
-pub fn loads_of(ports: usize, matrix: &[u16]) -> Loads
-    requires { ⌜ Size ports (now matrix) ⌝ }
-    ensures { λ r. ⌜ EveryLoad ports (now (matrix .entry)) (r .inputs) (r .outputs) ⌝ }
+// Every port's load, in one pass over the list.
+pub fn loads_of(ports: usize, list: &[u16]) -> Loads
+    requires { ⌜ Taken ports (now list) ⌝ }
+    ensures { λ r. ⌜ EveryLoad ports (now (list .entry)) (r .inputs) (r .outputs) ⌝ }
 {
     let mut loads = Loads {
         inputs: [0; 16],
         outputs: [0; 16],
     };
-    let mut from: usize = 0;
-    let mut i: usize = 0;
-    while i < ports {
-        let end = from + ports;
-        let load = add_row(&matrix[from..end], &mut loads.outputs);
-        loads.inputs[i] = load;
-        from = end;
-        i += 1;
+    let count = flows_of(list);
+    let mut f: usize = 0;
+    while f < count {
+        let i = number_of(list, f, 0) - 1;
+        let o = number_of(list, f, 1) - 1;
+        let cells = number_of(list, f, 2);
+        loads.inputs[i] = loads.inputs[i] + cells;
+        loads.outputs[o] = loads.outputs[o] + cells;
+        f += 1;
     }
     loads
 }
@@ -138,19 +174,13 @@ pub fn overload<'a>(slots: usize, inputs: &'a [usize; 16], outputs: &'a [usize; 
     Answer::Accepted
 }
 
-// Admit: 1, 2, 3, 5, 6.
-pub fn admit(ports: usize, slots: usize, matrix: &[u16]) -> Answer
-    ensures { λ r. ⌜ answered r ≡ admitted ports slots (now (matrix .entry)) ⌝ }
+// Admit: 1, 2, 3, 21, 22, 5, 6.
+pub fn admit(ports: usize, slots: usize, list: &[u16]) -> Answer
+    ensures { λ r. ⌜ answered r ≡ admitted ports slots (now (list .entry)) ⌝ }
 {
-    if outside(16, ports) {
-        return Answer::Refused(Refusal::Ports);
+    if let Answer::Refused(refusal) = check_list(ports, slots, list) {
+        return Answer::Refused(refusal);
     }
-    if bad_slots(slots) {
-        return Answer::Refused(Refusal::Slots);
-    }
-    if bad_length(matrix.len(), ports, ports) {
-        return Answer::Refused(Refusal::MatrixLength);
-    }
-    let loads = loads_of(ports, matrix);
+    let loads = loads_of(ports, list);
     overload(slots, &loads.inputs, &loads.outputs)
 }

@@ -11,7 +11,7 @@ use lib.Pow.{pow-pos}
 use borrow.Author.Tests.{eqb-true, eqb-false, eq-eqb, ne-eqb, le-ltb, ltb-false, not-false}
 use Rattle.model.specs.Words.{both, within, first, Every}
 use Rattle.model.specs.Flows.{stride, flows, numberOf, Side, inputs, outputs, placeOf}
-use Rattle.model.specs.Refusals.{Check, report, clear, refusal, levels, bad-ports, bad-slots, bad-list, bad-flows, portsWithin, bad-flow, bad-frame, bad-slot}
+use Rattle.model.specs.Refusals.{Check, report, clear, refusal, accepted, levels, bad-ports, bad-slots, bad-list, bad-flows, portsWithin, bad-flow, bad-frame, bad-slot}
 use Rattle.model.specs.Service.{bad-length}
 use Rattle.model.specs.Sheet.{bad-sheet}
 use Rattle.model.specs.declared.Refusal.{Refusal}
@@ -86,6 +86,11 @@ clear-none (c ∷ cs) asked r =
 pub clear-some : (cs : List Check) (asked : List ℕ) → getD asked 0 0 ≡ 0 → getD (report cs asked) 0 0 ≢ 0 → clear cs ≡ false
 clear-some [] asked z = λ n. absurd (n z)
 clear-some (c ∷ cs) asked z = byBool (c .0) (λ b. rw b (λ n. refl)) (λ b. rw b (λ n. clear-some cs asked z n))
+
+-- a refusal by the first of them is that of all, whatever is asked for
+pub report-stops : (cs ds : List Check) (asked : List ℕ) (x : Refusal) → refusal x ≡ report cs accepted → refusal x ≡ report (cs ++ ds) asked
+report-stops [] ds asked x = λ e. absurd (refusal-number x (ap (λ (l : List ℕ). getD l 0 0) e))
+report-stops (c ∷ cs) ds asked x = byBool (c .0) (λ b. rw b (λ e. e)) (λ b. rw b (λ e. report-stops cs ds asked x e))
 
 -- ---- conditions in words
 -- A check tells a fact: it holds exactly where that is not so.

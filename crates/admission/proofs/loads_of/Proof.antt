@@ -1,14 +1,26 @@
 use Prim.Native.Nat.{_-_}
+use mathlib.Core.Path.{refl}
 use borrow.Author.Needs.{needs}
-use Rattle.admission.proofs.Adding.{Rows, rows-start, row-ends, end-fits, start-fits, row-short, rows-room, input-low, rows-on, rows-end}
+use Rattle.admission.proofs.Adding.{Summed, summed-start, summed-in, input-from-one, output-from-one, input-low, output-low, in-fits, out-fits, summed-on, summed-end}
 use Rattle.admission.proofs.loads_of.Statement.{statement}
 use Rattle.admission.proofs.loads_of.Tie as tie
 
 abbrev Inv-loop : tie.InvT-loop
-Inv-loop ports matrix loads₀ from₀ i₀ loads from i = Rows ports matrix i from (loads .inputs) (loads .outputs)
+Inv-loop ports list loads₀ count f₀ loads f = Summed list count f (loads .inputs) (loads .outputs)
 
 abbrev μ-loop : tie.MeasureT-loop
-μ-loop ports matrix loads₀ from₀ i₀ loads from i = ports - i
+μ-loop ports list loads₀ count f₀ loads f = count - f
+
+loop-again : tie.Need-loop-again Inv-loop μ-loop
+loop-again c =
+    let third = c .before .before in
+    let second = third .before in
+    let first = second .before in
+    let at = first .before .before in
+    let cells = third .number-of3 .ensures in
+    let on = summed-on (at .before .before .before .pre) (at .loop .inv) (first .before .loop-test .taken) (cells .1)
+    (first .number-of .ensures .0) (second .number-of2 .ensures .0) refl refl (cells .0) in
+    on refl refl
 
 pub loads-of-spec : {M : Type 1} → statement M
 loads-of-spec =
@@ -16,16 +28,24 @@ loads-of-spec =
     (tie.spec
     Inv-loop
     μ-loop
-    (λ c. search (needs, rows-start))
-    (λ c. search (needs, end-fits))
-    (λ c. search (needs, start-fits))
+    (λ c κs. search needs)
+    (λ c. search (needs, summed-start))
+    (λ c κs. (search (needs, summed-in), search needs))
+    (λ c. search (needs, input-from-one))
+    (λ c κs. (search (needs, summed-in), search needs))
+    (λ c. search (needs, output-from-one))
+    (λ c κs. (search (needs, summed-in), search needs))
     (λ c. search needs)
-    (λ c. search needs)
-    (λ c. search (needs, row-ends))
-    (λ c κs. (search (needs, row-short), search (needs, rows-room)))
+    (λ c. search (needs, input-low))
+    (λ c. search (needs, in-fits))
     (λ c. search needs)
     (λ c. search (needs, input-low))
     (λ c. search needs)
+    (λ c. search (needs, output-low))
+    (λ c. search (needs, out-fits))
     (λ c. search needs)
-    (λ c. search (needs, rows-on))
-    (λ c. search (needs, rows-end)))
+    (λ c. search (needs, output-low))
+    (λ c. search needs)
+    (λ c. search needs)
+    loop-again
+    (λ c. search (needs, summed-end)))

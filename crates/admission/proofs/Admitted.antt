@@ -1,0 +1,26 @@
+-- Admit, where the list is refused, and where it goes on to its loads.
+use Prim.Native.Nat.{ℕ}
+use mathlib.Core.Path.{_≡_, sym, _∙_}
+use mathlib.Core.List.{List}
+use Rattle.model.specs.Refusals.{refusal, accepted, answered, overloads, admitted}
+use Rattle.model.specs.declared.Refusal.{Refusal}
+use Rattle.model.specs.declared.Answer.{Answer}
+use Rattle.model.specs.declared.Answer.the-variants.{Accepted, Refused}
+use Rattle.model.proofs.Demand2.{past-load}
+use Rattle.admission.specs.Lists.{ListAnswer, Taken}
+use Rattle.admission.specs.Overloads.{EveryLoad, decided}
+use Rattle.admission.proofs.Listed.{list-refused, list-well, well-taken}
+use Rattle.admission.proofs.Deciding.{decided-loads}
+
+module _ {ports slots : ℕ} {list : List ℕ} {a : Answer} (l : ListAnswer ports slots list (answered a)) where
+  pub admit-refused : {x : Refusal} → a ≡ Refused x → refusal x ≡ admitted ports slots list
+  unfolding admitted
+  admit-refused e = list-refused l e (overloads ports slots list) accepted
+
+  pub admit-taken : a ≡ Accepted → Taken ports list
+  admit-taken e = well-taken (list-well l e)
+
+  pub admit-decided : a ≡ Accepted → {ins outs : List ℕ} → EveryLoad ports list ins outs → {answer : List ℕ} → answer ≡ decided slots ins outs → answer ≡ admitted ports slots list
+  unfolding admitted
+  admit-decided e {ins} {outs} loads d =
+      d ∙ decided-loads slots ins outs (admit-taken e) loads ∙ sym (past-load ports slots list (list-well l e) (overloads ports slots list) accepted)
