@@ -1,27 +1,26 @@
 -- Blocks of the code's search, step by step.
-use Prim.Native.Nat.{ℕ, suc, _+_, _-_, _*_, _/_, _%_, _^_, _≤_, _<_}
+use Prim.Native.Nat.{ℕ, suc, _+_, _-_, _*_, _/_, _^_, _≤_, _<_}
 use mathlib.Core.Path.{_≡_, refl, sym, ap, _∙_}
 use mathlib.Core.List.{List, [], _∷_}
 use mathlib.Core.Bool.{Bool, true, false, not}
 use native.Mathlib.Omega.{arith}
-use lib.Arith.{digits-lt}
 use lib.Pow.{pow-pos, shr-shr}
 use lib.ListN.{getD}
-use native.Mathlib.Nat.{div-add-mod', mul-le-mul-right, mul-le-mul, pow-le-pow-right}
+use native.Mathlib.Nat.{mul-le-mul-right, pow-le-pow-right}
 use native.Mathlib.Numerals.{add-one}
 use mir.Syntax.{w64}
 use mir.Val.{Fits}
 use borrow.Author.Tests.{lt-ltb, le-ltb, lt-leb, le-leb, not-true, not-false}
 use Rattle.model.specs.Words.{first, near}
-use Rattle.model.specs.Loads.{Class, pair, input, output, total, Of}
-use Rattle.model.specs.Frames.{cells, runOf}
+use Rattle.model.specs.Flows.{flows, Class, flow, input, output, total}
+use Rattle.model.specs.Frames.{runOf}
 use Rattle.model.specs.Refusals.{levels, report}
 use Rattle.model.specs.Inspect.{unbalanced, unbalancedNumber, firstAt, unbalancedAt, unbalancedBlock}
 use Rattle.model.proofs.Searches.{Passed, passed-start, passed-on, passed-found, passed-done, first-low, first-found, first-before}
 use Rattle.model.proofs.Levels.{levels-power, depth-half, depth-fill}
 use Rattle.model.proofs.OneFrame.{double}
-use Rattle.model.proofs.Inspected.{position-of, unbalanced-yes, unbalanced-no}
-use Rattle.tally.specs.Tally.{place, Switch, Readable, tallyOf}
+use Rattle.model.proofs.Inspected.{In, nearFor, unbalanced-yes, unbalanced-no}
+use Rattle.tally.specs.Tally.{place, Readable, tallyOf}
 use Rattle.tally.proofs.Tallies.{tally-class}
 use Rattle.balance.specs.Balance.{far}
 
@@ -47,7 +46,7 @@ module _ (a b : List ℕ) (from count x u v : ℕ) (r : Bool) where
   far-found p h e f g k = passed-found p h (rw (sym e, sym f) (sym g ∙ k))
 
 -- ---- blocks
-module _ (ports slots half count b : ℕ) (frame : List ℕ) (r : Readable ports slots frame) (room : count * (2 * half) ≤ slots) (l : b < count) where
+module _ (ports slots half count b : ℕ) (list frame : List ℕ) (r : Readable ports slots list frame) (room : count * (2 * half) ≤ slots) (l : b < count) where
   pub block-ends : b * (2 * half) + half + half ≤ slots
   block-ends = let k = mul-le-mul-right {m = suc b} {n = count} (2 * half) l in omega arith
 
@@ -57,83 +56,77 @@ module _ (ports slots half count b : ℕ) (frame : List ℕ) (r : Readable ports
   pub block-fits : Fits w64 (b * (2 * half))
   block-fits = record { fits = (let k = block-ends in let m = r .slots-most in omega arith) }
 
-module _ (ports half count b : ℕ) (frame : List ℕ) (u : Bool) where
-  pub number-on : Passed (unbalancedNumber ports frame half) 0 count b → b < count → u ≡ unbalanced ports frame (b * (2 * half)) half → u ≡ false
-      → Passed (unbalancedNumber ports frame half) 0 count (b + 1)
+module _ (ports half count b : ℕ) (list frame : List ℕ) (u : Bool) where
+  pub number-on : Passed (unbalancedNumber ports list frame half) 0 count b → b < count → u ≡ unbalanced ports list frame (b * (2 * half)) half → u ≡ false
+      → Passed (unbalancedNumber ports list frame half) 0 count (b + 1)
   unfolding unbalancedNumber
   number-on p h e f = passed-on p (omega arith) (sym e ∙ f)
 
-  pub number-found : Passed (unbalancedNumber ports frame half) 0 count b → b < count → u ≡ unbalanced ports frame (b * (2 * half)) half → u ≡ true
-      → b ≡ first (unbalancedNumber ports frame half) 0 count
+  pub number-found : Passed (unbalancedNumber ports list frame half) 0 count b → b < count → u ≡ unbalanced ports list frame (b * (2 * half)) half → u ≡ true
+      → b ≡ first (unbalancedNumber ports list frame half) 0 count
   unfolding unbalancedNumber
   number-found p h e f = passed-found p (omega arith) (sym e ∙ f)
 
 -- ---- one block: where the tallies of its halves are apart, its classes are
-module _ (ports slots start half : ℕ) (frame a b : List ℕ) (r : Readable ports slots frame) (ya : a ≡ tallyOf ports (runOf ports start half frame))
-    (yb : b ≡ tallyOf ports (runOf ports (start + half) half frame)) where
-  far-class : (c : Class) → Of ports c → far a b (place ports c) ≡ not (near 1 (cells c ports (runOf ports start half frame)) (cells c ports (runOf ports (start + half) half frame)))
+module _ (ports slots start half : ℕ) (list frame a b : List ℕ) (r : Readable ports slots list frame) (ya : a ≡ tallyOf ports list (runOf ports start half frame))
+    (yb : b ≡ tallyOf ports list (runOf ports (start + half) half frame)) where
+  far-class : (c : Class) → In ports list c → far a b (place c) ≡ not (nearFor ports list frame start half c)
   unfolding far
-  far-class c of = rw (tally-class ports (runOf ports start half frame) a (r .switch) ya c of, tally-class ports (runOf ports (start + half) half frame) b (r .switch) yb c of)
+  far-class c of = rw (tally-class ports list (runOf ports start half frame) a (r .switch) ya c of, tally-class ports list (runOf ports (start + half) half frame) b (r .switch) yb c of)
 
-  class-far : (c : Class) → Of ports c → far a b (place ports c) ≡ true → true ≡ unbalanced ports frame start half
-  class-far c of e = sym (unbalanced-yes ports frame start half c of (not-true _ (sym (far-class c of) ∙ e)))
+  class-far : (c : Class) → In ports list c → far a b (place c) ≡ true → true ≡ unbalanced ports list frame start half
+  class-far c of e = sym (unbalanced-yes ports list frame start half c of (not-true _ (sym (far-class c of) ∙ e)))
 
-  pub pair-far : (x : ℕ) → x ≡ first (far a b) 0 (ports * ports) → x < ports * ports → true ≡ unbalanced ports frame start half
-  pair-far x e h =
-      let f = first-found (far a b) (ports * ports) 0 (omega arith) in
-      let d = div-add-mod' x ports in
-      class-far (pair (x / ports) (x % ports)) (position-of ports (λ c. true) x h) (ap (far a b) (d ∙ e) ∙ f)
+  pub flow-far : (n x : ℕ) → n ≡ flows list → x ≡ first (far a b) 0 n → x < n → true ≡ unbalanced ports list frame start half
+  flow-far n x d e h = class-far (flow x) (omega arith) (ap (far a b) e ∙ first-found (far a b) n 0 (omega arith))
 
-  pub input-far : (x : ℕ) → x ≡ first (far a b) 256 ports → x < 256 + ports → true ≡ unbalanced ports frame start half
+  pub input-far : (x : ℕ) → x ≡ first (far a b) 512 ports → x < 512 + ports → true ≡ unbalanced ports list frame start half
   input-far x e h =
-      let f = first-found (far a b) ports 256 (omega arith) in
-      let l = first-low (far a b) ports 256 in
-      let i = x - 256 in
-      let d : 256 + i ≡ x = omega arith in
+      let f = first-found (far a b) ports 512 (omega arith) in
+      let l = first-low (far a b) ports 512 in
+      let i = x - 512 in
+      let d : 512 + i ≡ x = omega arith in
       class-far (input i) (omega arith) (ap (far a b) (d ∙ e) ∙ f)
 
-  pub output-far : (x : ℕ) → x ≡ first (far a b) 272 ports → x < 272 + ports → true ≡ unbalanced ports frame start half
+  pub output-far : (x : ℕ) → x ≡ first (far a b) 528 ports → x < 528 + ports → true ≡ unbalanced ports list frame start half
   output-far x e h =
-      let f = first-found (far a b) ports 272 (omega arith) in
-      let l = first-low (far a b) ports 272 in
-      let i = x - 272 in
-      let d : 272 + i ≡ x = omega arith in
+      let f = first-found (far a b) ports 528 (omega arith) in
+      let l = first-low (far a b) ports 528 in
+      let i = x - 528 in
+      let d : 528 + i ≡ x = omega arith in
       class-far (output i) (omega arith) (ap (far a b) (d ∙ e) ∙ f)
 
-  pub total-far : (x : ℕ) → x ≡ first (far a b) 288 1 → x < 289 → true ≡ unbalanced ports frame start half
+  pub total-far : (x : ℕ) → x ≡ first (far a b) 544 1 → x < 545 → true ≡ unbalanced ports list frame start half
   total-far x e h =
-      let f = first-found (far a b) 1 288 (omega arith) in
-      let l = first-low (far a b) 1 288 in
-      let d : 288 ≡ x = omega arith in
+      let f = first-found (far a b) 1 544 (omega arith) in
+      let l = first-low (far a b) 1 544 in
+      let d : 544 ≡ x = omega arith in
       class-far total tt (ap (far a b) (d ∙ e) ∙ f)
 
-  pub none-far : (x y z t : ℕ) → x ≡ first (far a b) 0 (ports * ports) → y ≡ first (far a b) 256 ports → z ≡ first (far a b) 272 ports → t ≡ first (far a b) 288 1
-      → ports * ports ≤ x → 256 + ports ≤ y → 272 + ports ≤ z → 289 ≤ t → false ≡ unbalanced ports frame start half
-  none-far x y z t ex ey ez et hx hy hz ht = sym (unbalanced-no ports frame start half (λ c of. not-false _ (sym (far-class c of) ∙ near-at c of)))
+  pub none-far : (n x y z t : ℕ) → n ≡ flows list → x ≡ first (far a b) 0 n → y ≡ first (far a b) 512 ports → z ≡ first (far a b) 528 ports
+      → t ≡ first (far a b) 544 1 → n ≤ x → 512 + ports ≤ y → 528 + ports ≤ z → 545 ≤ t → false ≡ unbalanced ports list frame start half
+  none-far n x y z t d ex ey ez et hx hy hz ht = sym (unbalanced-no ports list frame start half (λ c of. not-false _ (sym (far-class c of) ∙ near-at c of)))
     where
-      near-at : (c : Class) → Of ports c → far a b (place ports c) ≡ false
-      near-at (pair i o) of = first-before (far a b) (ports * ports) 0 (i * ports + o) (omega arith) (omega (arith, digits-lt {q = i} {m = ports} {r = o} {c = ports} (of .0) (of .1)))
-      near-at (input i) of = first-before (far a b) ports 256 (256 + i) (omega arith) (omega arith)
-      near-at (output o) of = first-before (far a b) ports 272 (272 + o) (omega arith) (omega arith)
-      near-at total of = first-before (far a b) 1 288 288 (omega arith) (omega arith)
+      near-at : (c : Class) → In ports list c → far a b (place c) ≡ false
+      near-at (flow f) of = first-before (far a b) n 0 f (omega arith) (omega arith)
+      near-at (input i) of = first-before (far a b) ports 512 (512 + i) (omega arith) (omega arith)
+      near-at (output o) of = first-before (far a b) ports 528 (528 + o) (omega arith) (omega arith)
+      near-at total of = first-before (far a b) 1 544 544 (omega arith) (omega arith)
 
-pub square-fits : {ports : ℕ} → Switch ports → Fits w64 (ports * ports)
-square-fits {ports} s = record { fits = (let k : ports * ports ≤ 16 * 16 = mul-le-mul (s .high) (s .high) in omega arith) }
-
-pub square-most : {ports : ℕ} → Switch ports → 0 + ports * ports ≤ 289
-square-most {ports} s = let k : ports * ports ≤ 16 * 16 = mul-le-mul (s .high) (s .high) in omega arith
+pub count-most : {ports slots n : ℕ} {list frame : List ℕ} → Readable ports slots list frame → n ≡ flows list → 0 + n ≤ 545
+count-most r e = omega (arith, r .switch .few)
 
 -- ---- depths
-pub record Depths (ports slots k : ℕ) (frame : List ℕ) (t count half : ℕ) : Type 0 where
+pub record Depths (ports slots k : ℕ) (list frame : List ℕ) (t count half : ℕ) : Type 0 where
   pub most : t ≤ k
   pub number : count ≡ 2 ^ t
   pub size : half ≡ slots / 2 ^ suc t
-  pub passed : Passed (unbalancedAt ports slots frame) 0 k t
+  pub passed : Passed (unbalancedAt ports slots list frame) 0 k t
 
-pub depths-start : (ports slots k : ℕ) (frame : List ℕ) → Depths ports slots k frame 0 1 (slots / 2)
-depths-start ports slots k frame = record { most = omega arith; number = refl; size = refl; passed = passed-start (unbalancedAt ports slots frame) 0 k }
+pub depths-start : (ports slots k : ℕ) (list frame : List ℕ) → Depths ports slots k list frame 0 1 (slots / 2)
+depths-start ports slots k list frame = record { most = omega arith; number = refl; size = refl; passed = passed-start (unbalancedAt ports slots list frame) 0 k }
 
-module _ (ports slots k t count half : ℕ) (frame : List ℕ) (e : k ≡ levels slots) (l : k < 11) (d : Depths ports slots k frame t count half) (h : t < k) where
+module _ (ports slots k t count half : ℕ) (list frame : List ℕ) (e : k ≡ levels slots) (l : k < 11) (d : Depths ports slots k list frame t count half) (h : t < k) where
   power : slots ≡ 2 ^ k
   power = rw e (levels-power slots (omega arith))
 
@@ -153,29 +146,29 @@ module _ (ports slots k t count half : ℕ) (frame : List ℕ) (e : k ≡ levels
   pub count-fits : Fits w64 (2 * count)
   count-fits = record { fits = (let n = d .number in let w : 2 ^ t ≤ 2 ^ 10 = pow-le-pow-right (omega arith) {j = 10} (omega arith) in omega arith) }
 
-  module _ (b : ℕ) (f : b ≡ first (unbalancedNumber ports frame half) 0 count) where
-    at-depth : b ≡ firstAt ports slots frame t
-    at-depth = f ∙ ap (λ z. first (unbalancedNumber ports frame z) 0 count) (d .size) ∙ ap (λ z. first (unbalancedNumber ports frame (slots / 2 ^ suc t)) 0 z) (d .number)
+  module _ (b : ℕ) (f : b ≡ first (unbalancedNumber ports list frame half) 0 count) where
+    at-depth : b ≡ firstAt ports slots list frame t
+    at-depth = f ∙ ap (λ z. first (unbalancedNumber ports list frame z) 0 count) (d .size) ∙ ap (λ z. first (unbalancedNumber ports list frame (slots / 2 ^ suc t)) 0 z) (d .number)
 
-    pub depths-on : count ≤ b → Depths ports slots k frame (t + 1) (2 * count) (half / 2)
+    pub depths-on : count ≤ b → Depths ports slots k list frame (t + 1) (2 * count) (half / 2)
     unfolding unbalancedAt
     depths-on g =
         record {
           most = omega arith;
           number = ap (λ z. 2 * z) (d .number) ∙ sym (ap (λ z. 2 ^ z) (add-one t) ∙ double t);
           size = ap (λ z. z / 2) (d .size) ∙ shr-shr slots (suc t) 1 ∙ ap (λ z. slots / 2 ^ z) (omega arith);
-          passed = passed-on (d .passed) (omega arith) (le-ltb (firstAt ports slots frame t) (2 ^ t) (omega (arith, at-depth, d .number)));
+          passed = passed-on (d .passed) (omega arith) (le-ltb (firstAt ports slots list frame t) (2 ^ t) (omega (arith, at-depth, d .number)));
         }
 
-    found-at : b < count → t ≡ first (unbalancedAt ports slots frame) 0 k
+    found-at : b < count → t ≡ first (unbalancedAt ports slots list frame) 0 k
     unfolding unbalancedAt
-    found-at g = passed-found (d .passed) (omega arith) (lt-ltb (firstAt ports slots frame t) (2 ^ t) (omega (arith, at-depth, d .number)))
+    found-at g = passed-found (d .passed) (omega arith) (lt-ltb (firstAt ports slots list frame t) (2 ^ t) (omega (arith, at-depth, d .number)))
 
-    pub depths-found : b < count → 104 ∷ (b * (2 * half) + 1) ∷ (2 * half) ∷ [] ≡ report (unbalancedBlock ports slots frame ∷ []) (0 ∷ [])
+    pub depths-found : b < count → 104 ∷ (b * (2 * half) + 1) ∷ (2 * half) ∷ [] ≡ report (unbalancedBlock ports slots list frame ∷ []) (0 ∷ [])
     depths-found g =
         let a = found-at g in
         let s : 2 * half ≡ slots / 2 ^ t = ap (λ z. 2 * z) (d .size ∙ ap (λ z. z / 2 ^ suc t) power) ∙ depth-half k t h ∙ ap (λ z. z / 2 ^ t) (sym power) in
-        let m : first (unbalancedAt ports slots frame) 0 (levels slots) ≡ t = ap (λ z. first (unbalancedAt ports slots frame) 0 z) (sym e) ∙ sym a in
+        let m : first (unbalancedAt ports slots list frame) 0 (levels slots) ≡ t = ap (λ z. first (unbalancedAt ports slots list frame) 0 z) (sym e) ∙ sym a in
         rw (m, lt-ltb t (levels slots) (omega arith), ← s, ← at-depth, add-one)
 
     pub start-fits : b < count → Fits w64 (b * (2 * half))
@@ -184,9 +177,9 @@ module _ (ports slots k t count half : ℕ) (frame : List ℕ) (e : k ≡ levels
     pub number-fits : b < count → Fits w64 (b * (2 * half) + 1)
     number-fits g = record { fits = (let r = blocks-room in let q = slots-low in let w = mul-le-mul-right {m = b} {n = count} (2 * half) (omega arith) in omega arith) }
 
-pub depths-none : (ports slots k t count half : ℕ) (frame : List ℕ) → k ≡ levels slots → Depths ports slots k frame t count half → k ≤ t → 0 ∷ [] ≡ report (unbalancedBlock ports slots frame ∷ []) (0 ∷ [])
-depths-none ports slots k t count half frame e d h =
+pub depths-none : (ports slots k t count half : ℕ) (list frame : List ℕ) → k ≡ levels slots → Depths ports slots k list frame t count half → k ≤ t → 0 ∷ [] ≡ report (unbalancedBlock ports slots list frame ∷ []) (0 ∷ [])
+depths-none ports slots k t count half list frame e d h =
     let a = passed-done (d .passed) h in
     let l = d .most in
-    let m : first (unbalancedAt ports slots frame) 0 (levels slots) ≡ t = ap (λ z. first (unbalancedAt ports slots frame) 0 z) (sym e) ∙ sym a in
+    let m : first (unbalancedAt ports slots list frame) 0 (levels slots) ≡ t = ap (λ z. first (unbalancedAt ports slots list frame) 0 z) (sym e) ∙ sym a in
     rw (m, le-ltb t (levels slots) (omega arith))

@@ -9,6 +9,7 @@ ghost use mathlib.Core.List.{[], _∷_};
 ghost use Rattle.model.specs.Inspect.{finding, unbalanced, unbalancedNumber, unbalancedBlock};
 ghost use Rattle.tally.specs.Tally.{Readable};
 ghost use Rattle.balance.specs.Balance.{far};
+use flows::flows_of;
 use model::Inspection;
 use tally::tally_run;
 
@@ -27,8 +28,8 @@ fn apart(a: usize, b: usize) -> bool
 }
 
 // The first of some places where two tallies differ by more than 1; the place past them where there is none.
-fn first_far(a: &[u16; 289], b: &[u16; 289], from: usize, count: usize) -> usize
-    requires { ⌜ (from + count ≤ 289) × (length (now a) ≡ 289) × (length (now b) ≡ 289) ⌝ }
+fn first_far(a: &[u16; 545], b: &[u16; 545], from: usize, count: usize) -> usize
+    requires { ⌜ (from + count ≤ 545) × (length (now a) ≡ 545) × (length (now b) ≡ 545) ⌝ }
     ensures { λ r. ⌜ r ≡ first (far (now (a .entry)) (now (b .entry))) from count ⌝ }
 {
     let end = from + count;
@@ -42,39 +43,39 @@ fn first_far(a: &[u16; 289], b: &[u16; 289], from: usize, count: usize) -> usize
     x
 }
 
-// The two halves of a block, half slots each, differ by more than 1 for some pair, input or output, or in total.
-fn unbalanced_at(ports: usize, slots: usize, frame: &[u8], start: usize, half: usize) -> bool
-    requires { ⌜ Readable ports slots (now frame) × (start + half + half ≤ slots) ⌝ }
-    ensures { λ r. ⌜ r ≡ unbalanced ports (now (frame .entry)) start half ⌝ }
+// The two halves of a block, half slots each, differ by more than 1 for some flow, input or output, or in total.
+fn unbalanced_at(ports: usize, slots: usize, list: &[u16], frame: &[u16], start: usize, half: usize) -> bool
+    requires { ⌜ Readable ports slots (now list) (now frame) × (start + half + half ≤ slots) ⌝ }
+    ensures { λ r. ⌜ r ≡ unbalanced ports (now (list .entry)) (now (frame .entry)) start half ⌝ }
 {
-    let mut front = [0u16; 289];
-    let mut back = [0u16; 289];
-    tally_run(ports, slots, frame, start, half, &mut front);
-    tally_run(ports, slots, frame, start + half, half, &mut back);
-    let pairs = ports * ports;
-    if first_far(&front, &back, 0, pairs) < pairs {
+    let mut front = [0u16; 545];
+    let mut back = [0u16; 545];
+    tally_run(ports, slots, list, frame, start, half, &mut front);
+    tally_run(ports, slots, list, frame, start + half, half, &mut back);
+    let count = flows_of(list);
+    if first_far(&front, &back, 0, count) < count {
         return true;
     }
-    if first_far(&front, &back, 256, ports) < 256 + ports {
+    if first_far(&front, &back, 512, ports) < 512 + ports {
         return true;
     }
-    if first_far(&front, &back, 272, ports) < 272 + ports {
+    if first_far(&front, &back, 528, ports) < 528 + ports {
         return true;
     }
-    if first_far(&front, &back, 288, 1) < 289 {
+    if first_far(&front, &back, 544, 1) < 545 {
         return true;
     }
     false
 }
 
 // The number of the first unbalanced block among some, end to end, of twice half slots; their count where there is none.
-fn first_unbalanced(ports: usize, slots: usize, frame: &[u8], half: usize, count: usize) -> usize
-    requires { ⌜ Readable ports slots (now frame) × (count * (2 * half) ≤ slots) ⌝ }
-    ensures { λ r. ⌜ r ≡ first (unbalancedNumber ports (now (frame .entry)) half) 0 count ⌝ }
+fn first_unbalanced(ports: usize, slots: usize, list: &[u16], frame: &[u16], half: usize, count: usize) -> usize
+    requires { ⌜ Readable ports slots (now list) (now frame) × (count * (2 * half) ≤ slots) ⌝ }
+    ensures { λ r. ⌜ r ≡ first (unbalancedNumber ports (now (list .entry)) (now (frame .entry)) half) 0 count ⌝ }
 {
     let mut b: usize = 0;
     while b < count {
-        if unbalanced_at(ports, slots, frame, b * (2 * half), half) {
+        if unbalanced_at(ports, slots, list, frame, b * (2 * half), half) {
             return b;
         }
         b += 1;
@@ -83,15 +84,15 @@ fn first_unbalanced(ports: usize, slots: usize, frame: &[u8], half: usize, count
 }
 
 // The first unbalanced block, largest size first, then earliest.
-pub fn unbalanced_block(ports: usize, slots: usize, depths: usize, frame: &[u8]) -> Inspection
-    requires { ⌜ Readable ports slots (now frame) × (depths ≡ levels slots) × (depths < 11) ⌝ }
-    ensures { λ r. ⌜ finding r ≡ report (unbalancedBlock ports slots (now (frame .entry)) ∷ []) (0 ∷ []) ⌝ }
+pub fn unbalanced_block(ports: usize, slots: usize, depths: usize, list: &[u16], frame: &[u16]) -> Inspection
+    requires { ⌜ Readable ports slots (now list) (now frame) × (depths ≡ levels slots) × (depths < 11) ⌝ }
+    ensures { λ r. ⌜ finding r ≡ report (unbalancedBlock ports slots (now (list .entry)) (now (frame .entry)) ∷ []) (0 ∷ []) ⌝ }
 {
     let mut depth: usize = 0;
     let mut count: usize = 1;
     let mut half = slots / 2;
     while depth < depths {
-        let b = first_unbalanced(ports, slots, frame, half, count);
+        let b = first_unbalanced(ports, slots, list, frame, half, count);
         if b < count {
             let size = 2 * half;
             return Inspection::UnbalancedBlock {

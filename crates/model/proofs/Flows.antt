@@ -15,11 +15,11 @@ use Rattle.model.proofs.Sums.{sum-ext, sum-zero, sum-one, sum-swap}
 use Rattle.model.proofs.Halves.{load-flow}
 
 -- ---- the counts of a list
-map-length : (f : ℕ → ℕ) (a n : ℕ) → length (map f (upFrom a n)) ≡ n
+pub map-length : (f : ℕ → ℕ) (a n : ℕ) → length (map f (upFrom a n)) ≡ n
 map-length f a zero = refl
 map-length f a (suc n) = ap suc (map-length f (suc a) n)
 
-map-at : (f : ℕ → ℕ) (a n i : ℕ) → i < n → getD (map f (upFrom a n)) i 0 ≡ f (a + i)
+pub map-at : (f : ℕ → ℕ) (a n i : ℕ) → i < n → getD (map f (upFrom a n)) i 0 ≡ f (a + i)
 map-at f a zero i h = absurd (omega arith)
 map-at f a (suc n) zero h = ap f (omega arith)
 map-at f a (suc n) (suc i) h = map-at f (suc a) n i (omega arith) ∙ ap f (omega arith)
@@ -55,14 +55,14 @@ module _ (list : List ℕ) where
       rw (within-yes 1 (flows list) (suc f) (omega arith) h, d)
 
   -- an idle entry counts for nothing
-  idle-counts : (c : Class) (at : ℕ) → bit (counts c list at 0) ≡ 0
+  pub idle-counts : (c : Class) (at : ℕ) → bit (counts c list at 0) ≡ 0
   idle-counts (flow f) at = refl
   idle-counts (input i) at = byBool (eqb at i) (λ e. rw e) (λ e. rw e)
   idle-counts (output o) at = refl
   idle-counts total at = refl
 
   -- a flow of the input where it stands counts for the classes that the flow is of
-  own-counts : (c : Class) (at f : ℕ) → f < flows list → portOf list inputs f ≡ at → bit (counts c list at (suc f)) ≡ bit (isOf c (portOf list) f)
+  pub own-counts : (c : Class) (at f : ℕ) → f < flows list → portOf list inputs f ≡ at → bit (counts c list at (suc f)) ≡ bit (isOf c (portOf list) f)
   own-counts (flow g) at f h e = is-flow f (isOf (flow g) (portOf list)) h
   own-counts (input i) at f h e = rw (e, ne-eqb (suc f) 0 (omega arith)) (byBool (eqb at i) (λ d. rw d) (λ d. rw d))
   own-counts (output o) at f h e = is-flow f (isOf (output o) (portOf list)) h

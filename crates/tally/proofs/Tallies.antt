@@ -1,35 +1,28 @@
--- Tallies: one byte more, one slot more, a run.
-use Prim.Native.Nat.{ℕ, suc, zero, _+_, _-_, _*_, _/_, _%_, _≤_, _<_}
-use mathlib.Core.Path.{_≡_, refl, sym, ap, _∙_}
-use mathlib.Core.List.{List, map}
+-- Tallies: one entry more, one slot more, a run.
+use Prim.Native.Nat.{ℕ, suc, zero, _+_, _-_, _*_, _%_, _≤_, _<_}
+use mathlib.Core.Path.{_≡_, refl, sym, ap, _∙_, subst}
+use mathlib.Core.List.{List}
 use mathlib.Core.Logic.{_≢_}
 use mathlib.Core.Bool.{true, false, true≢false}
 use native.Mathlib.Omega.{arith}
-use native.Mathlib.Nat.{mul-le-mul-right, mul-le-mul, div-add-mod'}
+use native.Mathlib.Nat.{mul-le-mul-right, mul-le-mul, mul-add-mod-self-right, mod-eq-of-lt}
 use native.Mathlib.Numerals.{add-one}
-use lib.Arith.{digits-lt, digits-div, digits-mod}
 use mir.Syntax.{w16, w64}
 use mir.Val.{Fits}
 use lib.Dec.{eqb}
 use lib.ListN.{length, getD, set, take, drop, replicate, length-set, length-replicate, length-take, length-drop}
 use lib.Seq.{getD-set-same, getD-set-other, getD-take, getD-drop, set-out, ext-getD}
 use borrow.Author.Tests.{eq-eqb, ne-eqb, lt-ltb, le-ltb}
-use Rattle.model.specs.Words.{bit, within, upFrom, sumTo}
-use Rattle.model.specs.Loads.{Class, pair, input, output, total, Of}
+use Rattle.model.specs.Words.{bit, within, sumTo}
+use Rattle.model.specs.Flows.{flows, numberOf, inputs, outputs, portOf, Class, flow, input, output, total}
 use Rattle.model.specs.Frames.{counts, cells, runOf}
 use Rattle.model.proofs.Cases.{byBool, byEq, byLt, within-yes, within-above, within-true, is-yes, is-no}
 use Rattle.model.proofs.Sums.{sum-none, sum-more, sum-most, sum-zero}
 use Rattle.model.proofs.Settled.{zero-at}
-use Rattle.model.proofs.Inspected.{position-of}
+use Rattle.model.proofs.Flows.{map-length, map-at, by-entry, idle-counts, own-counts, flow-counts}
+use Rattle.model.proofs.Inspected.{In}
 use Rattle.model.proofs.Cells.{cells-slot, cells-none, cells-run, run-none, run-length}
-use Rattle.tally.specs.Tally.{place, Vacant, Switch, Readable, Room, Adds, ofByte, partly, cellsOf, ofSlot, numberAt, tallyOf}
-
--- ---- places
-pub pair-place : {ports i o : ℕ} → Switch ports → i < ports → o < ports → i * ports + o < 256
-pair-place {ports} {i} {o} s hi ho =
-    let a = mul-le-mul-right ports hi in
-    let b : ports * ports ≤ 16 * 16 = mul-le-mul (s .high) (s .high) in
-    omega arith
+use Rattle.tally.specs.Tally.{place, Vacant, Switch, Readable, RightAt, Room, Adds, ofEntry, partly, cellsOf, ofSlot, numberAt, tallyOf}
 
 -- ---- one more at a place
 abbrev pub raised : List ℕ → ℕ → List ℕ
@@ -41,137 +34,146 @@ raised-at l x y h =
     (λ e. rw e (getD-set-same l x (getD l x 0 + 1) 0 h ∙ ap (λ z. getD l x 0 + z) (sym (is-yes x x refl))))
     (λ n. getD-set-other l x y (getD l x 0 + 1) 0 n ∙ (let z = is-no y x n in omega arith))
 
--- ---- a byte
-idle : (c : Class) (i : ℕ) → ofByte i 0 c ≡ 0
-unfolding ofByte
-idle (pair j o) i = byEq i j (λ e. rw (eq-eqb i j e, ne-eqb 0 (suc o) (omega arith))) (λ n. rw (ne-eqb i j n))
-idle (input j) i = byEq i j (λ e. rw (eq-eqb i j e)) (λ n. rw (ne-eqb i j n))
-idle (output o) i = rw (ne-eqb 0 (suc o) (omega arith))
-idle total i = refl
+-- ---- an entry
+idle : (c : Class) (list : List ℕ) (i : ℕ) → ofEntry list i 0 c ≡ 0
+unfolding ofEntry
+idle (flow f) list i = idle-counts list (flow f) i
+idle (input j) list i = idle-counts list (input j) i
+idle (output o) list i = idle-counts list (output o) i
+idle total list i = refl
 
-pub adds-idle : (ports i b : ℕ) (old : List ℕ) → Room 65532 old → b ≡ 0 → Adds ports 1 (ofByte i b) old old
-adds-idle ports i b old l e =
+pub adds-idle : (ports i e : ℕ) (list old : List ℕ) → Room 65532 old → e ≡ 0 → Adds ports list 1 (ofEntry list i e) old old
+adds-idle ports i e list old l z =
     record {
       size = l .size;
-      each = λ c of. rw e (let z = idle c i in omega arith);
+      each = λ c of. rw z (let y = idle c list i in omega arith);
       none = λ x v. refl;
       bound = λ x. omega arith;
     }
 
-pub no-cell : (i b : ℕ) → b ≡ 0 → 0 ≡ bit (counts total i b)
-no-cell i b e = rw e
+pub no-cell : (list : List ℕ) (i e : ℕ) → e ≡ 0 → 0 ≡ bit (counts total list i e)
+no-cell list i e z = rw z
 
-pub one-cell : (i b : ℕ) → (b ≡ 0 → ⊥) → 1 ≡ bit (counts total i b)
-one-cell i b n = rw (ne-eqb b 0 n)
+-- a right entry that is not 0 is a flow of its input
+module _ {ports i e : ℕ} {list : List ℕ} (r : RightAt ports list i e) (n : e ≡ 0 → ⊥) where
+  own : (e - 1 < flows list) × (portOf list inputs (e - 1) ≡ i)
+  own =
+      by-entry list i e (r .is) (λ z. absurd (n z))
+      (λ f h z p. let d : e - 1 ≡ f = omega arith in rw d (h, p))
 
-module _ (ports i o : ℕ) (sw : Switch ports) (hi : i < ports) (ho : o < ports) where
-  -- what a cell of (i, o) adds at the place of a class
-  adds-at : (c : Class) → Of ports c
-      → bit (eqb (place ports c) (i * ports + o)) + bit (eqb (place ports c) (256 + i)) + bit (eqb (place ports c) (272 + o)) ≡ ofByte i (suc o) c
-  unfolding ofByte
-  adds-at (pair j u) of =
-      let p = pair-place sw (of .0) (of .1) in
-      let a = is-no (j * ports + u) (256 + i) (omega arith) in
-      let b = is-no (j * ports + u) (272 + o) (omega arith) in
-      byEq i j
-      (λ e. byEq o u
-      (λ d. rw (eq-eqb i j e, eq-eqb (suc o) (suc u) (ap suc d)) (let z = is-yes (j * ports + u) (i * ports + o) (omega (arith, ap (λ x. x * ports) e)) in omega arith))
-      (λ n. rw (eq-eqb i j e, ne-eqb (suc o) (suc u) (λ k. n (omega arith))) (let z = is-no (j * ports + u) (i * ports + o) (λ k. n (omega (arith, ap (λ x. x * ports) e))) in omega arith)))
-      (λ n. rw (ne-eqb i j n)
-      (let z = is-no (j * ports + u) (i * ports + o) (λ k. n (sym (digits-div i ho) ∙ ap (λ x. x / ports) (sym k) ∙ digits-div j (of .1))) in omega arith))
+  pub flow-low : e - 1 < flows list
+  flow-low = own .0
+
+  pub one-cell : 1 ≡ bit (counts total list i e)
+  one-cell = let d : e ≡ suc (e - 1) = omega arith in sym (ap (λ z. bit (counts total list i z)) d ∙ own-counts list total i (e - 1) (own .0) (own .1))
+
+  pub out-from-one : {x : ℕ} → x ≡ numberOf 1 list (e - 1) → 1 ≤ x
+  out-from-one {x} d = omega (arith, r .switch .ported outputs (e - 1) (own .0) .0)
+
+  pub flow-place : e - 1 < 545
+  flow-place = omega (arith, own .0, r .switch .few)
+
+  pub output-place : {x : ℕ} → x ≡ numberOf 1 list (e - 1) → 528 + (x - 1) < 545
+  output-place {x} d = omega (arith, r .switch .ported outputs (e - 1) (own .0) .1, r .switch .high)
+
+pub input-place : {ports i e : ℕ} {list : List ℕ} → RightAt ports list i e → 512 + i < 545
+input-place r = omega (arith, r .at, r .switch .high)
+
+module _ (ports i f o : ℕ) (list : List ℕ) (sw : Switch ports list) (hi : i < ports) (hf : f < flows list) (pi : portOf list inputs f ≡ i) (po : portOf list outputs f ≡ o) (ho : o < ports) where
+  -- what a cell of flow f adds at the place of a class
+  adds-at : (c : Class) → In ports list c → bit (eqb (place c) f) + bit (eqb (place c) (512 + i)) + bit (eqb (place c) (528 + o)) ≡ ofEntry list i (suc f) c
+  unfolding ofEntry
+  adds-at (flow g) of =
+      let w = sw .few in
+      let a = is-no g (512 + i) (omega arith) in
+      let b = is-no g (528 + o) (omega arith) in
+      let k = flow-counts list g i (suc f) of in
+      byEq g f
+      (λ e. omega (arith, k, is-yes g f e, is-yes (suc f) (suc g) (omega arith)))
+      (λ n. omega (arith, k, is-no g f n, is-no (suc f) (suc g) (λ z. n (omega arith))))
   adds-at (input j) of =
-      let p = pair-place sw hi ho in
+      let w = sw .few in
       let h = sw .high in
-      let a = is-no (256 + j) (i * ports + o) (omega arith) in
-      let b = is-no (256 + j) (272 + o) (omega arith) in
+      let a = is-no (512 + j) f (omega arith) in
+      let b = is-no (512 + j) (528 + o) (omega arith) in
       byEq i j
-      (λ e. rw (eq-eqb i j e, ne-eqb (suc o) 0 (omega arith)) (let z = is-yes (256 + j) (256 + i) (omega arith) in omega arith))
-      (λ n. rw (ne-eqb i j n) (let z = is-no (256 + j) (256 + i) (λ k. n (omega arith)) in omega arith))
+      (λ e. rw (eq-eqb i j e, ne-eqb (suc f) 0 (omega arith)) (let z = is-yes (512 + j) (512 + i) (omega arith) in omega arith))
+      (λ n. rw (ne-eqb i j n) (let z = is-no (512 + j) (512 + i) (λ k. n (omega arith)) in omega arith))
   adds-at (output u) of =
-      let p = pair-place sw hi ho in
+      let w = sw .few in
       let h = sw .high in
-      let a = is-no (272 + u) (i * ports + o) (omega arith) in
-      let b = is-no (272 + u) (256 + i) (omega arith) in
+      let a = is-no (528 + u) f (omega arith) in
+      let b = is-no (528 + u) (512 + i) (omega arith) in
+      let k = own-counts list (output u) i f hf pi ∙ ap (λ z. bit (eqb z u)) po in
       byEq o u
-      (λ e. rw (eq-eqb (suc o) (suc u) (ap suc e)) (let z = is-yes (272 + u) (272 + o) (omega arith) in omega arith))
-      (λ n. rw (ne-eqb (suc o) (suc u) (λ k. n (omega arith))) (let z = is-no (272 + u) (272 + o) (λ k. n (omega arith)) in omega arith))
+      (λ e. omega (arith, k, is-yes o u e, is-yes (528 + u) (528 + o) (omega arith)))
+      (λ n. omega (arith, k, is-no o u n, is-no (528 + u) (528 + o) (λ z. n (omega arith))))
   adds-at total of =
-      let p = pair-place sw hi ho in
+      let w = sw .few in
       let h = sw .high in
-      omega (arith, is-no 288 (i * ports + o) (omega arith), is-no 288 (256 + i) (omega arith), is-no 288 (272 + o) (omega arith))
+      omega (arith, is-no 544 f (omega arith), is-no 544 (512 + i) (omega arith), is-no 544 (528 + o) (omega arith))
 
   -- at no place more than 1
-  adds-most : (x : ℕ) → bit (eqb x (i * ports + o)) + bit (eqb x (256 + i)) + bit (eqb x (272 + o)) ≤ 1
+  adds-most : (x : ℕ) → bit (eqb x f) + bit (eqb x (512 + i)) + bit (eqb x (528 + o)) ≤ 1
   adds-most x =
-      let p = pair-place sw hi ho in
+      let w = sw .few in
       let h = sw .high in
-      byEq x (i * ports + o)
-      (λ e. omega (arith, is-yes x (i * ports + o) e, is-no x (256 + i) (omega arith), is-no x (272 + o) (omega arith)))
-      (λ n. byEq x (256 + i)
-      (λ e. omega (arith, is-no x (i * ports + o) n, is-yes x (256 + i) e, is-no x (272 + o) (omega arith)))
-      (λ m. byEq x (272 + o)
-      (λ e. omega (arith, is-no x (i * ports + o) n, is-no x (256 + i) m, is-yes x (272 + o) e))
-      (λ k. omega (arith, is-no x (i * ports + o) n, is-no x (256 + i) m, is-no x (272 + o) k))))
+      byEq x f
+      (λ e. omega (arith, is-yes x f e, is-no x (512 + i) (omega arith), is-no x (528 + o) (omega arith)))
+      (λ n. byEq x (512 + i)
+      (λ e. omega (arith, is-no x f n, is-yes x (512 + i) e, is-no x (528 + o) (omega arith)))
+      (λ m. byEq x (528 + o)
+      (λ e. omega (arith, is-no x f n, is-no x (512 + i) m, is-yes x (528 + o) e))
+      (λ k. omega (arith, is-no x f n, is-no x (512 + i) m, is-no x (528 + o) k))))
 
-  module _ (old : List ℕ) (size : length old ≡ 289) where
+  module _ (old : List ℕ) (size : length old ≡ 545) where
     abbrev pub counted : List ℕ
-    counted = raised (raised (raised old (i * ports + o)) (256 + i)) (272 + o)
+    counted = raised (raised (raised old f) (512 + i)) (528 + o)
 
-    counted-at : (x : ℕ) → getD counted x 0 ≡ getD old x 0 + (bit (eqb x (i * ports + o)) + bit (eqb x (256 + i)) + bit (eqb x (272 + o)))
+    counted-at : (x : ℕ) → getD counted x 0 ≡ getD old x 0 + (bit (eqb x f) + bit (eqb x (512 + i)) + bit (eqb x (528 + o)))
     counted-at x =
-        let p = pair-place sw hi ho in
+        let w = sw .few in
         let h = sw .high in
-        let a = raised old (i * ports + o) in
-        let b = raised a (256 + i) in
-        let la = length-set old (i * ports + o) (getD old (i * ports + o) 0 + 1) in
-        let lb = length-set a (256 + i) (getD a (256 + i) 0 + 1) in
-        omega (arith, raised-at old (i * ports + o) x (omega arith), raised-at a (256 + i) x (omega arith), raised-at b (272 + o) x (omega arith))
+        let a = raised old f in
+        let b = raised a (512 + i) in
+        let la = length-set old f (getD old f 0 + 1) in
+        let lb = length-set a (512 + i) (getD a (512 + i) 0 + 1) in
+        omega (arith, raised-at old f x (omega arith), raised-at a (512 + i) x (omega arith), raised-at b (528 + o) x (omega arith))
 
-    counted-length : length counted ≡ 289
+    counted-length : length counted ≡ 545
     counted-length = simp length-set size
 
-    counted-none : (x : ℕ) → Vacant ports x → getD counted x 0 ≡ getD old x 0
+    counted-none : (x : ℕ) → Vacant ports list x → getD counted x 0 ≡ getD old x 0
     counted-none x v =
-        let a = is-no x (i * ports + o) (v (pair i o) (hi, ho)) in
-        let b = is-no x (256 + i) (v (input i) hi) in
-        let c = is-no x (272 + o) (v (output o) ho) in
+        let a = is-no x f (v (flow f) hf) in
+        let b = is-no x (512 + i) (v (input i) hi) in
+        let c = is-no x (528 + o) (v (output o) ho) in
         omega (arith, counted-at x)
 
-    pub adds-all : Adds ports 1 (ofByte i (suc o)) old counted
+    pub adds-all : Adds ports list 1 (ofEntry list i (suc f)) old counted
     adds-all =
         record {
           size = counted-length;
-          each = λ c of. counted-at (place ports c) ∙ ap (λ z. getD old (place ports c) 0 + z) (adds-at c of);
+          each = λ c of. counted-at (place c) ∙ ap (λ z. getD old (place c) 0 + z) (adds-at c of);
           none = counted-none;
           bound = λ x. omega (arith, counted-at x, adds-most x);
         }
 
-pub adds-cell : (ports i b o : ℕ) (old t1 t2 t3 : List ℕ) → Switch ports → i < ports → b ≤ ports → Room 65532 old → (b ≡ 0 → ⊥) → o ≡ b - 1
-    → t1 ≡ set old (i * ports + o) (getD old (i * ports + o) 0 + 1)
-    → t2 ≡ set t1 (256 + i) (getD t1 (256 + i) 0 + 1)
-    → t3 ≡ set t2 (272 + o) (getD t2 (272 + o) 0 + 1)
-    → Adds ports 1 (ofByte i b) old t3
-adds-cell ports i b o old t1 t2 t3 sw hi hb room n e e1 e2 e3 =
-    let ho : o < ports = omega arith in
-    let k : b ≡ suc o = omega arith in
-    rw (e3, e2, e1, k) (adds-all ports i o sw hi ho old (room .size))
+pub adds-cell : {ports i e x : ℕ} {list old t1 t2 t3 : List ℕ} → RightAt ports list i e → Room 65532 old → (e ≡ 0 → ⊥) → x ≡ numberOf 1 list (e - 1)
+    → t1 ≡ set old (e - 1) (getD old (e - 1) 0 + 1)
+    → t2 ≡ set t1 (512 + i) (getD t1 (512 + i) 0 + 1)
+    → t3 ≡ set t2 (528 + (x - 1)) (getD t2 (528 + (x - 1)) 0 + 1)
+    → Adds ports list 1 (ofEntry list i e) old t3
+unfolding portOf
+adds-cell {ports} {i} {e} {x} {list} {old} {t1} {t2} {t3} r room n d e1 e2 e3 =
+    let f = e - 1 in
+    let k : e ≡ suc f = omega arith in
+    let w = own r n in
+    let out = r .switch .ported outputs f (w .0) in
+    rw (e3, e2, e1) (subst (λ z. Adds ports list 1 (ofEntry list i z) old (counted ports i f (x - 1) list (r .switch) (r .at) (w .0) (w .1) (ap (λ z. z - 1) (sym d)) (omega arith) old (room .size))) (sym k)
+    (adds-all ports i f (x - 1) list (r .switch) (r .at) (w .0) (w .1) (ap (λ z. z - 1) (sym d)) (omega arith) old (room .size)))
 
 -- ---- the room that the code asks for
-pub row-fits : {ports i : ℕ} → Switch ports → i < ports → Fits w64 (i * ports)
-row-fits {ports} {i} sw hi = record { fits = (let p = pair-place {o = 0} sw hi (omega (arith, sw .low)) in omega arith) }
-
-pub pair-low : {ports i b : ℕ} → Switch ports → i < ports → b ≤ ports → (b ≡ 0 → ⊥) → i * ports + (b - 1) < 289
-pair-low {ports} {i} {b} sw hi hb n = let p = pair-place {o = b - 1} sw hi (omega arith) in omega arith
-
-pub pair-fits : {ports i b : ℕ} → Switch ports → i < ports → b ≤ ports → (b ≡ 0 → ⊥) → Fits w64 (i * ports + (b - 1))
-pair-fits {ports} {i} {b} sw hi hb n = record { fits = (let p = pair-low sw hi hb n in omega arith) }
-
-pub input-low : {ports i : ℕ} → Switch ports → i < ports → 256 + i < 289
-input-low {ports} {i} sw hi = omega (arith, sw .high)
-
-pub output-low : {ports b : ℕ} → Switch ports → b ≤ ports → (b ≡ 0 → ⊥) → 272 + (b - 1) < 289
-output-low {ports} {b} sw h n = omega (arith, sw .high)
-
 room-within : {n : ℕ} {l : List ℕ} → n ≤ 65534 → Room n l → Room 65534 l
 room-within h r = record { size = r .size; each = λ x. omega (arith, r .each x) }
 
@@ -196,121 +198,120 @@ pub room-two : (x y : ℕ) (l l′ l″ : List ℕ) → l″ ≡ set l′ y (get
 room-two x y l l′ l″ f e r = room-raised 65533 y l′ l″ f (room-raised 65532 x l l′ e r)
 
 -- ---- a slot
-pub slot-start : (ports : ℕ) (slot old : List ℕ) → Room 65000 old → Adds ports 0 (partly slot 0) old old
+pub slot-start : (ports : ℕ) (list slot old : List ℕ) → Room 65000 old → Adds ports list 0 (partly list slot 0) old old
 unfolding partly
-slot-start ports slot old r =
-    record { size = r .size; each = λ c of. omega (arith, sum-none (λ i. ofByte i (getD slot i 0) c)); none = λ x v. refl; bound = λ x. omega arith }
+slot-start ports list slot old r =
+    record { size = r .size; each = λ c of. omega (arith, sum-none (λ i. ofEntry list i (getD slot i 0) c)); none = λ x v. refl; bound = λ x. omega arith }
 
-pub slot-on : (ports i b : ℕ) (slot old mid new : List ℕ) → Adds ports i (partly slot i) old mid → b ≡ getD slot i 0 → Adds ports 1 (ofByte i b) mid new
-    → Adds ports (i + 1) (partly slot (i + 1)) old new
+pub slot-on : (ports i b : ℕ) (list slot old mid new : List ℕ) → Adds ports list i (partly list slot i) old mid → b ≡ getD slot i 0
+    → Adds ports list 1 (ofEntry list i b) mid new → Adds ports list (i + 1) (partly list slot (i + 1)) old new
 unfolding partly
-slot-on ports i b slot old mid new a e n =
+slot-on ports i b list slot old mid new a e n =
     record {
       size = n .size;
       each = λ c of.
-          let f : ℕ → ℕ = λ i. ofByte i (getD slot i 0) c in
-          omega (arith, a .each c of, n .each c of, ap (λ z. ofByte i z c) e, sum-more i f, ap (λ z. sumTo z f) (add-one i));
+          let f : ℕ → ℕ = λ i. ofEntry list i (getD slot i 0) c in
+          omega (arith, a .each c of, n .each c of, ap (λ z. ofEntry list i z c) e, sum-more i f, ap (λ z. sumTo z f) (add-one i));
       none = λ x v. n .none x v ∙ a .none x v;
       bound = λ x. omega (arith, a .bound x, n .bound x);
     }
 
--- the cells among the bytes so far
-pub cells-start : (slot : List ℕ) → 0 ≡ cellsOf slot 0
+-- the cells among the entries so far
+pub cells-start : (list slot : List ℕ) → 0 ≡ cellsOf list slot 0
 unfolding cellsOf
-cells-start slot = sym (sum-none (λ i. bit (counts total i (getD slot i 0))))
+cells-start list slot = sym (sum-none (λ i. bit (counts total list i (getD slot i 0))))
 
-pub cells-on : (slot : List ℕ) (i b n r : ℕ) → n ≡ cellsOf slot i → b ≡ getD slot i 0 → r ≡ bit (counts total i b) → n + r ≡ cellsOf slot (i + 1)
+pub cells-on : (list slot : List ℕ) (i b n r : ℕ) → n ≡ cellsOf list slot i → b ≡ getD slot i 0 → r ≡ bit (counts total list i b) → n + r ≡ cellsOf list slot (i + 1)
 unfolding cellsOf
-cells-on slot i b n r e f g =
-    let c : ℕ → ℕ = λ i. bit (counts total i (getD slot i 0)) in
-    omega (arith, ap (λ z. bit (counts total i z)) f, sum-more i c, ap (λ z. sumTo z c) (add-one i))
+cells-on list slot i b n r e f g =
+    let c : ℕ → ℕ = λ i. bit (counts total list i (getD slot i 0)) in
+    omega (arith, ap (λ z. bit (counts total list i z)) f, sum-more i c, ap (λ z. sumTo z c) (add-one i))
 
-cells-most : (slot : List ℕ) (n : ℕ) → cellsOf slot n ≤ n
+cells-most : (list slot : List ℕ) (n : ℕ) → cellsOf list slot n ≤ n
 unfolding cellsOf
-cells-most slot n = let s = sum-most n 1 (λ i. bit (counts total i (getD slot i 0))) (λ i h. byBool (counts total i (getD slot i 0)) (λ e. rw e (omega arith)) (λ e. rw e (omega arith))) in omega arith
+cells-most list slot n = let s = sum-most n 1 (λ i. bit (counts total list i (getD slot i 0))) (λ i h. byBool (counts total list i (getD slot i 0)) (λ e. rw e (omega arith)) (λ e. rw e (omega arith))) in omega arith
 
-pub cells-fit : (ports i n : ℕ) (slot : List ℕ) → Readable ports 1 slot → i < length slot → n ≡ cellsOf slot i → (r : ℕ) → r ≤ 1 → Fits w16 (n + r)
-cells-fit ports i n slot d h e r l = record { fits = (let s = d .size in let w = d .switch .high in omega (arith, cells-most slot i)) }
+pub cells-fit : (ports i n : ℕ) (list slot : List ℕ) → Readable ports 1 list slot → i < length slot → n ≡ cellsOf list slot i → (r : ℕ) → r ≤ 1 → Fits w16 (n + r)
+cells-fit ports i n list slot d h e r l = record { fits = (let s = d .size in let w = d .switch .high in omega (arith, cells-most list slot i)) }
 
-module _ (ports i n : ℕ) (slot old mid : List ℕ) (a : Adds ports i (partly slot i) old mid) (r : Readable ports 1 slot) (e : n ≡ cellsOf slot i) where
-  total-same : getD mid 288 0 ≡ getD old 288 0
-  unfolding partly ofByte
+module _ (ports i n : ℕ) (list slot old mid : List ℕ) (a : Adds ports list i (partly list slot i) old mid) (r : Readable ports 1 list slot) (e : n ≡ cellsOf list slot i) where
+  total-same : getD mid 544 0 ≡ getD old 544 0
+  unfolding partly ofEntry
   total-same = let z = sum-zero i (λ j. 0) (λ j h. refl) in omega (arith, a .each total tt)
 
   pub total-fits : Room 65000 old → i ≤ length slot → (x : ℕ) → Fits w16 (getD mid x 0 + n)
   total-fits room l x =
-      record { fits = (let s = r .size in let w = r .switch .high in omega (arith, a .bound x, cells-most slot i, room .each x)) }
+      record { fits = (let s = r .size in let w = r .switch .high in omega (arith, a .bound x, cells-most list slot i, room .each x)) }
 
   module _ (l : i ≤ length slot) (g : length slot ≤ i) where
     all : i ≡ ports
     all = let s = r .size in omega arith
 
-    at-other : (x : ℕ) → x ≢ 288 → getD (set mid 288 (getD mid 288 0 + n)) x 0 ≡ getD mid x 0
-    at-other x d = getD-set-other mid 288 x (getD mid 288 0 + n) 0 d
+    at-other : (x : ℕ) → x ≢ 544 → getD (set mid 544 (getD mid 544 0 + n)) x 0 ≡ getD mid x 0
+    at-other x d = getD-set-other mid 544 x (getD mid 544 0 + n) 0 d
 
-    at-total : getD (set mid 288 (getD mid 288 0 + n)) 288 0 ≡ getD mid 288 0 + n
-    at-total = getD-set-same mid 288 (getD mid 288 0 + n) 0 (let s = a .size in omega arith)
+    at-total : getD (set mid 544 (getD mid 544 0 + n)) 544 0 ≡ getD mid 544 0 + n
+    at-total = getD-set-same mid 544 (getD mid 544 0 + n) 0 (let s = a .size in omega arith)
 
-    slot-cells : (c : Class) → cells c ports slot ≡ sumTo ports (λ j. bit (counts c j (getD slot j 0)))
-    slot-cells c = cells-slot ports c slot (let s = r .size in s ∙ omega arith)
+    slot-cells : (c : Class) → cells c ports list slot ≡ sumTo ports (λ j. bit (counts c list j (getD slot j 0)))
+    slot-cells c = cells-slot ports list c slot (let s = r .size in s ∙ omega arith)
 
-    port-each : (c : Class) → Of ports c → place ports c ≢ 288 → cells c ports slot ≡ partly slot ports c
-        → getD (set mid 288 (getD mid 288 0 + n)) (place ports c) 0 ≡ getD old (place ports c) 0 + cells c ports slot
-    port-each c of d k = omega (arith, at-other (place ports c) d, a .each c of, ap (λ z. partly slot z c) all)
+    port-each : (c : Class) → In ports list c → place c ≢ 544 → cells c ports list slot ≡ partly list slot ports c
+        → getD (set mid 544 (getD mid 544 0 + n)) (place c) 0 ≡ getD old (place c) 0 + cells c ports list slot
+    port-each c of d k = omega (arith, at-other (place c) d, a .each c of, ap (λ z. partly list slot z c) all)
 
-    slot-each : (c : Class) → Of ports c → getD (set mid 288 (getD mid 288 0 + n)) (place ports c) 0 ≡ getD old (place ports c) 0 + ofSlot ports slot c
-    unfolding partly ofByte cellsOf ofSlot
-    slot-each (pair j o) of = port-each (pair j o) of (let l = pair-place (r .switch) (of .0) (of .1) in omega arith) (slot-cells (pair j o))
+    slot-each : (c : Class) → In ports list c → getD (set mid 544 (getD mid 544 0 + n)) (place c) 0 ≡ getD old (place c) 0 + ofSlot ports list slot c
+    unfolding partly ofEntry cellsOf ofSlot
+    slot-each (flow f) of = port-each (flow f) of (let h = r .switch .few in omega arith) (slot-cells (flow f))
     slot-each (input j) of = port-each (input j) of (let h = r .switch .high in omega arith) (slot-cells (input j))
     slot-each (output o) of = port-each (output o) of (let h = r .switch .high in omega arith) (slot-cells (output o))
-    slot-each total of = omega (arith, at-total, total-same, ap (cellsOf slot) all, slot-cells total)
+    slot-each total of = omega (arith, at-total, total-same, ap (cellsOf list slot) all, slot-cells total)
 
-    pub slot-end : Adds ports ports (ofSlot ports slot) old (set mid 288 (getD mid 288 0 + n))
+    pub slot-end : Adds ports list ports (ofSlot ports list slot) old (set mid 544 (getD mid 544 0 + n))
     slot-end =
         record {
-          size = length-set mid 288 (getD mid 288 0 + n) ∙ a .size;
+          size = length-set mid 544 (getD mid 544 0 + n) ∙ a .size;
           each = slot-each;
           none = λ x v. at-other x (v total tt) ∙ a .none x v;
-          bound = λ x. byEq x 288
-              (λ d. rw d (omega (arith, at-total, total-same, cells-most slot i, all)))
+          bound = λ x. byEq x 544
+              (λ d. rw d (omega (arith, at-total, total-same, cells-most list slot i, all)))
               (λ d. omega (arith, at-other x d, a .bound x, all));
         }
 
 -- the room for one byte more
-pub slot-room : (ports i : ℕ) (slot old mid : List ℕ) → Adds ports i (partly slot i) old mid → Room 65000 old → Readable ports 1 slot → i < length slot → Room 65532 mid
-slot-room ports i slot old mid a r d h =
+pub slot-room : (ports i : ℕ) (list slot old mid : List ℕ) → Adds ports list i (partly list slot i) old mid → Room 65000 old → Readable ports 1 list slot → i < length slot → Room 65532 mid
+slot-room ports i list slot old mid a r d h =
     let s = d .size in
     let w = d .switch .high in
     record { size = a .size; each = λ x. omega (arith, a .bound x, r .each x) }
 
-pub byte-most : {ports i b : ℕ} {slot : List ℕ} → Readable ports 1 slot → i < length slot → b ≡ getD slot i 0 → b ≤ ports
-byte-most {ports} {i} {b} {slot} d h e = omega (arith, d .most i h)
-
-pub input-most : {ports i : ℕ} {slot : List ℕ} → Readable ports 1 slot → i < length slot → i < ports
-input-most {ports} {i} {slot} d h = let s = d .size in omega arith
+pub entry-right : {ports i e : ℕ} {list slot : List ℕ} → Readable ports 1 list slot → i < length slot → e ≡ getD slot i 0 → RightAt ports list i e
+entry-right {ports} {i} {e} {list} {slot} d h z =
+    let l : i < ports = (let s = d .size in omega arith) in
+    record { switch = d .switch; at = l; is = rw z (rw (mod-eq-of-lt l) at (d .each-right i h)) }
 
 pub one-fits : (x : ℕ) (tally : List ℕ) → Room 65534 tally → Fits w16 (getD tally x 0 + 1)
 one-fits x tally r = record { fits = omega (arith, r .each x) }
 
 -- ---- a run
 -- a tally has the cells of each class, and 0 at the other places
-pub record Tally (ports : ℕ) (bytes tally : List ℕ) : Type 0 where
-  pub size : length tally ≡ 289
-  pub each : (c : Class) → Of ports c → getD tally (place ports c) 0 ≡ cells c ports bytes
-  pub none : (x : ℕ) → Vacant ports x → getD tally x 0 ≡ 0
-  pub bound : (x : ℕ) → getD tally x 0 ≤ length bytes
+pub record Tally (ports : ℕ) (list entries tally : List ℕ) : Type 0 where
+  pub size : length tally ≡ 545
+  pub each : (c : Class) → In ports list c → getD tally (place c) 0 ≡ cells c ports list entries
+  pub none : (x : ℕ) → Vacant ports list x → getD tally x 0 ≡ 0
+  pub bound : (x : ℕ) → getD tally x 0 ≤ length entries
 
-pub tally-start : (ports start : ℕ) (frame tally : List ℕ) → tally ≡ replicate 289 0 → Tally ports (runOf ports start 0 frame) tally
-tally-start ports start frame tally e =
+pub tally-start : (ports start : ℕ) (list frame tally : List ℕ) → tally ≡ replicate 545 0 → Tally ports list (runOf ports start 0 frame) tally
+tally-start ports start list frame tally e =
     rw (e, run-none ports start frame)
     (record {
-      size = length-replicate {A = ℕ} 289 0;
-      each = λ c of. zero-at 289 (place ports c) ∙ sym (cells-none ports c);
-      none = λ x v. zero-at 289 x;
-      bound = λ x. omega (arith, zero-at 289 x);
+      size = length-replicate {A = ℕ} 545 0;
+      each = λ c of. zero-at 545 (place c) ∙ sym (cells-none ports list c);
+      none = λ x v. zero-at 545 x;
+      bound = λ x. omega (arith, zero-at 545 x);
     })
 
-module _ (ports slots start len t : ℕ) (frame : List ℕ) (r : Readable ports slots frame) (h : start + len ≤ slots) (l : t < len) where
+module _ (ports slots start len t : ℕ) (list frame : List ℕ) (r : Readable ports slots list frame) (h : start + len ≤ slots) (l : t < len) where
   pub part-ends : (start + t) * ports + ports ≤ length frame
   part-ends = let k = mul-le-mul-right {m = start + t + 1} {n = slots} ports (omega arith) in omega (arith, r .size)
 
@@ -323,6 +324,9 @@ module _ (ports slots start len t : ℕ) (frame : List ℕ) (r : Readable ports 
   pub end-fits : Fits w64 ((start + t) * ports + ports)
   end-fits = record { fits = (let a = part-ends in let b = frame-most in omega arith) }
 
+  pub offset-fits : Fits w64 ((start + t) * ports * 2)
+  offset-fits = record { fits = (let a = part-ends in let b = frame-most in omega arith) }
+
   -- the part of the frame that the code lends
   abbrev pub part : List ℕ
   part = take ((start + t) * ports + ports - (start + t) * ports) (drop ((start + t) * ports) frame)
@@ -334,28 +338,29 @@ module _ (ports slots start len t : ℕ) (frame : List ℕ) (r : Readable ports 
   part-length : length part ≡ ports
   part-length = let a = part-ends in simp (length-take, length-drop) (omega arith)
 
-  pub part-readable : Readable ports 1 part
+  pub part-readable : Readable ports 1 list part
   part-readable =
       record {
         switch = r .switch;
         slots-most = omega arith;
         size = part-length ∙ omega arith;
-        most = λ q k.
+        each-right = λ q k.
             let lp = part-length in
             let a = part-ends in
+            let at : ((start + t) * ports + q) % ports ≡ q % ports = mul-add-mod-self-right (start + t) ports q in
             rw (getD-take ((start + t) * ports + ports - (start + t) * ports) (drop ((start + t) * ports) frame) q 0 (omega arith), getD-drop ((start + t) * ports) frame q 0)
-            (r .most ((start + t) * ports + q) (omega arith));
+            (rw at at (r .each-right ((start + t) * ports + q) (omega arith)));
       }
 
   run-size : length (runOf ports start t frame) ≡ t * ports
   run-size = run-length ports start t frame (let k = mul-le-mul-right {m = start + t} {n = slots} ports (omega arith) in omega (arith, r .size))
 
-  pub tally-room : (mid : List ℕ) → Tally ports (runOf ports start t frame) mid → Room 65000 mid
+  pub tally-room : (mid : List ℕ) → Tally ports list (runOf ports start t frame) mid → Room 65000 mid
   tally-room mid y =
       let k = mul-le-mul-right {m = start + t} {n = slots} ports (omega arith) in
       record { size = y .size; each = λ x. omega (arith, y .bound x, run-size, frame-most, r .size) }
 
-  pub tally-on : (mid new : List ℕ) → Tally ports (runOf ports start t frame) mid → Adds ports ports (ofSlot ports part) mid new → Tally ports (runOf ports start (t + 1) frame) new
+  pub tally-on : (mid new : List ℕ) → Tally ports list (runOf ports start t frame) mid → Adds ports list ports (ofSlot ports list part) mid new → Tally ports list (runOf ports start (t + 1) frame) new
   unfolding ofSlot
   tally-on mid new y a =
       let k = mul-le-mul-right {m = start + t} {n = slots} ports (omega arith) in
@@ -364,94 +369,80 @@ module _ (ports slots start len t : ℕ) (frame : List ℕ) (r : Readable ports 
       record {
         size = a .size;
         each = λ c of.
-            a .each c of ∙ omega (arith, y .each c of, ap (cells c ports) part-is, cells-run ports c start t 1 frame (omega (arith, r .size)));
+            a .each c of ∙ omega (arith, y .each c of, ap (cells c ports list) part-is, cells-run ports list c start t 1 frame (omega (arith, r .size)));
         none = λ x v. a .none x v ∙ y .none x v;
         bound = λ x. omega (arith, a .bound x, y .bound x, run-size);
       }
 
 -- ---- the tally as a list
-listed : (f : ℕ → ℕ) (a n x : ℕ) → x < n → getD (map f (upFrom a n)) x 0 ≡ f (a + x)
-listed f a zero x h = absurd (omega arith)
-listed f a (suc n) zero h = ap f (omega arith)
-listed f a (suc n) (suc x) h = listed f (suc a) n x (omega arith) ∙ ap f (omega arith)
-
-listed-length : (f : ℕ → ℕ) (a n : ℕ) → length (map f (upFrom a n)) ≡ n
-listed-length f a zero = refl
-listed-length f a (suc n) = ap suc (listed-length f (suc a) n)
-
-tally-length : (ports : ℕ) (bytes : List ℕ) → length (tallyOf ports bytes) ≡ 289
+tally-length : (ports : ℕ) (list entries : List ℕ) → length (tallyOf ports list entries) ≡ 545
 unfolding tallyOf
-tally-length ports bytes = listed-length (numberAt ports bytes) 0 289
+tally-length ports list entries = map-length (numberAt ports list entries) 0 545
 
-tally-at : (ports : ℕ) (bytes : List ℕ) (x : ℕ) → x < 289 → getD (tallyOf ports bytes) x 0 ≡ numberAt ports bytes x
+tally-at : (ports : ℕ) (list entries : List ℕ) (x : ℕ) → x < 545 → getD (tallyOf ports list entries) x 0 ≡ numberAt ports list entries x
 unfolding tallyOf
-tally-at ports bytes x h = listed (numberAt ports bytes) 0 289 x h ∙ ap (numberAt ports bytes) (omega arith)
+tally-at ports list entries x h = map-at (numberAt ports list entries) 0 545 x h ∙ ap (numberAt ports list entries) (omega arith)
 
-module _ (ports : ℕ) (bytes : List ℕ) where
+module _ (ports : ℕ) (list entries : List ℕ) where
   -- what the places of the classes and the others have
-  number-class : Switch ports → (c : Class) → Of ports c → numberAt ports bytes (place ports c) ≡ cells c ports bytes
+  number-class : Switch ports list → (c : Class) → In ports list c → numberAt ports list entries (place c) ≡ cells c ports list entries
   unfolding numberAt
-  number-class s (pair i o) of =
-      let l = digits-lt {q = i} {m = ports} {r = o} {c = ports} (of .0) (of .1) in
-      rw (lt-ltb (i * ports + o) (ports * ports) l, digits-div i (of .1), digits-mod i (of .1))
+  number-class s (flow f) of = rw (lt-ltb f (flows list) of)
   number-class s (input i) of =
-      let k : ports * ports ≤ 16 * 16 = mul-le-mul (s .high) (s .high) in
-      let e : 256 + i - 256 ≡ i = omega arith in
-      rw (le-ltb (256 + i) (ports * ports) (omega arith), within-yes 256 (255 + ports) (256 + i) (omega arith) (omega arith), e)
+      let e : 512 + i - 512 ≡ i = omega arith in
+      rw (le-ltb (512 + i) (flows list) (omega (arith, s .few)), within-yes 512 (511 + ports) (512 + i) (omega arith) (omega arith), e)
   number-class s (output o) of =
-      let k : ports * ports ≤ 16 * 16 = mul-le-mul (s .high) (s .high) in
-      let e : 272 + o - 272 ≡ o = omega arith in
-      rw (le-ltb (272 + o) (ports * ports) (omega arith), within-above 256 (255 + ports) (272 + o) (omega arith) (omega (arith, s .high)), within-yes 272 (271 + ports) (272 + o) (omega arith) (omega arith), e)
+      let e : 528 + o - 528 ≡ o = omega arith in
+      rw (le-ltb (528 + o) (flows list) (omega (arith, s .few)), within-above 512 (511 + ports) (528 + o) (omega arith) (omega (arith, s .high)), within-yes 528 (527 + ports) (528 + o) (omega arith) (omega arith), e)
   number-class s total of =
-      let k : ports * ports ≤ 16 * 16 = mul-le-mul (s .high) (s .high) in
-      rw (le-ltb 288 (ports * ports) (omega arith), within-above 256 (255 + ports) 288 (omega arith) (omega (arith, s .high)), within-above 272 (271 + ports) 288 (omega arith) (omega (arith, s .high)))
+      rw (le-ltb 544 (flows list) (omega (arith, s .few)), within-above 512 (511 + ports) 544 (omega arith) (omega (arith, s .high)), within-above 528 (527 + ports) 544 (omega arith) (omega (arith, s .high)))
 
-  module _ (tally : List ℕ) (y : Tally ports bytes tally) (x : ℕ) where
-    at-class : (c : Class) → Of ports c → place ports c ≡ x → getD tally x 0 ≡ cells c ports bytes
+  module _ (tally : List ℕ) (y : Tally ports list entries tally) (x : ℕ) where
+    at-class : (c : Class) → In ports list c → place c ≡ x → getD tally x 0 ≡ cells c ports list entries
     at-class c of e = ap (λ z. getD tally z 0) (sym e) ∙ y .each c of
 
-    vacant : ports * ports ≤ x → within 256 (255 + ports) x ≡ false → within 272 (271 + ports) x ≡ false → x ≢ 288 → Vacant ports x
-    vacant h f g n (pair i o) of e = let l = digits-lt {q = i} {m = ports} {r = o} {c = ports} (of .0) (of .1) in omega arith
-    vacant h f g n (input i) of e = true≢false (sym (within-yes 256 (255 + ports) x (omega arith) (omega arith)) ∙ f)
-    vacant h f g n (output o) of e = true≢false (sym (within-yes 272 (271 + ports) x (omega arith) (omega arith)) ∙ g)
+    vacant : flows list ≤ x → within 512 (511 + ports) x ≡ false → within 528 (527 + ports) x ≡ false → x ≢ 544 → Vacant ports list x
+    vacant h f g n (flow k) of e = omega arith
+    vacant h f g n (input i) of e = true≢false (sym (within-yes 512 (511 + ports) x (omega arith) (omega arith)) ∙ f)
+    vacant h f g n (output o) of e = true≢false (sym (within-yes 528 (527 + ports) x (omega arith) (omega arith)) ∙ g)
     vacant h f g n total of e = n e
 
-    number-is : getD tally x 0 ≡ numberAt ports bytes x
+    number-is : getD tally x 0 ≡ numberAt ports list entries x
     unfolding numberAt
     number-is =
-        byLt x (ports * ports)
-        (λ h. rw (lt-ltb x (ports * ports) h) (at-class (pair (x / ports) (x % ports)) (position-of ports (λ c. true) x h) (div-add-mod' x ports)))
-        (λ h. rw (le-ltb x (ports * ports) h)
-        (byBool (within 256 (255 + ports) x)
-        (λ f. let w = within-true 256 (255 + ports) x f in rw f (at-class (input (x - 256)) (omega arith) (omega arith)))
+        byLt x (flows list)
+        (λ h. rw (lt-ltb x (flows list) h) (at-class (flow x) h refl))
+        (λ h. rw (le-ltb x (flows list) h)
+        (byBool (within 512 (511 + ports) x)
+        (λ f. let w = within-true 512 (511 + ports) x f in rw f (at-class (input (x - 512)) (omega arith) (omega arith)))
         (λ f. rw f
-        (byBool (within 272 (271 + ports) x)
-        (λ g. let w = within-true 272 (271 + ports) x g in rw g (at-class (output (x - 272)) (omega arith) (omega arith)))
+        (byBool (within 528 (527 + ports) x)
+        (λ g. let w = within-true 528 (527 + ports) x g in rw g (at-class (output (x - 528)) (omega arith) (omega arith)))
         (λ g. rw g
-        (byEq x 288
-        (λ e. rw (eq-eqb x 288 e) (at-class total tt (sym e)))
-        (λ n. rw (ne-eqb x 288 n) (y .none x (vacant h f g n)))))))))
+        (byEq x 544
+        (λ e. rw (eq-eqb x 544 e) (at-class total tt (sym e)))
+        (λ n. rw (ne-eqb x 544 n) (y .none x (vacant h f g n)))))))))
 
-  tally-is : (tally : List ℕ) → Tally ports bytes tally → tally ≡ tallyOf ports bytes
+  tally-is : (tally : List ℕ) → Tally ports list entries tally → tally ≡ tallyOf ports list entries
   tally-is tally y =
-      ext-getD 0 tally (tallyOf ports bytes) (y .size ∙ sym (tally-length ports bytes))
-      (λ x h. number-is tally y x ∙ sym (tally-at ports bytes x (omega (arith, y .size))))
+      ext-getD 0 tally (tallyOf ports list entries) (y .size ∙ sym (tally-length ports list entries))
+      (λ x h. number-is tally y x ∙ sym (tally-at ports list entries x (omega (arith, y .size))))
 
-pub tally-end : (ports start len t : ℕ) (frame tally : List ℕ) → Tally ports (runOf ports start t frame) tally → t ≤ len → len ≤ t
-    → tally ≡ tallyOf ports (runOf ports start len frame)
-tally-end ports start len t frame tally y a b = let e : len ≡ t = omega arith in rw e (tally-is ports (runOf ports start t frame) tally y)
+pub tally-end : (ports start len t : ℕ) (list frame tally : List ℕ) → Tally ports list (runOf ports start t frame) tally → t ≤ len → len ≤ t
+    → tally ≡ tallyOf ports list (runOf ports start len frame)
+tally-end ports start len t list frame tally y a b = let e : len ≡ t = omega arith in rw e (tally-is ports list (runOf ports start t frame) tally y)
 
-pub tally-size : (ports : ℕ) (bytes tally : List ℕ) → tally ≡ tallyOf ports bytes → length tally ≡ 289
-tally-size ports bytes tally e = ap length e ∙ tally-length ports bytes
+pub tally-size : (ports : ℕ) (list entries tally : List ℕ) → tally ≡ tallyOf ports list entries → length tally ≡ 545
+tally-size ports list entries tally e = ap length e ∙ tally-length ports list entries
 
 -- what a tally has for each class
-pub tally-class : (ports : ℕ) (bytes tally : List ℕ) → Switch ports → tally ≡ tallyOf ports bytes → (c : Class) → Of ports c
-    → getD tally (place ports c) 0 ≡ cells c ports bytes
-tally-class ports bytes tally s e c of =
-    ap (λ z. getD z (place ports c) 0) e ∙ tally-at ports bytes (place ports c) (low c of) ∙ number-class ports bytes s c of
+pub tally-class : (ports : ℕ) (list entries tally : List ℕ) → Switch ports list → tally ≡ tallyOf ports list entries → (c : Class) → In ports list c
+    → getD tally (place c) 0 ≡ cells c ports list entries
+tally-class ports list entries tally s e c of =
+    ap (λ z. getD z (place c) 0) e ∙ tally-at ports list entries (place c) (low c of) ∙ number-class ports list entries s c of
   where
-    low : (c : Class) → Of ports c → place ports c < 289
-    low (pair i o) of = let l = pair-place s (of .0) (of .1) in omega arith
+    low : (c : Class) → In ports list c → place c < 545
+    low (flow f) of = omega (arith, s .few)
     low (input i) of = omega (arith, s .high)
     low (output o) of = omega (arith, s .high)
     low total of = omega arith

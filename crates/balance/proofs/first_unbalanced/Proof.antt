@@ -7,10 +7,10 @@ use Rattle.balance.proofs.first_unbalanced.Statement.{statement}
 use Rattle.balance.proofs.first_unbalanced.Tie as tie
 
 abbrev Inv-loop : tie.InvT-loop
-Inv-loop ports slots frame half count b₀ b = Passed (unbalancedNumber ports frame half) 0 count b
+Inv-loop ports slots list frame half count b₀ b = Passed (unbalancedNumber ports list frame half) 0 count b
 
 abbrev μ-loop : tie.MeasureT-loop
-μ-loop ports slots frame half count b₀ b = count - b
+μ-loop ports slots list frame half count b₀ b = count - b
 
 pub first-unbalanced-spec : {M : Type 1} → statement M
 first-unbalanced-spec =

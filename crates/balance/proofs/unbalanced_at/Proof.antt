@@ -1,6 +1,6 @@
 use Prim.Native.Nat.{_<_}
 use Rattle.tally.proofs.Tallies.{tally-size}
-use Rattle.balance.proofs.Blocks.{square-fits, square-most, pair-far, input-far, output-far, total-far, none-far}
+use Rattle.balance.proofs.Blocks.{count-most, flow-far, input-far, output-far, total-far, none-far}
 use borrow.Author.Needs.{needs}
 use native.Mathlib.Omega.{arith}
 use Rattle.balance.proofs.unbalanced_at.Statement.{statement}
@@ -13,9 +13,9 @@ unbalanced-at-spec =
     (λ c κs. search needs)
     (λ c. search needs)
     (λ c κs. search needs)
-    (λ c. search (needs, square-fits))
-    (λ c κs. (search (needs, square-most), search (needs, tally-size), search (needs, tally-size)))
-    (λ c. search (needs, pair-far))
+    (λ c κs. search needs)
+    (λ c κs. (search (needs, count-most), search (needs, tally-size), search (needs, tally-size)))
+    (λ c. search (needs, flow-far))
     (λ c κs. (search needs, search (needs, tally-size), search (needs, tally-size)))
     (λ c. search needs)
     (λ c. search (needs, input-far))
@@ -23,12 +23,13 @@ unbalanced-at-spec =
     (λ c. search needs)
     (λ c. search (needs, output-far))
     (λ c κs. (search needs, search (needs, tally-size), search (needs, tally-size)))
-    (λ c. let found : c .before .first-far4 .result < 289 = omega (arith, c .if4 .taken) in search (needs, total-far))
+    (λ c. let found : c .before .first-far4 .result < 545 = omega (arith, c .if4 .taken) in search (needs, total-far))
     (λ c.
     let outputs = c .before .before .before .before in
     let inputs = outputs .before .before .before .before in
     let pairs = inputs .before .before .before .before in
-    let tallies = pairs .before .before .before .before in
-    none-far _ _ _ _ _ _ _ (tallies .before .before .before .before .before .pre .0) (tallies .before .before .tally-run .ensures) (tallies .tally-run2 .ensures) _ _ _ _
-    (pairs .before .first-far .ensures) (inputs .before .first-far2 .ensures) (outputs .before .first-far3 .ensures) (c .before .first-far4 .ensures)
+    let count = pairs .before .before .before .before in
+    let tallies = count .before in
+    none-far _ _ _ _ _ _ _ _ (tallies .before .before .before .before .before .before .pre .0) (tallies .before .before .tally-run .ensures) (tallies .tally-run2 .ensures) _ _ _ _ _
+    (count .flows-of .ensures) (pairs .before .first-far .ensures) (inputs .before .first-far2 .ensures) (outputs .before .first-far3 .ensures) (c .before .first-far4 .ensures)
     (pairs .if1 .left) (inputs .if2 .left) (outputs .if3 .left) (c .if4 .left)))

@@ -5,10 +5,10 @@ use Rattle.balance.proofs.unbalanced_block.Statement.{statement}
 use Rattle.balance.proofs.unbalanced_block.Tie as tie
 
 abbrev Inv-loop : tie.InvT-loop
-Inv-loop ports slots depths frame depth₀ count₀ half₀ depth count half = Depths ports slots depths frame depth count half
+Inv-loop ports slots depths list frame depth₀ count₀ half₀ depth count half = Depths ports slots depths list frame depth count half
 
 abbrev μ-loop : tie.MeasureT-loop
-μ-loop ports slots depths frame depth₀ count₀ half₀ depth count half = depths - depth
+μ-loop ports slots depths list frame depth₀ count₀ half₀ depth count half = depths - depth
 
 pub unbalanced-block-spec : {M : Type 1} → statement M
 unbalanced-block-spec =
@@ -16,7 +16,7 @@ unbalanced-block-spec =
     (tie.spec
     Inv-loop
     μ-loop
-    (λ c. depths-start _ _ _ _)
+    (λ c. depths-start _ _ _ _ _)
     (λ c κs. (search needs, search (needs, blocks-room)))
     (λ c. search (needs, size-fits))
     (λ c. search (needs, start-fits))
