@@ -44,7 +44,14 @@ fn first_far(a: &[u16; 545], b: &[u16; 545], from: usize, count: usize) -> usize
 }
 
 // The two halves of a block, half slots each, differ by more than 1 for some flow, input or output, or in total.
-fn unbalanced_at(ports: usize, slots: usize, list: &[u16], frame: &[u16], start: usize, half: usize) -> bool
+fn unbalanced_at(
+    ports: usize,
+    slots: usize,
+    list: &[u16],
+    frame: &[u16],
+    start: usize,
+    half: usize,
+) -> bool
     requires { ⌜ Readable ports slots (now list) (now frame) × (start + half + half ≤ slots) ⌝ }
     ensures { λ r. ⌜ r ≡ unbalanced ports (now (list .entry)) (now (frame .entry)) start half ⌝ }
 {
@@ -69,7 +76,14 @@ fn unbalanced_at(ports: usize, slots: usize, list: &[u16], frame: &[u16], start:
 }
 
 // The number of the first unbalanced block among some, end to end, of twice half slots; their count where there is none.
-fn first_unbalanced(ports: usize, slots: usize, list: &[u16], frame: &[u16], half: usize, count: usize) -> usize
+fn first_unbalanced(
+    ports: usize,
+    slots: usize,
+    list: &[u16],
+    frame: &[u16],
+    half: usize,
+    count: usize,
+) -> usize
     requires { ⌜ Readable ports slots (now list) (now frame) × (count * (2 * half) ≤ slots) ⌝ }
     ensures { λ r. ⌜ r ≡ first (unbalancedNumber ports (now (list .entry)) (now (frame .entry)) half) 0 count ⌝ }
 {
@@ -84,7 +98,13 @@ fn first_unbalanced(ports: usize, slots: usize, list: &[u16], frame: &[u16], hal
 }
 
 // The first unbalanced block, largest size first, then earliest.
-pub fn unbalanced_block(ports: usize, slots: usize, depths: usize, list: &[u16], frame: &[u16]) -> Inspection
+pub fn unbalanced_block(
+    ports: usize,
+    slots: usize,
+    depths: usize,
+    list: &[u16],
+    frame: &[u16],
+) -> Inspection
     requires { ⌜ Readable ports slots (now list) (now frame) × (depths ≡ levels slots) × (depths < 11) ⌝ }
     ensures { λ r. ⌜ finding r ≡ report (unbalancedBlock ports slots (now (list .entry)) (now (frame .entry)) ∷ []) (0 ∷ []) ⌝ }
 {

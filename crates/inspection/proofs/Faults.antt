@@ -2,23 +2,30 @@
 use Prim.Native.Nat.{ℕ, _+_, _*_, _/_, _%_, _≤_, _<_}
 use mathlib.Core.Path.{_≡_, sym, ap, _∙_}
 use mathlib.Core.List.{List, [], _∷_}
-use mathlib.Core.Bool.{Bool, false, not}
+use mathlib.Core.Bool.{Bool, true, false, not}
 use native.Mathlib.Omega.{arith}
-use native.Mathlib.Nat.{div-le-self, mod-le, mul-le-mul, pow-le-pow-right}
+use native.Mathlib.Nat.{div-le-self, mod-le, mul-le-mul}
 use native.Mathlib.Numerals.{add-one}
 use mir.Syntax.{w64}
 use mir.Val.{Fits}
 use lib.Dec.{eqb}
-use lib.ListN.{length, getD}
-use borrow.Author.Tests.{lt-ltb, le-ltb, ltb-false, not-false, eqb-true, eqb-false}
-use Rattle.model.specs.Words.{first, within}
-use Rattle.model.specs.Refusals.{Check, levels, report}
-use Rattle.model.specs.Inspect.{firstPlace, tooLarge, usedTwice, wrongCount, outputTwice, pairCount, unbalancedBlock}
+use lib.ListN.{length}
+use borrow.Author.Tests.{lt-ltb, le-ltb, not-false, eqb-true}
+use Rattle.model.specs.Words.{first}
+use Rattle.model.specs.Flows.{flows}
+use Rattle.model.specs.Refusals.{Check, report, refusal, answered, bad-frame}
+use Rattle.model.specs.Inspect.{firstPlace, isWrong, usedTwice, wrongCount, wrongEntry, outputTwice, flowCount, unbalancedBlock, inspected}
 use Rattle.model.proofs.Searches.{first-before}
-use Rattle.model.proofs.Levels.{levels-power, levels-most}
-use Rattle.model.proofs.Reports.{within-known}
+use Rattle.model.specs.declared.Refusal.{Refusal}
+use Rattle.model.specs.declared.Answer.{Answer}
+use Rattle.model.specs.declared.Answer.the-variants.{Accepted, Refused}
+use Rattle.model.proofs.Levels.{power-level}
+use Rattle.model.proofs.Demand2.{past-load, past-frame}
+use Rattle.admission.specs.Lists.{ListAnswer}
+use Rattle.admission.proofs.Listed.{list-refused, list-well}
 use Rattle.tally.specs.Tally.{Readable}
 use Rattle.inspection.specs.Faults.{Lent, faults}
+use Rattle.inspection.proofs.Found.{slots-low}
 
 -- ---- one fault that is a place
 module _ (number width n q : ℕ) (wrong : ℕ → Bool) (e : q ≡ first wrong 0 n) (cs : List Check) (asked : List ℕ) where
@@ -28,22 +35,16 @@ module _ (number width n q : ℕ) (wrong : ℕ → Bool) (e : q ≡ first wrong 
   place-none : n ≤ q → report (firstPlace number wrong width n ∷ cs) asked ≡ report cs asked
   place-none h = rw (← e, le-ltb q n h)
 
-module _ (ports slots : ℕ) (matrix frame : List ℕ) (l : Lent ports slots matrix frame) where
-  slots-low : slots ≤ 1024
-  slots-low = let h = l .power in rw (levels-power slots (omega arith)) (pow-le-pow-right (omega arith) {j = 10} (omega arith))
-
+module _ (ports slots : ℕ) (list frame : List ℕ) (l : Lent ports slots list frame) where
   frame-low : length frame ≤ 16384
-  frame-low = let k : slots * ports ≤ 1024 * 16 = mul-le-mul slots-low (l .switch .high) in omega (arith, l .size)
-
-  matrix-low : length matrix ≤ 256
-  matrix-low = let k : ports * ports ≤ 16 * 16 = mul-le-mul (l .switch .high) (l .switch .high) in omega (arith, l .square)
+  frame-low = let k : slots * ports ≤ 1024 * 16 = mul-le-mul (slots-low l) (l .switch .high) in omega (arith, l .size)
 
   -- the checks after the first fault, and after the second
   abbrev after-one : List Check
-  after-one = outputTwice ports slots frame ∷ pairCount ports matrix frame ∷ unbalancedBlock ports slots frame ∷ []
+  after-one = outputTwice ports slots list frame ∷ flowCount ports list frame ∷ unbalancedBlock ports slots list frame ∷ []
 
   abbrev after-two : List Check
-  after-two = pairCount ports matrix frame ∷ unbalancedBlock ports slots frame ∷ []
+  after-two = flowCount ports list frame ∷ unbalancedBlock ports slots list frame ∷ []
 
   pub row-fits : (q : ℕ) → q < length frame → Fits w64 (q / ports + 1)
   row-fits q h = record { fits = (let k = frame-low in let d = div-le-self q ports in omega arith) }
@@ -51,54 +52,66 @@ module _ (ports slots : ℕ) (matrix frame : List ℕ) (l : Lent ports slots mat
   pub column-fits : (q : ℕ) → q < length frame → Fits w64 (q % ports + 1)
   column-fits q h = record { fits = (let k = frame-low in let d = mod-le q ports in omega arith) }
 
-  pub input-fits : (p : ℕ) → p < length matrix → Fits w64 (p / ports + 1)
-  input-fits p h = record { fits = (let k = matrix-low in let d = div-le-self p ports in omega arith) }
+  pub flow-fits : (f n : ℕ) → n ≡ flows list → f < n → Fits w64 (f + 1)
+  flow-fits f n e h = record { fits = omega (arith, l .switch .few) }
 
-  pub output-fits : (p : ℕ) → p < length matrix → Fits w64 (p % ports + 1)
-  output-fits p h = record { fits = (let k = matrix-low in let d = mod-le p ports in omega arith) }
+  module _ (q : ℕ) (e : q ≡ first (isWrong ports list frame) 0 (slots * ports)) where
+    pub wrong-entry : q < length frame → 101 ∷ (q / ports + 1) ∷ (q % ports + 1) ∷ [] ≡ faults ports slots list frame
+    wrong-entry h = place-found 101 ports (slots * ports) q (isWrong ports list frame) e after-one (0 ∷ []) (omega (arith, l .size))
 
-  module _ (q : ℕ) (e : q ≡ first (tooLarge ports frame) 0 (length frame)) where
-    e′ : q ≡ first (tooLarge ports frame) 0 (slots * ports)
-    e′ = e ∙ ap (first (tooLarge ports frame) 0) (l .size)
-
-    pub too-large : q < length frame → 101 ∷ (q / ports + 1) ∷ (q % ports + 1) ∷ [] ≡ faults ports slots matrix frame
-    too-large h = place-found 101 ports (slots * ports) q (tooLarge ports frame) e′ after-one (0 ∷ []) (omega (arith, l .size))
-
-    pub readable : length frame ≤ q → Readable ports slots frame
-    unfolding tooLarge
+    pub readable : length frame ≤ q → Readable ports slots list frame
+    unfolding isWrong
     readable h =
         record {
           switch = l .switch;
-          slots-most = slots-low;
+          slots-most = slots-low l;
           size = l .size;
-          most = λ x k. ltb-false ports (getD frame x 0) (first-before (tooLarge ports frame) (length frame) 0 x (omega arith) (omega arith));
+          each-right = λ x k. not-false _ (first-before (isWrong ports list frame) (slots * ports) 0 x (omega arith) (omega (arith, l .size)));
         }
 
-    module _ (none : length frame ≤ q) (s : ℕ) (f : s ≡ first (usedTwice ports frame) 0 (slots * ports)) where
-      first-off : faults ports slots matrix frame ≡ report after-one (0 ∷ [])
-      first-off = place-none 101 ports (slots * ports) q (tooLarge ports frame) e′ after-one (0 ∷ []) (omega (arith, l .size))
+    module _ (none : length frame ≤ q) (s : ℕ) (f : s ≡ first (usedTwice ports list frame) 0 (slots * ports)) where
+      first-off : faults ports slots list frame ≡ report after-one (0 ∷ [])
+      first-off = place-none 101 ports (slots * ports) q (isWrong ports list frame) e after-one (0 ∷ []) (omega (arith, l .size))
 
-      pub twice : s < length frame → 102 ∷ (s / ports + 1) ∷ (s % ports + 1) ∷ [] ≡ faults ports slots matrix frame
-      twice h = place-found 102 ports (slots * ports) s (usedTwice ports frame) f after-two (0 ∷ []) (omega (arith, l .size)) ∙ sym first-off
+      pub twice : s < length frame → 102 ∷ (s / ports + 1) ∷ (s % ports + 1) ∷ [] ≡ faults ports slots list frame
+      twice h = place-found 102 ports (slots * ports) s (usedTwice ports list frame) f after-two (0 ∷ []) (omega (arith, l .size)) ∙ sym first-off
 
-      module _ (once : length frame ≤ s) (p : ℕ) (g : p ≡ first (wrongCount ports matrix frame) 0 (ports * ports)) where
-        second-off : faults ports slots matrix frame ≡ report after-two (0 ∷ [])
-        second-off = first-off ∙ place-none 102 ports (slots * ports) s (usedTwice ports frame) f after-two (0 ∷ []) (omega (arith, l .size))
+      module _ (once : length frame ≤ s) (p n : ℕ) (g : p ≡ first (wrongCount ports list frame) 0 (flows list)) (is : n ≡ flows list) where
+        second-off : faults ports slots list frame ≡ report after-two (0 ∷ [])
+        second-off = first-off ∙ place-none 102 ports (slots * ports) s (usedTwice ports list frame) f after-two (0 ∷ []) (omega (arith, l .size))
 
-        pub wrong : p < length matrix → 103 ∷ (p / ports + 1) ∷ (p % ports + 1) ∷ [] ≡ faults ports slots matrix frame
-        wrong h = place-found 103 ports (ports * ports) p (wrongCount ports matrix frame) g (unbalancedBlock ports slots frame ∷ []) (0 ∷ []) (omega (arith, l .square)) ∙ sym second-off
+        pub wrong-count : p < n → 103 ∷ (p + 1) ∷ [] ≡ faults ports slots list frame
+        wrong-count h = rw (add-one p) (sym (rw (sym g, lt-ltb p (flows list) (omega arith)))) ∙ sym second-off
 
-        pub last-fault : length matrix ≤ p → (r : List ℕ) → r ≡ report (unbalancedBlock ports slots frame ∷ []) (0 ∷ []) → r ≡ faults ports slots matrix frame
-        last-fault h r d = d ∙ sym (second-off ∙ place-none 103 ports (ports * ports) p (wrongCount ports matrix frame) g (unbalancedBlock ports slots frame ∷ []) (0 ∷ []) (omega (arith, l .square)))
+        pub last-fault : n ≤ p → (r : List ℕ) → r ≡ report (unbalancedBlock ports slots list frame ∷ []) (0 ∷ []) → r ≡ faults ports slots list frame
+        last-fault h r d = d ∙ sym (second-off ∙ rw (sym g, le-ltb p (flows list) (omega arith)))
 
--- ---- none of the refusals holds
-pub lent : (ports slots : ℕ) (matrix frame : List ℕ) (a b c d : Bool) → a ≡ not (within 1 16 ports) → a ≡ false → b ≡ eqb (levels slots) 11 → b ≡ false
-    → c ≡ not (eqb (length matrix) (ports * ports)) → c ≡ false → d ≡ not (eqb (length frame) (slots * ports)) → d ≡ false → Lent ports slots matrix frame
-lent ports slots matrix frame a b c d ea fa eb fb ec fc ed fd =
-    let p = within-known ea fa in
-    record {
-      switch = record { low = p .0; high = p .1 };
-      power = (let n = eqb-false (levels slots) 11 (sym eb ∙ fb) in let m = levels-most slots in omega arith);
-      square = eqb-true (length matrix) (ports * ports) (not-false _ (sym ec ∙ fc));
-      size = eqb-true (length frame) (slots * ports) (not-false _ (sym ed ∙ fd));
-    }
+-- ---- Inspect
+-- what it tries after the checks of the list
+abbrev frameChecks : ℕ → ℕ → List ℕ → List ℕ → List Check
+frameChecks ports slots list frame =
+    wrongEntry ports slots list frame ∷ outputTwice ports slots list frame ∷ flowCount ports list frame ∷ unbalancedBlock ports slots list frame ∷ []
+
+module _ {ports slots : ℕ} {list : List ℕ} (frame : List ℕ) {a : Answer} (is : ListAnswer ports slots list (answered a)) where
+  pub inspect-refused : {x : Refusal} → a ≡ Refused x → refusal x ≡ inspected ports slots list frame
+  unfolding inspected
+  inspect-refused e = list-refused is e (bad-frame ports slots frame ∷ frameChecks ports slots list frame) (0 ∷ [])
+
+  module _ (yes : a ≡ Accepted) {t : Bool} (length-is : t ≡ not (eqb (length frame) (slots * ports))) where
+    pub inspect-frame : t ≡ true → 4 ∷ [] ≡ inspected ports slots list frame
+    unfolding inspected
+    inspect-frame e = sym (past-load ports slots list (list-well is yes) (bad-frame ports slots frame ∷ frameChecks ports slots list frame) (0 ∷ []) ∙ rw (sym length-is ∙ e))
+
+    pub lent : t ≡ false → Lent ports slots list frame
+    lent e =
+        let w = list-well is yes in
+        record {
+          switch = record { low = w .rack .0; high = w .rack .1; few = w .few; ported = w .ported };
+          power = omega (arith, power-level (w .power), w .power .most);
+          size = eqb-true (length frame) (slots * ports) (not-false _ (sym length-is ∙ e));
+        }
+
+    pub inspect-faults : t ≡ false → {r : List ℕ} → r ≡ faults ports slots list frame → r ≡ inspected ports slots list frame
+    unfolding inspected
+    inspect-faults e d =
+        d ∙ sym (past-frame ports slots list (list-well is yes) frame (lent e .size) (frameChecks ports slots list frame) (0 ∷ []))

@@ -1,121 +1,226 @@
 -- Searches of the code, step by step.
-use Prim.Native.Nat.{ℕ, suc, _+_, _-_, _*_, _/_, _%_, _≤_, _<_}
-use mathlib.Core.Path.{_≡_, sym, ap, _∙_}
+use Prim.Native.Nat.{ℕ, suc, _+_, _-_, _*_, _≤_, _<_}
+use mathlib.Core.Path.{_≡_, refl, sym, ap, _∙_}
 use mathlib.Core.List.{List}
-use mathlib.Core.Bool.{Bool, true, not}
+use mathlib.Core.Bool.{Bool, true, false, not}
 use native.Mathlib.Omega.{arith}
+use native.Mathlib.Nat.{mul-le-mul-right, mul-le-mul, pow-le-pow-right}
 use lib.Arith.{digits-div, digits-mod}
+use lib.Dec.{eqb}
 use lib.ListN.{length, getD}
-use native.Mathlib.Nat.{div-add-mod', mul-le-mul-right, mul-le-mul}
 use mir.Syntax.{w64}
 use mir.Val.{Fits}
-use borrow.Author.Tests.{lt-ltb, le-ltb, eq-eqb, ne-eqb}
-use Rattle.model.specs.Words.{first}
-use Rattle.model.specs.Loads.{pair, output, load}
-use Rattle.model.specs.Frames.{cells, runOf}
-use Rattle.model.specs.Inspect.{tooLarge, twiceIn, usedTwice, wrongCount}
-use Rattle.model.proofs.Cases.{byLt}
+use borrow.Author.Tests.{lt-ltb, le-ltb, lt-leb, eq-eqb, ne-eqb}
+use Rattle.model.specs.Words.{first, within}
+use Rattle.model.specs.Flows.{flows, numberOf, inputs, portOf, countsOf, flow, output, load}
+use Rattle.model.specs.Frames.{right, cells, runOf}
+use Rattle.model.specs.Refusals.{levels}
+use Rattle.model.specs.Inspect.{isWrong, twiceIn, usedTwice, wrongCount}
+use Rattle.model.proofs.Cases.{byEq, byLt, within-yes, within-above}
 use Rattle.model.proofs.Searches.{Passed, passed-start, passed-on, passed-found, passed-done, first-found, first-before}
+use Rattle.model.proofs.Levels.{levels-power}
+use Rattle.model.proofs.Halves.{load-flow}
+use Rattle.model.proofs.Flows.{counts-at}
 use Rattle.model.proofs.Cells.{run-all}
-use Rattle.model.proofs.Inspected.{position-of}
-use Rattle.tally.specs.Tally.{Readable, tallyOf}
+use Rattle.tally.specs.Tally.{Switch, Readable, tallyOf}
 use Rattle.tally.proofs.Tallies.{tally-class}
-use Rattle.balance.proofs.Blocks.{square-most}
+use Rattle.inspection.specs.Faults.{Lent, wrongIn}
 
--- ---- bytes above ports
-module _ (ports : ℕ) (bytes : List ℕ) (q b : ℕ) where
-  pub large-on : Passed (tooLarge ports bytes) 0 (length bytes) q → q < length bytes → b ≡ getD bytes q 0 → b ≤ ports
-      → Passed (tooLarge ports bytes) 0 (length bytes) (q + 1)
-  unfolding tooLarge
-  large-on p h e l = passed-on p (omega arith) (le-ltb ports (getD bytes q 0) (omega arith))
+-- ---- one entry
+pub idle-right : (list : List ℕ) (i e : ℕ) → e ≡ 0 → false ≡ not (right list i e)
+idle-right list i e z = rw z
 
-  pub large-found : Passed (tooLarge ports bytes) 0 (length bytes) q → q < length bytes → b ≡ getD bytes q 0 → ports < b
-      → q ≡ first (tooLarge ports bytes) 0 (length bytes)
-  unfolding tooLarge
-  large-found p h e l = passed-found p (omega arith) (lt-ltb ports (getD bytes q 0) (omega arith))
+module _ {ports i e n : ℕ} {list : List ℕ} (s : Switch ports list) (at : i < ports) (some : e ≡ 0 → ⊥) (is : n ≡ flows list) where
+  pub above-wrong : n < e → true ≡ not (right list i e)
+  above-wrong h = rw (ne-eqb e 0 some, within-above 1 (flows list) e (omega arith) (omega arith))
 
--- ---- outputs used twice in a slot
-module _ (ports slots o : ℕ) (frame slot tally : List ℕ) (r : Readable ports slots frame) (y : tally ≡ tallyOf ports slot) where
-  uses : o < ports → getD tally (272 + o) 0 ≡ cells (output o) ports slot
-  uses h = tally-class ports slot tally (r .switch) y (output o) h
+  pub flow-in : e ≤ n → e - 1 < flows list
+  flow-in h = omega arith
 
-  pub twice-on : Passed (twiceIn ports slot) 0 ports o → o < ports → getD tally (272 + o) 0 ≤ 1 → Passed (twiceIn ports slot) 0 ports (o + 1)
-  unfolding twiceIn
-  twice-on p h l = passed-on p (omega arith) (le-ltb 1 (cells (output o) ports slot) (omega (arith, uses h)))
+  -- an entry that is a flow is right where its input is
+  same-input : e ≤ n → {x : ℕ} → x ≡ numberOf 0 list (e - 1) → eqb x (i + 1) ≡ eqb (portOf list inputs (e - 1)) i
+  unfolding portOf
+  same-input h {x} d =
+      let w = s .ported inputs (e - 1) (flow-in h) in
+      byEq x (i + 1)
+      (λ q. eq-eqb x (i + 1) q ∙ sym (eq-eqb (numberOf 0 list (e - 1) - 1) i (omega arith)))
+      (λ q. ne-eqb x (i + 1) q ∙ sym (ne-eqb (numberOf 0 list (e - 1) - 1) i (λ z. q (omega arith))))
 
-  pub twice-found : Passed (twiceIn ports slot) 0 ports o → o < ports → 1 < getD tally (272 + o) 0 → o ≡ first (twiceIn ports slot) 0 ports
-  unfolding twiceIn
-  twice-found p h l = passed-found p (omega arith) (lt-ltb 1 (cells (output o) ports slot) (omega (arith, uses h)))
+  pub flow-wrong : e ≤ n → {x : ℕ} → x ≡ numberOf 0 list (e - 1) → not (eqb x (i + 1)) ≡ not (right list i e)
+  flow-wrong h {x} d =
+      let flow-here : eqb (portOf list inputs (e - 1)) i ≡ right list i e = sym (rw (ne-eqb e 0 some, within-yes 1 (flows list) e (omega arith) (omega arith))) in
+      ap not (same-input h d ∙ flow-here)
 
--- ---- pairs in the wrong number of slots
-module _ (ports slots p : ℕ) (matrix frame tally : List ℕ) (r : Readable ports slots frame) (square : length matrix ≡ ports * ports)
-    (y : tally ≡ tallyOf ports (runOf ports 0 slots frame)) (l : p < length matrix) where
-  count-is : getD tally p 0 ≡ cells (pair (p / ports) (p % ports)) ports frame
-  count-is =
-      let e = div-add-mod' p ports in
-      ap (λ z. getD tally z 0) (sym e) ∙ tally-class ports (runOf ports 0 slots frame) tally (r .switch) y (pair (p / ports) (p % ports)) (position-of ports (λ c. true) p (omega arith))
-      ∙ ap (cells (pair (p / ports) (p % ports)) ports) (run-all ports slots frame (r .size))
+-- ---- sizes
+pub slots-low : {ports slots : ℕ} {list entries : List ℕ} → Lent ports slots list entries → slots ≤ 1024
+slots-low {ports} {slots} l = let h = l .power in rw (levels-power slots (omega arith)) (pow-le-pow-right (omega arith) {j = 10} (omega arith))
 
-  load-is : getD matrix p 0 ≡ load (pair (p / ports) (p % ports)) ports matrix
-  unfolding load
-  load-is = ap (λ z. getD matrix z 0) (sym (div-add-mod' p ports))
+lent-low : {ports slots : ℕ} {list entries : List ℕ} → Lent ports slots list entries → slots * ports ≤ 16384
+lent-low {ports} {slots} l = let k : slots * ports ≤ 1024 * 16 = mul-le-mul (slots-low l) (l .switch .high) in omega arith
 
-  pub count-on : Passed (wrongCount ports matrix frame) 0 (ports * ports) p → getD tally p 0 ≡ getD matrix p 0 → Passed (wrongCount ports matrix frame) 0 (ports * ports) (p + 1)
-  unfolding wrongCount
-  count-on q e = passed-on q (omega arith) (ap not (eq-eqb _ _ (sym count-is ∙ e ∙ load-is)))
-
-  pub count-found : Passed (wrongCount ports matrix frame) 0 (ports * ports) p → (getD tally p 0 ≡ getD matrix p 0 → ⊥) → p ≡ first (wrongCount ports matrix frame) 0 (ports * ports)
-  unfolding wrongCount
-  count-found q n = passed-found q (omega arith) (ap not (ne-eqb _ _ (λ e. n (count-is ∙ e ∙ sym load-is))))
-
-pub position-low : {ports slots p m : ℕ} {frame : List ℕ} → Readable ports slots frame → m ≡ ports * ports → p < m → p < 289
-position-low r e h = let k = square-most (r .switch) in omega arith
-
-pub position-done : {n m p : ℕ} {t : ℕ → Bool} → Passed t 0 n p → m ≡ n → m ≤ p → p ≡ first t 0 n
-position-done p e h = passed-done p (omega arith)
-
-pub frame-low : {ports slots : ℕ} {frame : List ℕ} → Readable ports slots frame → slots * ports ≤ 16384
+pub frame-low : {ports slots : ℕ} {list frame : List ℕ} → Readable ports slots list frame → slots * ports ≤ 16384
 frame-low {ports} {slots} r = let k : slots * ports ≤ 1024 * 16 = mul-le-mul (r .slots-most) (r .switch .high) in omega arith
 
--- ---- slots, one after the other
-module _ (ports slots s o : ℕ) (frame : List ℕ) (r : Readable ports slots frame) (h : s < slots) (e : o ≡ first (twiceIn ports (runOf ports s 1 frame)) 0 ports) where
-  in-slot : (u : ℕ) → u < ports → usedTwice ports frame (s * ports + u) ≡ twiceIn ports (runOf ports s 1 frame) u
+-- ---- the entries of a slot
+module _ {ports slots slot : ℕ} {list frame : List ℕ} (l : Lent ports slots list frame) (h : slot < slots) where
+  pub from-fits : Fits w64 (slot * ports)
+  from-fits = record { fits = (let m = mul-le-mul-right {m = slot} {n = slots} ports (omega arith) in let k = lent-low l in omega arith) }
+
+  module _ {i : ℕ} (at : i < ports) where
+    pub place-low : slot * ports + i < length frame
+    place-low = let m = mul-le-mul-right {m = suc slot} {n = slots} ports h in omega (arith, l .size)
+
+    pub place-fits : Fits w64 (slot * ports + i)
+    place-fits = record { fits = (let m = place-low in let k = lent-low l in omega (arith, l .size)) }
+
+    pub offset-fits : Fits w64 ((slot * ports + i) * 2)
+    offset-fits = record { fits = (let m = place-low in let k = lent-low l in omega (arith, l .size)) }
+
+    module _ {e : ℕ} {r : Bool} (is : e ≡ getD frame (slot * ports + i) 0) (told : r ≡ not (right list i e)) where
+      pub wrong-on : Passed (wrongIn ports list frame slot) 0 ports i → r ≡ false → Passed (wrongIn ports list frame slot) 0 ports (i + 1)
+      unfolding wrongIn
+      wrong-on p f = passed-on p (omega arith) (rw (sym is) (sym told ∙ f))
+
+      pub wrong-found : Passed (wrongIn ports list frame slot) 0 ports i → r ≡ true → i ≡ first (wrongIn ports list frame slot) 0 ports
+      unfolding wrongIn
+      wrong-found p f = passed-found p (omega arith) (rw (sym is) (sym told ∙ f))
+
+-- ---- outputs used twice in a slot
+module _ (ports slots o : ℕ) (list frame slot tally : List ℕ) (r : Readable ports slots list frame) (y : tally ≡ tallyOf ports list slot) where
+  uses : o < ports → getD tally (528 + o) 0 ≡ cells (output o) ports list slot
+  uses h = tally-class ports list slot tally (r .switch) y (output o) h
+
+  pub twice-on : Passed (twiceIn ports list slot) 0 ports o → o < ports → getD tally (528 + o) 0 ≤ 1 → Passed (twiceIn ports list slot) 0 ports (o + 1)
+  unfolding twiceIn
+  twice-on p h l = passed-on p (omega arith) (le-ltb 1 (cells (output o) ports list slot) (omega (arith, uses h)))
+
+  pub twice-found : Passed (twiceIn ports list slot) 0 ports o → o < ports → 1 < getD tally (528 + o) 0 → o ≡ first (twiceIn ports list slot) 0 ports
+  unfolding twiceIn
+  twice-found p h l = passed-found p (omega arith) (lt-ltb 1 (cells (output o) ports list slot) (omega (arith, uses h)))
+
+-- ---- flows in the wrong number of slots
+pub record Counting (ports slots : ℕ) (list frame tally : List ℕ) (n f : ℕ) : Type 0 where
+  pub all : n ≡ flows list
+  pub tallied : tally ≡ tallyOf ports list (runOf ports 0 slots frame)
+  pub passed : Passed (wrongCount ports list frame) 0 (flows list) f
+
+pub counting-start : {ports slots n : ℕ} {list frame tally : List ℕ} → n ≡ flows list → tally ≡ tallyOf ports list (runOf ports 0 slots frame)
+    → Counting ports slots list frame tally n 0
+counting-start {ports} {slots} {n} {list} {frame} e y = record { all = e; tallied = y; passed = passed-start (wrongCount ports list frame) 0 (flows list) }
+
+module _ {ports slots n f : ℕ} {list frame tally : List ℕ} (r : Readable ports slots list frame) (c : Counting ports slots list frame tally n f) (h : f < n) where
+  pub counting-in : f < flows list
+  counting-in = omega (arith, c .all)
+
+  pub counting-low : f < 545
+  counting-low = omega (arith, c .all, r .switch .few)
+
+  count-is : getD tally f 0 ≡ cells (flow f) ports list frame
+  count-is =
+      tally-class ports list (runOf ports 0 slots frame) tally (r .switch) (c .tallied) (flow f) counting-in
+      ∙ ap (cells (flow f) ports list) (run-all ports slots frame (r .size))
+
+  load-is : numberOf 2 list f ≡ load (flow f) list
+  load-is = sym (load-flow f (portOf list) (countsOf list) ∙ counts-at list f counting-in)
+
+  module _ {x y : ℕ} (tallied : x ≡ getD tally f 0) (asked : y ≡ numberOf 2 list f) where
+    pub counting-on : x ≡ y → Counting ports slots list frame tally n (f + 1)
+    unfolding wrongCount
+    counting-on e =
+        record {
+          all = c .all;
+          tallied = c .tallied;
+          passed = passed-on (c .passed) (omega (arith, c .all)) (ap not (eq-eqb _ _ (sym count-is ∙ sym tallied ∙ e ∙ asked ∙ load-is)));
+        }
+
+    pub counting-found : (x ≡ y → ⊥) → f ≡ first (wrongCount ports list frame) 0 (flows list)
+    unfolding wrongCount
+    counting-found d =
+        passed-found (c .passed) (omega (arith, c .all)) (ap not (ne-eqb _ _ (λ e. d (tallied ∙ count-is ∙ e ∙ sym load-is ∙ sym asked))))
+
+pub counting-end : {ports slots n f : ℕ} {list frame tally : List ℕ} → Counting ports slots list frame tally n f → n ≤ f
+    → f ≡ first (wrongCount ports list frame) 0 (flows list)
+counting-end c h = passed-done (c .passed) (omega (arith, c .all))
+
+-- ---- slots, one after the other: a test of places, and the same test slot by slot
+module _ (ports slots : ℕ) (test : ℕ → Bool) (inSlot : ℕ → ℕ → Bool) (same : (s u : ℕ) → u < ports → test (s * ports + u) ≡ inSlot s u) where
+  abbrev Past : ℕ → Type 0
+  Past q = Passed test 0 (slots * ports) q
+
+  module _ (s o : ℕ) (h : s < slots) (e : o ≡ first (inSlot s) 0 ports) where
+    slot-passed : Past (s * ports) → (u : ℕ) → u ≤ ports → u ≤ o → Past (s * ports + u)
+    slot-passed p u k l =
+        let m = mul-le-mul-right {m = suc s} {n = slots} ports h in
+        record {
+          low = omega arith;
+          high = omega arith;
+          none = λ y _ g. byLt y (s * ports) (λ b. p .none y (omega arith) b)
+              (λ b.
+              let v = y - s * ports in
+              let d : y ≡ s * ports + v = omega arith in
+              rw d (same s v (omega arith) ∙ first-before (inSlot s) ports 0 v (omega arith) (omega arith)));
+        }
+
+    on : Past (s * ports) → ports ≤ o → Past ((s + 1) * ports)
+    on p l = let d : (s + 1) * ports ≡ s * ports + ports = omega arith in rw d (slot-passed p ports (omega arith) l)
+
+    found : Past (s * ports) → o < ports → s * ports + o ≡ first test 0 (slots * ports)
+    found p l =
+        let m = mul-le-mul-right {m = suc s} {n = slots} ports h in
+        let t = first-found (inSlot s) ports 0 (omega arith) in
+        passed-found (slot-passed p o (omega arith) (omega arith)) (omega arith) (same s o l ∙ ap (inSlot s) e ∙ t)
+
+pub slots-start : (ports slots : ℕ) (test : ℕ → Bool) → Passed test 0 (slots * ports) (0 * ports)
+slots-start ports slots test = let e : 0 * ports ≡ 0 = omega arith in rw e (passed-start test 0 (slots * ports))
+
+pub slots-end : (ports slots s : ℕ) (test : ℕ → Bool) → Passed test 0 (slots * ports) (s * ports) → slots ≤ s → s ≤ slots → slots * ports ≡ first test 0 (slots * ports)
+slots-end ports slots s test p h g = let e : slots ≡ s = omega arith in rw e (passed-done (rw e at p) (omega arith))
+
+-- the place of a column of a slot is a number
+module _ (ports slots s o : ℕ) (low : slots * ports ≤ 16384) (h : s < slots) where
+  row-fits : Fits w64 (s * ports)
+  row-fits = record { fits = (let m = mul-le-mul-right {m = s} {n = slots} ports (omega arith) in omega arith) }
+
+  column-fits : o < ports → Fits w64 (s * ports + o)
+  column-fits l = record { fits = (let m = mul-le-mul-right {m = suc s} {n = slots} ports h in omega arith) }
+
+-- ---- wrong entries, and outputs used twice
+module _ {ports slots s o : ℕ} {list frame : List ℕ} (l : Lent ports slots list frame) (h : s < slots) (e : o ≡ first (wrongIn ports list frame s) 0 ports) where
+  in-place : (s u : ℕ) → u < ports → isWrong ports list frame (s * ports + u) ≡ wrongIn ports list frame s u
+  unfolding isWrong wrongIn
+  in-place s u k = rw (digits-mod s k)
+
+  pub entries-on : Passed (isWrong ports list frame) 0 (slots * ports) (s * ports) → ports ≤ o → Passed (isWrong ports list frame) 0 (slots * ports) ((s + 1) * ports)
+  entries-on = on ports slots (isWrong ports list frame) (wrongIn ports list frame) in-place s o h e
+
+  pub entries-found : Passed (isWrong ports list frame) 0 (slots * ports) (s * ports) → o < ports → s * ports + o ≡ first (isWrong ports list frame) 0 (slots * ports)
+  entries-found = found ports slots (isWrong ports list frame) (wrongIn ports list frame) in-place s o h e
+
+  pub entries-row : Fits w64 (s * ports)
+  entries-row = row-fits ports slots s o (lent-low l) h
+
+  pub entries-fits : o < ports → Fits w64 (s * ports + o)
+  entries-fits k = column-fits ports slots s o (lent-low l) h k
+
+module _ {ports slots s o : ℕ} {list frame : List ℕ} (r : Readable ports slots list frame) (h : s < slots) (e : o ≡ first (twiceIn ports list (runOf ports s 1 frame)) 0 ports) where
+  in-slot : (s u : ℕ) → u < ports → usedTwice ports list frame (s * ports + u) ≡ twiceIn ports list (runOf ports s 1 frame) u
   unfolding usedTwice
-  in-slot u k = rw (digits-div s k, digits-mod s k)
+  in-slot s u k = rw (digits-div s k, digits-mod s k)
 
-  slot-passed : Passed (usedTwice ports frame) 0 (slots * ports) (s * ports) → (u : ℕ) → u ≤ ports → u ≤ o → Passed (usedTwice ports frame) 0 (slots * ports) (s * ports + u)
-  slot-passed p u k l =
-      let m = mul-le-mul-right {m = suc s} {n = slots} ports h in
-      record {
-        low = omega arith;
-        high = omega arith;
-        none = λ y _ g. byLt y (s * ports) (λ b. p .none y (omega arith) b)
-            (λ b.
-            let v = y - s * ports in
-            let d : y ≡ s * ports + v = omega arith in
-            rw d (in-slot v (omega arith) ∙ first-before (twiceIn ports (runOf ports s 1 frame)) ports 0 v (omega arith) (omega arith)));
-      }
+  pub outputs-on : Passed (usedTwice ports list frame) 0 (slots * ports) (s * ports) → ports ≤ o → Passed (usedTwice ports list frame) 0 (slots * ports) ((s + 1) * ports)
+  outputs-on = on ports slots (usedTwice ports list frame) (λ s. twiceIn ports list (runOf ports s 1 frame)) in-slot s o h e
 
-  pub slots-on : Passed (usedTwice ports frame) 0 (slots * ports) (s * ports) → ports ≤ o → Passed (usedTwice ports frame) 0 (slots * ports) ((s + 1) * ports)
-  slots-on p l = let d : (s + 1) * ports ≡ s * ports + ports = omega arith in rw d (slot-passed p ports (omega arith) l)
+  pub outputs-found : Passed (usedTwice ports list frame) 0 (slots * ports) (s * ports) → o < ports → s * ports + o ≡ first (usedTwice ports list frame) 0 (slots * ports)
+  outputs-found = found ports slots (usedTwice ports list frame) (λ s. twiceIn ports list (runOf ports s 1 frame)) in-slot s o h e
 
-  pub slots-found : Passed (usedTwice ports frame) 0 (slots * ports) (s * ports) → o < ports → s * ports + o ≡ first (usedTwice ports frame) 0 (slots * ports)
-  slots-found p l =
-      let m = mul-le-mul-right {m = suc s} {n = slots} ports h in
-      let t = first-found (twiceIn ports (runOf ports s 1 frame)) ports 0 (omega arith) in
-      passed-found (slot-passed p o (omega arith) (omega arith)) (omega arith) (in-slot o l ∙ ap (twiceIn ports (runOf ports s 1 frame)) e ∙ t)
+  pub outputs-row : Fits w64 (s * ports)
+  outputs-row = row-fits ports slots s o (frame-low r) h
 
-  pub slot-fits : Fits w64 (s * ports)
-  slot-fits = record { fits = (let m = mul-le-mul-right {m = s} {n = slots} ports (omega arith) in let k = frame-low r in omega arith) }
+  pub outputs-fits : o < ports → Fits w64 (s * ports + o)
+  outputs-fits k = column-fits ports slots s o (frame-low r) h k
 
-  pub output-fits : o < ports → Fits w64 (s * ports + o)
-  output-fits l = record { fits = (let m = mul-le-mul-right {m = suc s} {n = slots} ports h in let k = frame-low r in omega arith) }
-
-pub slots-start : (ports slots : ℕ) (frame : List ℕ) → Passed (usedTwice ports frame) 0 (slots * ports) (0 * ports)
-slots-start ports slots frame = let e : 0 * ports ≡ 0 = omega arith in rw e (passed-start (usedTwice ports frame) 0 (slots * ports))
-
-pub slots-end : (ports slots s : ℕ) (frame : List ℕ) → Passed (usedTwice ports frame) 0 (slots * ports) (s * ports) → slots ≤ s → s ≤ slots → slots * ports ≡ first (usedTwice ports frame) 0 (slots * ports)
-slots-end ports slots s frame p h g = let e : slots ≡ s = omega arith in rw e (passed-done (rw e at p) (omega arith))
-
-pub whole-fits : {ports slots : ℕ} {frame : List ℕ} → Readable ports slots frame → Fits w64 (slots * ports)
+pub whole-fits : {ports slots : ℕ} {list frame : List ℕ} → Readable ports slots list frame → Fits w64 (slots * ports)
 whole-fits r = record { fits = (let k = frame-low r in omega arith) }
+
+pub lent-fits : {ports slots : ℕ} {list frame : List ℕ} → Lent ports slots list frame → Fits w64 (slots * ports)
+lent-fits l = record { fits = (let k = lent-low l in omega arith) }

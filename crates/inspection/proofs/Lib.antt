@@ -1,3 +1,3 @@
--- What the functions of Inspect rest on.
+-- What the searches of Inspect rest on.
 pub mod Found
 pub mod Faults

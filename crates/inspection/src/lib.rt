@@ -1,41 +1,79 @@
 // Inspect: a frame from anywhere is clean, or has a first fault.
 ghost use mathlib.Core.Path.{_≡_};
+ghost use mathlib.Core.Bool.{not};
 ghost use Prim.Native.Nat.{_*_, _<_};
-ghost use lib.ListN.{length};
 ghost use Rattle.model.specs.Words.{first};
-ghost use Rattle.model.specs.Frames.{runOf};
-ghost use Rattle.model.specs.Inspect.{finding, tooLarge, twiceIn, usedTwice, wrongCount, inspected};
-ghost use Rattle.tally.specs.Tally.{Readable};
-ghost use Rattle.inspection.specs.Faults.{Lent, faults};
+ghost use Rattle.model.specs.Flows.{flows};
+ghost use Rattle.model.specs.Frames.{right, runOf};
+ghost use Rattle.model.specs.Inspect.{finding, isWrong, twiceIn, usedTwice, wrongCount, inspected};
+ghost use Rattle.tally.specs.Tally.{Switch, Readable};
+ghost use Rattle.inspection.specs.Faults.{Lent, wrongIn, faults};
+use admission::bad_length;
 use balance::unbalanced_block;
+use flows::flows_of;
+use flows::number_of;
+use model::Answer;
 use model::Inspection;
 use model::Refusal;
 use tally::tally_run;
 
-// The place of the first byte above ports; the frame's length where there is none.
-fn first_too_large(ports: usize, frame: &[u8]) -> usize
-    ensures { λ r. ⌜ r ≡ first (tooLarge ports (now (frame .entry))) 0 (length (now (frame .entry))) ⌝ }
+// An entry of an input is neither 0 nor the number of a flow of that input.
+fn is_wrong(ports: usize, list: &[u16], input: usize, entry: usize) -> bool
+    requires { ⌜ Switch ports (now list) × (input < ports) ⌝ }
+    ensures { λ r. ⌜ r ≡ not (right (now (list .entry)) input entry) ⌝ }
 {
-    let mut q: usize = 0;
-    while q < frame.len() {
-        if ports < widths::byte(frame[q]) {
-            return q;
-        }
-        q += 1;
+    if entry == 0 {
+        return false;
     }
-    q
+    if flows_of(list) < entry {
+        return true;
+    }
+    number_of(list, entry - 1, 0) != input + 1
+}
+
+// The lowest input of a slot whose entry is wrong; ports where there is none.
+fn lowest_wrong(ports: usize, slots: usize, list: &[u16], frame: &[u16], slot: usize) -> usize
+    requires { ⌜ Lent ports slots (now list) (now frame) × (slot < slots) ⌝ }
+    ensures { λ r. ⌜ r ≡ first (wrongIn ports (now (list .entry)) (now (frame .entry)) slot) 0 ports ⌝ }
+{
+    let from = slot * ports;
+    let mut i: usize = 0;
+    while i < ports {
+        let entry = widths::count(frame[from + i]);
+        if is_wrong(ports, list, i, entry) {
+            return i;
+        }
+        i += 1;
+    }
+    i
+}
+
+// The place of the first wrong entry; the frame's length where there is none.
+fn first_wrong(ports: usize, slots: usize, list: &[u16], frame: &[u16]) -> usize
+    requires { ⌜ Lent ports slots (now list) (now frame) ⌝ }
+    ensures { λ r. ⌜ r ≡ first (isWrong ports (now (list .entry)) (now (frame .entry))) 0 (slots * ports) ⌝ }
+{
+    let mut s: usize = 0;
+    while s < slots {
+        let i = lowest_wrong(ports, slots, list, frame, s);
+        if i < ports {
+            return s * ports + i;
+        }
+        s += 1;
+    }
+    slots * ports
 }
 
 // The lowest output that a slot uses twice; ports where there is none.
-fn lowest_twice(ports: usize, slots: usize, frame: &[u8], slot: usize) -> usize
-    requires { ⌜ Readable ports slots (now frame) × (slot < slots) ⌝ }
-    ensures { λ r. ⌜ r ≡ first (twiceIn ports (runOf ports slot 1 (now (frame .entry)))) 0 ports ⌝ }
+fn lowest_twice(ports: usize, slots: usize, list: &[u16], frame: &[u16], slot: usize) -> usize
+    requires { ⌜ Readable ports slots (now list) (now frame) × (slot < slots) ⌝ }
+    ensures { λ r. ⌜ r ≡ first (twiceIn ports (now (list .entry)) (runOf ports slot 1 (now (frame .entry)))) 0 ports ⌝ }
 {
-    let mut tally = [0u16; 289];
-    tally_run(ports, slots, frame, slot, 1, &mut tally);
+    let mut tally = [0u16; 545];
+    tally_run(ports, slots, list, frame, slot, 1, &mut tally);
     let mut o: usize = 0;
     while o < ports {
-        if 1 < tally[272 + o] {
+        if 1 < tally[528 + o] {
             return o;
         }
         o += 1;
@@ -44,13 +82,13 @@ fn lowest_twice(ports: usize, slots: usize, frame: &[u8], slot: usize) -> usize
 }
 
 // The place of the first output that is used twice in a slot; the frame's length where there is none.
-fn first_twice(ports: usize, slots: usize, frame: &[u8]) -> usize
-    requires { ⌜ Readable ports slots (now frame) ⌝ }
-    ensures { λ r. ⌜ r ≡ first (usedTwice ports (now (frame .entry))) 0 (slots * ports) ⌝ }
+fn first_twice(ports: usize, slots: usize, list: &[u16], frame: &[u16]) -> usize
+    requires { ⌜ Readable ports slots (now list) (now frame) ⌝ }
+    ensures { λ r. ⌜ r ≡ first (usedTwice ports (now (list .entry)) (now (frame .entry))) 0 (slots * ports) ⌝ }
 {
     let mut s: usize = 0;
     while s < slots {
-        let o = lowest_twice(ports, slots, frame, s);
+        let o = lowest_twice(ports, slots, list, frame, s);
         if o < ports {
             return s * ports + o;
         }
@@ -59,67 +97,59 @@ fn first_twice(ports: usize, slots: usize, frame: &[u8]) -> usize
     slots * ports
 }
 
-// The position of the first pair that is in the wrong number of slots; the matrix's length where there is none.
-fn first_wrong_count(ports: usize, slots: usize, matrix: &[u16], frame: &[u8]) -> usize
-    requires { ⌜ Readable ports slots (now frame) × (length (now matrix) ≡ ports * ports) ⌝ }
-    ensures { λ r. ⌜ r ≡ first (wrongCount ports (now (matrix .entry)) (now (frame .entry))) 0 (ports * ports) ⌝ }
+// The first flow that is in the wrong number of slots; how many flows there are where there is none.
+fn first_wrong_count(ports: usize, slots: usize, list: &[u16], frame: &[u16]) -> usize
+    requires { ⌜ Readable ports slots (now list) (now frame) ⌝ }
+    ensures { λ r. ⌜ r ≡ first (wrongCount ports (now (list .entry)) (now (frame .entry))) 0 (flows (now (list .entry))) ⌝ }
 {
-    let mut tally = [0u16; 289];
-    tally_run(ports, slots, frame, 0, slots, &mut tally);
-    let mut p: usize = 0;
-    while p < matrix.len() {
-        if tally[p] != matrix[p] {
-            return p;
+    let mut tally = [0u16; 545];
+    tally_run(ports, slots, list, frame, 0, slots, &mut tally);
+    let count = flows_of(list);
+    let mut f: usize = 0;
+    while f < count {
+        if widths::count(tally[f]) != number_of(list, f, 2) {
+            return f;
         }
-        p += 1;
+        f += 1;
     }
-    p
+    f
 }
 
 // The faults, in their order over the whole frame.
-fn first_fault(ports: usize, slots: usize, matrix: &[u16], frame: &[u8]) -> Inspection
-    requires { ⌜ Lent ports slots (now matrix) (now frame) ⌝ }
-    ensures { λ r. ⌜ finding r ≡ faults ports slots (now (matrix .entry)) (now (frame .entry)) ⌝ }
+fn first_fault(ports: usize, slots: usize, list: &[u16], frame: &[u16]) -> Inspection
+    requires { ⌜ Lent ports slots (now list) (now frame) ⌝ }
+    ensures { λ r. ⌜ finding r ≡ faults ports slots (now (list .entry)) (now (frame .entry)) ⌝ }
 {
-    let q = first_too_large(ports, frame);
+    let q = first_wrong(ports, slots, list, frame);
     if q < frame.len() {
-        return Inspection::ByteTooLarge {
+        return Inspection::WrongEntry {
             slot: q / ports + 1,
             input: q % ports + 1,
         };
     }
-    let q = first_twice(ports, slots, frame);
+    let q = first_twice(ports, slots, list, frame);
     if q < frame.len() {
         return Inspection::OutputTwice {
             slot: q / ports + 1,
             output: q % ports + 1,
         };
     }
-    let p = first_wrong_count(ports, slots, matrix, frame);
-    if p < matrix.len() {
-        return Inspection::PairCount {
-            input: p / ports + 1,
-            output: p % ports + 1,
-        };
+    let f = first_wrong_count(ports, slots, list, frame);
+    if f < flows_of(list) {
+        return Inspection::FlowCount { flow: f + 1 };
     }
-    unbalanced_block(ports, slots, admission::levels_of(slots), frame)
+    unbalanced_block(ports, slots, admission::levels_of(slots), list, frame)
 }
 
-// Inspect: 1, 2, 3, 4, then the faults.
-pub fn inspect(ports: usize, slots: usize, matrix: &[u16], frame: &[u8]) -> Inspection
-    ensures { λ r. ⌜ finding r ≡ inspected ports slots (now (matrix .entry)) (now (frame .entry)) ⌝ }
+// Inspect: 1, 2, 3, 21, 22, 4, then the faults.
+pub fn inspect(ports: usize, slots: usize, list: &[u16], frame: &[u16]) -> Inspection
+    ensures { λ r. ⌜ finding r ≡ inspected ports slots (now (list .entry)) (now (frame .entry)) ⌝ }
 {
-    if admission::outside(16, ports) {
-        return Inspection::Refused(Refusal::Ports);
+    if let Answer::Refused(refusal) = admission::check_list(ports, slots, list) {
+        return Inspection::Refused(refusal);
     }
-    if admission::bad_slots(slots) {
-        return Inspection::Refused(Refusal::Slots);
-    }
-    if admission::bad_length(matrix.len(), ports, ports) {
-        return Inspection::Refused(Refusal::MatrixLength);
-    }
-    if admission::bad_length(frame.len(), slots, ports) {
+    if bad_length(frame.len(), slots, ports) {
         return Inspection::Refused(Refusal::FrameLength);
     }
-    first_fault(ports, slots, matrix, frame)
+    first_fault(ports, slots, list, frame)
 }

@@ -16,13 +16,7 @@ fn add_one(tally: &mut [u16; 545], x: usize)
 }
 
 // Counts an entry of an input for its flow, its input and its output, if it is not 0, and answers how many cells it is.
-fn add_entry(
-    ports: usize,
-    list: &[u16],
-    input: usize,
-    entry: usize,
-    tally: &mut [u16; 545],
-) -> u16
+fn add_entry(ports: usize, list: &[u16], input: usize, entry: usize, tally: &mut [u16; 545]) -> u16
     requires { ⌜ RightAt ports (now list) input entry × Room 65532 (now tally) ⌝ }
     ensures { λ r. ⌜ Adds ports (now (list .entry)) 1 (ofEntry (now (list .entry)) input entry) (now (tally .entry)) (now (tally .exit))
         × (r ≡ bit (counts total (now (list .entry)) input entry)) × (r ≤ 1) ⌝ }

@@ -1,7 +1,38 @@
-use Rattle.inspection.proofs.Faults.{row-fits, column-fits, input-fits, output-fits, too-large, readable, twice, wrong, last-fault}
 use borrow.Author.Needs.{needs}
+use Rattle.inspection.proofs.Faults.{row-fits, column-fits, flow-fits, wrong-entry, readable, twice, wrong-count, last-fault}
 use Rattle.inspection.proofs.first_fault.Statement.{statement}
 use Rattle.inspection.proofs.first_fault.Tie as tie
+
+returns-3 : tie.Need-returns-3
+returns-3 c =
+    let counted = c .before .before in
+    let once = counted .before in
+    let right = once .before .before in
+    let found = right .before in
+    wrong-count _ _ _ _ (found .before .before .before .pre) _ (found .first-wrong .ensures) (right .if1 .left) _ (once .before .first-twice .ensures)
+    (once .if2 .left) _ _ (counted .first-wrong-count .ensures) (c .before .flows-of .ensures) (c .if3 .taken)
+
+returns-4 : tie.Need-returns-4
+returns-4 c =
+    let some = c .before .before in
+    let counted = some .before .before in
+    let once = counted .before in
+    let right = once .before .before in
+    let found = right .before in
+    last-fault _ _ _ _ (found .before .before .before .pre) _ (found .first-wrong .ensures) (right .if1 .left) _ (once .before .first-twice .ensures)
+    (once .if2 .left) _ _ (counted .first-wrong-count .ensures) (some .before .flows-of .ensures) (some .if3 .left) _ (c .unbalanced-block .ensures)
+
+first-wrong-count-requires : tie.Need-first-wrong-count-requires
+first-wrong-count-requires c κs =
+    let right = c .before .before in
+    let found = right .before in
+    readable _ _ _ _ (found .before .before .before .pre) _ (found .first-wrong .ensures) (right .if1 .left)
+
+unbalanced-block-requires : tie.Need-unbalanced-block-requires
+unbalanced-block-requires c κs =
+    let right = c .before .before .before .before .before .before in
+    let found = right .before in
+    (readable _ _ _ _ (found .before .before .before .pre) _ (found .first-wrong .ensures) (right .if1 .left), search needs, search needs)
 
 pub first-fault-spec : {M : Type 1} → statement M
 first-fault-spec =
@@ -12,27 +43,17 @@ first-fault-spec =
     (λ c. search (needs, row-fits))
     (λ c. search needs)
     (λ c. search (needs, column-fits))
-    (λ c. search (needs, too-large))
+    (λ c. search (needs, wrong-entry))
     (λ c κs. search (needs, readable))
     (λ c. search needs)
     (λ c. search (needs, row-fits))
     (λ c. search needs)
     (λ c. search (needs, column-fits))
     (λ c. search (needs, twice))
-    (λ c κs. (search (needs, readable), search needs))
-    (λ c. search needs)
-    (λ c. search (needs, input-fits))
-    (λ c. search needs)
-    (λ c. search (needs, output-fits))
-    (λ c.
-    let large = c .before .before .before .before .before in
-    wrong _ _ _ _ (large .before .before .before .pre) _ (large .first-too-large .ensures) (c .before .before .before .before .if1 .left)
-    _ (c .before .before .before .first-twice .ensures) (c .before .before .if2 .left) _ (c .before .first-wrong-count .ensures) (c .if3 .taken))
+    first-wrong-count-requires
     (λ c κs. search needs)
-    (λ c κs. (search (needs, readable), search needs, search needs))
-    (λ c.
-    let counted = c .before .before .before in
-    let large = counted .before .before .before .before in
-    last-fault _ _ _ _ (large .before .before .before .pre) _ (large .first-too-large .ensures) (counted .before .before .before .if1 .left)
-    _ (counted .before .before .first-twice .ensures) (counted .before .if2 .left) _ (counted .first-wrong-count .ensures) (c .before .before .if3 .left)
-    _ (c .unbalanced-block .ensures)))
+    (λ c. search (needs, flow-fits))
+    returns-3
+    (λ c κs. search needs)
+    unbalanced-block-requires
+    returns-4)

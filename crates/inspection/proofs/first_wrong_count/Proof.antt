@@ -1,20 +1,20 @@
-use Prim.Native.Nat.{_-_, _*_}
-use mathlib.Core.Path.{_≡_}
-use lib.ListN.{length}
-use Rattle.model.specs.Frames.{runOf}
-use Rattle.model.specs.Inspect.{wrongCount}
-use Rattle.model.proofs.Searches.{Passed, passed-start}
-use Rattle.tally.specs.Tally.{tallyOf}
-use Rattle.inspection.proofs.Found.{count-on, count-found, position-low, position-done}
+use Prim.Native.Nat.{_-_}
 use borrow.Author.Needs.{needs}
+use Rattle.inspection.proofs.Found.{Counting, counting-start, counting-in, counting-low, counting-on, counting-found, counting-end}
 use Rattle.inspection.proofs.first_wrong_count.Statement.{statement}
 use Rattle.inspection.proofs.first_wrong_count.Tie as tie
 
 abbrev Inv-loop : tie.InvT-loop
-Inv-loop ports slots matrix frame tally p₀ p = (tally ≡ tallyOf ports (runOf ports 0 slots frame)) × Passed (wrongCount ports matrix frame) 0 (ports * ports) p
+Inv-loop ports slots list frame tally count f₀ f = Counting ports slots list frame tally count f
 
 abbrev μ-loop : tie.MeasureT-loop
-μ-loop ports slots matrix frame tally p₀ p = length matrix - p
+μ-loop ports slots list frame tally count f₀ f = count - f
+
+loop-again : tie.Need-loop-again Inv-loop μ-loop
+loop-again c =
+    let read = c .before .before in
+    let at = read .before .before in
+    counting-on (at .before .before .before .before .before .before .pre) (at .loop .inv) (read .before .loop-test .taken) (read .count .ensures .0) (c .before .number-of .ensures .0) (c .if1 .left)
 
 pub first-wrong-count-spec : {M : Type 1} → statement M
 first-wrong-count-spec =
@@ -23,13 +23,14 @@ first-wrong-count-spec =
     Inv-loop
     μ-loop
     (λ c κs. search needs)
-    (λ c. (search needs, passed-start _ _ _))
+    (λ c κs. search needs)
+    (λ c. search (needs, counting-start))
     (λ c. search needs)
-    (λ c. search (needs, position-low))
+    (λ c. search (needs, counting-low))
+    (λ c κs. search needs)
+    (λ c κs. (search (needs, counting-in), search needs))
+    (λ c. search (needs, counting-found))
     (λ c. search needs)
     (λ c. search needs)
-    (λ c. search (needs, count-found))
-    (λ c. search needs)
-    (λ c. search needs)
-    (λ c. (search needs, search (needs, count-on)))
-    (λ c. search (needs, position-done)))
+    loop-again
+    (λ c. search (needs, counting-end)))

@@ -1,19 +1,19 @@
 use Prim.Native.Nat.{_-_}
 use mathlib.Core.Path.{_≡_}
+use borrow.Author.Needs.{needs}
 use Rattle.model.specs.Frames.{runOf}
 use Rattle.model.specs.Inspect.{twiceIn}
 use Rattle.model.proofs.Searches.{Passed, passed-start, passed-done}
 use Rattle.tally.specs.Tally.{tallyOf}
 use Rattle.inspection.proofs.Found.{twice-on, twice-found}
-use borrow.Author.Needs.{needs}
 use Rattle.inspection.proofs.lowest_twice.Statement.{statement}
 use Rattle.inspection.proofs.lowest_twice.Tie as tie
 
 abbrev Inv-loop : tie.InvT-loop
-Inv-loop ports slots frame slot tally o₀ o = (tally ≡ tallyOf ports (runOf ports slot 1 frame)) × Passed (twiceIn ports (runOf ports slot 1 frame)) 0 ports o
+Inv-loop ports slots list frame slot tally o₀ o = (tally ≡ tallyOf ports list (runOf ports slot 1 frame)) × Passed (twiceIn ports list (runOf ports slot 1 frame)) 0 ports o
 
 abbrev μ-loop : tie.MeasureT-loop
-μ-loop ports slots frame slot tally o₀ o = ports - o
+μ-loop ports slots list frame slot tally o₀ o = ports - o
 
 pub lowest-twice-spec : {M : Type 1} → statement M
 lowest-twice-spec =

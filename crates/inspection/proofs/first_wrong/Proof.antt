@@ -1,0 +1,31 @@
+use Prim.Native.Nat.{_≤_, _-_, _*_}
+use borrow.Author.Needs.{needs}
+use native.Mathlib.Omega.{arith}
+use Rattle.model.specs.Inspect.{isWrong}
+use Rattle.model.proofs.Searches.{Passed}
+use Rattle.inspection.proofs.Found.{slots-start, entries-on, entries-found, entries-row, entries-fits, slots-end, lent-fits}
+use Rattle.inspection.proofs.first_wrong.Statement.{statement}
+use Rattle.inspection.proofs.first_wrong.Tie as tie
+
+abbrev Inv-loop : tie.InvT-loop
+Inv-loop ports slots list frame s₀ s = (s ≤ slots) × Passed (isWrong ports list frame) 0 (slots * ports) (s * ports)
+
+abbrev μ-loop : tie.MeasureT-loop
+μ-loop ports slots list frame s₀ s = slots - s
+
+pub first-wrong-spec : {M : Type 1} → statement M
+first-wrong-spec =
+    tie.close
+    (tie.spec
+    Inv-loop
+    μ-loop
+    (λ c. (omega arith, slots-start _ _ _))
+    (λ c κs. search needs)
+    (λ c. search (needs, entries-row))
+    (λ c. search (needs, entries-fits))
+    (λ c. search (needs, entries-found))
+    (λ c. search needs)
+    (λ c. search needs)
+    (λ c. (omega arith, search (needs, entries-on)))
+    (λ c. search (needs, lent-fits))
+    (λ c. search (needs, slots-end)))

@@ -1,0 +1,32 @@
+use Prim.Native.Nat.{_-_}
+use borrow.Author.Needs.{needs}
+use Rattle.model.proofs.Searches.{Passed, passed-start, passed-done}
+use Rattle.inspection.specs.Faults.{wrongIn}
+use Rattle.inspection.proofs.Found.{from-fits, place-low, place-fits, offset-fits, wrong-on, wrong-found}
+use Rattle.inspection.proofs.lowest_wrong.Statement.{statement}
+use Rattle.inspection.proofs.lowest_wrong.Tie as tie
+
+abbrev Inv-loop : tie.InvT-loop
+Inv-loop ports slots list frame slot «from» i₀ i = Passed (wrongIn ports list frame slot) 0 ports i
+
+abbrev μ-loop : tie.MeasureT-loop
+μ-loop ports slots list frame slot «from» i₀ i = ports - i
+
+pub lowest-wrong-spec : {M : Type 1} → statement M
+lowest-wrong-spec =
+    tie.close
+    (tie.spec
+    Inv-loop
+    μ-loop
+    (λ c. search (needs, from-fits))
+    (λ c. passed-start _ _ _)
+    (λ c. search (needs, place-fits))
+    (λ c. search (needs, offset-fits))
+    (λ c. search (needs, place-low))
+    (λ c κs. search needs)
+    (λ c κs. search needs)
+    (λ c. search (needs, wrong-found))
+    (λ c. search needs)
+    (λ c. search needs)
+    (λ c. search (needs, wrong-on))
+    (λ c. search (needs, passed-done)))
