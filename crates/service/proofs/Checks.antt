@@ -1,69 +1,89 @@
 -- The checks of Service count, and what is known where none holds.
-use Prim.Native.Nat.{ℕ, _-_}
+use Prim.Native.Nat.{ℕ, _-_, _*_, _≤_}
 use mathlib.Core.Path.{_≡_, refl, sym, _∙_}
 use mathlib.Core.List.{List, [], _∷_}
 use mathlib.Core.Bool.{Bool, true, false, not}
 use native.Mathlib.Omega.{arith}
-use lib.Dec.{ltb}
-use borrow.Author.Tests.{ltb-false, not-false}
-use Rattle.model.specs.Refusals.{Check, report, accepted}
-use Rattle.model.specs.Service.{viewChecks, classOf, portsWithin, bad-who, bad-length, repeated, lead, served, countChecks, service}
+use lib.Dec.{eqb, ltb}
+use lib.ListN.{length}
+use lib.Pow.{pow-pos}
+use borrow.Author.Tests.{ltb-false, not-false, eqb-true}
+use Rattle.model.specs.Words.{within}
+use Rattle.model.specs.Refusals.{Check, report, clear, refusal, answered, listChecks, bad-frame, bad-slot}
+use Rattle.model.specs.Service.{classOf, whoWithin, bad-who, bad-length, repeated, lead, served, countChecks, service}
 use Rattle.model.specs.Frames.{cells}
+use Rattle.model.specs.declared.Answer.{Answer}
+use Rattle.model.specs.declared.Answer.the-variants.{Accepted}
+use Rattle.model.specs.declared.Answer.the-variants as answer
 use Rattle.model.specs.declared.Refusal.{Refusal}
-use Rattle.model.specs.declared.Refusal.the-variants.{PortNumber, RunLength}
+use Rattle.model.specs.declared.Refusal.the-variants.{FrameLength, SlotNumber, FlowOrPort, RunLength}
 use Rattle.model.specs.declared.Who.{Who}
 use Rattle.model.specs.declared.Count.{Count}
 use Rattle.model.specs.declared.Service.the-variants.{Counted, Refused}
-use Rattle.model.proofs.Reports.{report-clear, report-refused, clear-then, refusal-number}
+use Rattle.model.proofs.Levels.{power-most}
+use Rattle.model.proofs.Reports.{clear-then, refusal-number, within-known}
 use Rattle.model.proofs.Replies.{count, reply-refused, reply-counted}
-use Rattle.view.specs.Asked.{checked}
-use Rattle.view.proofs.Checks.{Open, Shut}
+use Rattle.model.proofs.Demand2.{past-load, well-clear}
+use Rattle.admission.specs.Lists.{ListAnswer}
+use Rattle.admission.proofs.Listed.{list-refused, list-well}
 use Rattle.service.specs.Whom.{Asked}
 
--- ---- what the count of a run asks
-pub asked : {ports slots : ℕ} {bytes : List ℕ} {who : Who} {start len : ℕ} → Open ports slots bytes start → {a : Bool} → a ≡ not (portsWithin ports who)
-    → a ≡ false → {b : Bool} → b ≡ ltb 1000000 len → b ≡ false → Asked ports slots bytes who (start - 1) len
-asked {ports} {who = who} {len = len} o p p' s s' =
-    record {
-      framed = o .framed;
-      ports-are = not-false (portsWithin ports who) (sym p ∙ p');
-      start-is = (let a = o .slot-least in let b = o .slot-most in omega arith);
-      length-is = ltb-false 1000000 len (sym s ∙ s');
-    }
+-- what comes after the checks of the list
+abbrev restOf : ℕ → ℕ → List ℕ → List ℕ → Who → ℕ → ℕ → List Check
+restOf ports slots list frame who start len = bad-frame ports slots frame ∷ bad-slot slots start ∷ bad-who ports list who ∷ bad-length len ∷ []
 
--- ---- the answers of Service count in their order
-module _ (ports slots : ℕ) (bytes : List ℕ) (who : Who) (start len : ℕ) where
-  -- 12 and 13, which come after Slot view's
-  abbrev last : List Check
-  last = bad-who ports who ∷ bad-length len ∷ []
+module _ {ports slots : ℕ} {list : List ℕ} {a : Answer} (frame : List ℕ) (who : Who) (start len : ℕ) (is : ListAnswer ports slots list (answered a)) where
+  pub list-shut : {r : Refusal} → a ≡ answer.Refused r → served (Refused r) ≡ service ports slots list frame who start len
+  unfolding countChecks
+  list-shut {r} e = reply-refused ports slots list frame who start len (sym (list-refused is e (restOf ports slots list frame who start len) (count ports slots list frame who start len))) (refusal-number r)
 
-  in-turn : report (viewChecks ports slots bytes start) (report last (count ports slots bytes who start len))
-      ≡ report (countChecks ports slots bytes who start len) (count ports slots bytes who start len)
-  unfolding countChecks viewChecks
-  in-turn = refl
+  module _ (yes : a ≡ Accepted) where
+    -- the answers in their order
+    refused-by : (r : Refusal) → report (restOf ports slots list frame who start len) (count ports slots list frame who start len) ≡ refusal r → served (Refused r) ≡ service ports slots list frame who start len
+    unfolding countChecks
+    refused-by r e =
+        reply-refused ports slots list frame who start len (past-load ports slots list (list-well is yes) (restOf ports slots list frame who start len) (count ports slots list frame who start len) ∙ e) (refusal-number r)
 
-  pub frame-refused : {r : Refusal} → Shut ports slots bytes start r → served (Refused r) ≡ service ports slots bytes who start len
-  unfolding checked
-  frame-refused {r} s =
-      reply-refused ports slots bytes who start len
-      (sym (s .same ∙ report-refused (viewChecks ports slots bytes start) accepted _ (s .some) ∙ in-turn)) (refusal-number r)
+    module _ {b : Bool} (l : b ≡ not (eqb (length frame) (slots * ports))) where
+      pub frame-shut : b ≡ true → served (Refused FrameLength) ≡ service ports slots list frame who start len
+      frame-shut e = refused-by FrameLength (rw (sym l ∙ e))
 
-  module _ (o : Open ports slots bytes start) where
-    passed : report (countChecks ports slots bytes who start len) (count ports slots bytes who start len) ≡ report last (count ports slots bytes who start len)
-    passed = sym in-turn ∙ report-clear (viewChecks ports slots bytes start) _ (o .none)
+      module _ (l' : b ≡ false) {c : Bool} (s : c ≡ not (within 1 slots start)) where
+        pub start-shut : c ≡ true → served (Refused SlotNumber) ≡ service ports slots list frame who start len
+        start-shut e = refused-by SlotNumber (rw (sym l ∙ l', sym s ∙ e))
 
-    pub who-refused : {a : Bool} → a ≡ not (portsWithin ports who) → a ≡ true → served (Refused PortNumber) ≡ service ports slots bytes who start len
-    who-refused p e = reply-refused ports slots bytes who start len (rw (sym p ∙ e) at passed) (refusal-number PortNumber)
+        pub start-least : c ≡ false → 1 ≤ start
+        start-least s' = within-known {n = start} {most = slots} s s' .0
 
-    module _ {a : Bool} (p : a ≡ not (portsWithin ports who)) (p' : a ≡ false) where
-      pub length-refused : {b : Bool} → b ≡ ltb 1000000 len → b ≡ true → served (Refused RunLength) ≡ service ports slots bytes who start len
-      length-refused s e = reply-refused ports slots bytes who start len (rw (sym p ∙ p', sym s ∙ e) at passed) (refusal-number RunLength)
+        module _ (s' : c ≡ false) {d : Bool} (p : d ≡ not (whoWithin ports list who)) where
+          pub who-shut : d ≡ true → served (Refused FlowOrPort) ≡ service ports slots list frame who start len
+          who-shut e = refused-by FlowOrPort (rw (sym l ∙ l', sym s ∙ s', sym p ∙ e))
 
-      pub run-counted : {b : Bool} {r : Count} → b ≡ ltb 1000000 len → b ≡ false
-          → r .cells ≡ cells (classOf who) ports (repeated ports slots bytes (start - 1) len)
-          → r .lead ≡ lead (classOf who) ports slots bytes (start - 1) len
-          → served (Counted r) ≡ service ports slots bytes who start len
-      unfolding countChecks viewChecks
-      run-counted s e f g =
-          let clear-all = clear-then (viewChecks ports slots bytes start) last (o .none) in
-          rw (f, g) (reply-counted ports slots bytes who start len (clear-all ∙ rw (sym p ∙ p', sym s ∙ e)))
+          module _ (p' : d ≡ false) {f : Bool} (m : f ≡ ltb 1000000 len) where
+            pub length-shut : f ≡ true → served (Refused RunLength) ≡ service ports slots list frame who start len
+            length-shut e = refused-by RunLength (rw (sym l ∙ l', sym s ∙ s', sym p ∙ p', sym m ∙ e))
+
+            module _ (m' : f ≡ false) where
+              pub asked : Asked ports slots list frame who (start - 1) len
+              asked =
+                  let w = list-well is yes in
+                  let t = within-known {n = start} {most = slots} s s' in
+                  record {
+                    framed = record {
+                      ports-most = w .rack .1;
+                      slot = omega (arith, w .power .is, pow-pos (w .power .k));
+                      slots-most = omega (arith, w .power .is, power-most (w .power));
+                      size = eqb-true (length frame) (slots * ports) (not-false _ (sym l ∙ l'));
+                    };
+                    named = record { within-is = not-false (whoWithin ports list who) (sym p ∙ p'); ported = w .ported };
+                    start-is = omega (arith, t .0, t .1);
+                    length-is = ltb-false 1000000 len (sym m ∙ m');
+                  }
+
+              pub run-counted : {r : Count} → r .cells ≡ cells (classOf who) ports list (repeated ports slots frame (start - 1) len)
+                  → r .lead ≡ lead (classOf who) ports slots list frame (start - 1) len → served (Counted r) ≡ service ports slots list frame who start len
+              unfolding countChecks
+              run-counted f g =
+                  let clear-all : clear (countChecks ports slots list frame who start len) ≡ true
+                  = clear-then (listChecks ports slots list) (restOf ports slots list frame who start len) (well-clear ports slots list (list-well is yes)) ∙ rw (sym l ∙ l', sym s ∙ s', sym p ∙ p', sym m ∙ m') in
+                  rw (f, g) (reply-counted ports slots list frame who start len clear-all)

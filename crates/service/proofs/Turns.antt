@@ -6,56 +6,55 @@ use native.Mathlib.Omega.{arith}
 use native.Mathlib.Nat.{mul-le-mul, mul-le-mul-right}
 use lib.IntN.{pos, _-ℤ_}
 use lib.ListN.{length, take, drop, length-take, length-drop}
-use Rattle.model.specs.Loads.{Class}
+use Rattle.model.specs.Flows.{Class}
 use Rattle.model.specs.Frames.{cells, runOf}
 use Rattle.model.specs.Service.{classOf, repeated, lead}
 use Rattle.model.specs.declared.Who.{Who}
 use Rattle.model.proofs.Runs.{cells-most, repeated-most, cells-turns}
-use Rattle.view.specs.Asked.{Framed}
-use Rattle.service.specs.Whom.{Asked}
+use Rattle.service.specs.Whom.{Framed, Asked}
 
--- the bytes of a run inside a frame
-pub part-run : (ports start len : ℕ) (bytes : List ℕ) → take (start * ports + len * ports - start * ports) (drop (start * ports) bytes) ≡ runOf ports start len bytes
+-- the entries of a run inside a frame
+pub part-run : (ports start len : ℕ) (entries : List ℕ) → take (start * ports + len * ports - start * ports) (drop (start * ports) entries) ≡ runOf ports start len entries
 unfolding runOf
-part-run ports start len bytes =
+part-run ports start len entries =
     let e : start * ports + len * ports - start * ports ≡ len * ports = omega arith in
-    ap (λ z. take z (drop (start * ports) bytes)) e
+    ap (λ z. take z (drop (start * ports) entries)) e
 
-module _ {ports slots : ℕ} {bytes : List ℕ} (f : Framed ports slots bytes) where
-  pub frame-short : length bytes ≤ 16384
+module _ {ports slots : ℕ} {entries : List ℕ} (f : Framed ports slots entries) where
+  pub frame-short : length entries ≤ 16384
   frame-short = omega (arith, f .size, mul-le-mul (f .slots-most) (f .ports-most))
 
-  pub part-short : (n m : ℕ) → length (take n (drop m bytes)) ≤ 16384
-  part-short n m = omega (arith, frame-short, length-take n (drop m bytes), length-drop m bytes)
+  pub part-short : (n m : ℕ) → length (take n (drop m entries)) ≤ 16384
+  part-short n m = omega (arith, frame-short, length-take n (drop m entries), length-drop m entries)
 
-  pub run-inside : (start len : ℕ) → start + len ≤ slots → start * ports + len * ports ≤ length bytes
+  pub run-inside : (start len : ℕ) → start + len ≤ slots → start * ports + len * ports ≤ length entries
   run-inside start len h = omega (arith, f .size, mul-le-mul-right ports h)
 
-module _ {ports slots : ℕ} {bytes : List ℕ} {who : Who} {start len : ℕ} (a : Asked ports slots bytes who start len) where
+module _ {ports slots : ℕ} {list entries : List ℕ} {who : Who} {start len : ℕ} (a : Asked ports slots list entries who start len) where
   -- what the whole frame holds, and a run of at most 1,000,000 slots
-  pub whole-fits : {n : ℕ} → n ≡ cells (classOf who) ports bytes → n ≤ 16384
-  whole-fits e = omega (arith, e, cells-most (classOf who) ports bytes, frame-short (a .framed))
+  pub whole-fits : {n : ℕ} → n ≡ cells (classOf who) ports list entries → n ≤ 16384
+  whole-fits e = omega (arith, e, cells-most (classOf who) ports list entries, frame-short (a .framed))
 
-  pub run-fits : {n : ℕ} → n ≡ cells (classOf who) ports (repeated ports slots bytes start len) → n ≤ 16000000
+  pub run-fits : {n : ℕ} → n ≡ cells (classOf who) ports list (repeated ports slots entries start len) → n ≤ 16000000
   run-fits e =
-      omega (arith, e, repeated-most (classOf who) ports slots bytes start len, mul-le-mul (a .length-is) (a .framed .ports-most))
+      omega (arith, e, repeated-most (classOf who) ports slots list entries start len, mul-le-mul (a .length-is) (a .framed .ports-most))
 
   -- whole turns, the part before the frame's end, and the part after it
   pub parts-run : (head tail : ℕ) {whole before after : ℕ} → head ≡ min (len % slots) (slots - start) → head + tail ≡ len % slots
-      → whole ≡ cells (classOf who) ports bytes → before ≡ cells (classOf who) ports (runOf ports start head bytes)
-      → after ≡ cells (classOf who) ports (runOf ports 0 tail bytes)
-      → len / slots * whole + (before + after) ≡ cells (classOf who) ports (repeated ports slots bytes start len)
+      → whole ≡ cells (classOf who) ports list entries → before ≡ cells (classOf who) ports list (runOf ports start head entries)
+      → after ≡ cells (classOf who) ports list (runOf ports 0 tail entries)
+      → len / slots * whole + (before + after) ≡ cells (classOf who) ports list (repeated ports slots entries start len)
   parts-run head tail h e w b t =
       omega (
         arith,
         b,
         t,
         ap (λ z. len / slots * z) w,
-        cells-turns ports slots bytes (a .framed .size) (classOf who) start len (len / slots) head tail (a .start-is) refl h e,
+        cells-turns ports slots list entries (a .framed .size) (classOf who) start len (len / slots) head tail (a .start-is) refl h e,
       )
 
 -- the lead, by what was counted
-pub lead-counted : (c : Class) (ports slots : ℕ) (bytes : List ℕ) (start len : ℕ) {had whole : ℕ} → had ≡ cells c ports (repeated ports slots bytes start len)
-    → whole ≡ cells c ports bytes → pos (slots * had) -ℤ pos (len * whole) ≡ lead c ports slots bytes start len
+pub lead-counted : (c : Class) (ports slots : ℕ) (list entries : List ℕ) (start len : ℕ) {had whole : ℕ} → had ≡ cells c ports list (repeated ports slots entries start len)
+    → whole ≡ cells c ports list entries → pos (slots * had) -ℤ pos (len * whole) ≡ lead c ports slots list entries start len
 unfolding lead
-lead-counted c ports slots bytes start len h w = rw (h, w)
+lead-counted c ports slots list entries start len h w = rw (h, w)

@@ -1,82 +1,104 @@
--- Whom a count is for: its ports, and the bytes that can count.
-use Prim.Native.Nat.{ℕ, suc, _-_, _≤_, _<_}
-use mathlib.Core.Path.{_≡_, refl, sym, _∙_}
+-- Whom a count is for: a flow or a port, and the entries that can count.
+use Prim.Native.Nat.{ℕ, suc, _+_, _-_, _≤_, _<_}
+use mathlib.Core.Path.{_≡_, refl, sym, ap, _∙_}
+use mathlib.Core.List.{List}
 use mathlib.Core.Bool.{Bool, true, false, not}
 use native.Mathlib.Omega.{arith}
 use lib.Dec.{eqb}
-use borrow.Author.Tests.{eq-eqb, not-true, not-false}
+use borrow.Author.Tests.{eq-eqb, ne-eqb}
 use Rattle.model.specs.Words.{bit, within}
-use Rattle.model.specs.Loads.{Class, pair, input, output, total, Of}
+use Rattle.model.specs.Flows.{flows, numberOf, outputs, portOf, Class, flow, input, output, total, Of}
 use Rattle.model.specs.Frames.{counts}
-use Rattle.model.specs.Service.{classOf, portsWithin}
+use Rattle.model.specs.Service.{classOf, whoWithin}
 use Rattle.model.specs.declared.Who.{Who}
-use Rattle.model.specs.declared.Who.the-variants.{Pair, Input, Output}
-use Rattle.model.proofs.Cases.{both-true, within-true}
+use Rattle.model.specs.declared.Who.the-variants.{Flow, Input, Output}
+use Rattle.model.proofs.Cases.{byEq, within-true, within-yes, within-above}
+use Rattle.model.proofs.Reports.{Ported}
+use Rattle.model.proofs.Flows.{flow-counts}
 use Rattle.model.proofs.Replies.{who-of}
-use Rattle.service.specs.Whom.{Numbered, firstByte, nextByte}
+use Rattle.service.specs.Whom.{Named, firstEntry, nextEntry}
 
 -- ---- refusal 12
-module _ (ports : ℕ) {i o : ℕ} (who : Who) (is : who ≡ Pair i o) {a : Bool} (p : a ≡ not (within 1 ports i)) where
-  pub input-outside : a ≡ true → true ≡ not (portsWithin ports who)
-  input-outside e = rw (is, not-true (within 1 ports i) (sym p ∙ e))
+pub flow-alone : (ports : ℕ) (list : List ℕ) {f n : ℕ} (who : Who) {a : Bool} → who ≡ Flow f → n ≡ flows list → a ≡ not (within 1 n f) → a ≡ not (whoWithin ports list who)
+flow-alone ports list who is e p = rw (is, ← e) p
 
-  pub output-outside : {b : Bool} → a ≡ false → b ≡ not (within 1 ports o) → b ≡ not (portsWithin ports who)
-  output-outside e q = rw (is, not-false (within 1 ports i) (sym p ∙ e)) q
+pub input-alone : (ports : ℕ) (list : List ℕ) {i : ℕ} (who : Who) {a : Bool} → who ≡ Input i → a ≡ not (within 1 ports i) → a ≡ not (whoWithin ports list who)
+input-alone ports list who is p = rw is p
 
-pub input-alone : (ports : ℕ) {i : ℕ} (who : Who) {a : Bool} → who ≡ Input i → a ≡ not (within 1 ports i) → a ≡ not (portsWithin ports who)
-input-alone ports who is p = rw is p
-
-pub output-alone : (ports : ℕ) {o : ℕ} (who : Who) {a : Bool} → who ≡ Output o → a ≡ not (within 1 ports o) → a ≡ not (portsWithin ports who)
-output-alone ports who is p = rw is p
+pub output-alone : (ports : ℕ) (list : List ℕ) {o : ℕ} (who : Who) {a : Bool} → who ≡ Output o → a ≡ not (within 1 ports o) → a ≡ not (whoWithin ports list who)
+output-alone ports list who is p = rw is p
 
 -- ---- what is known where it does not hold
-pub who-numbered : (ports : ℕ) (who : Who) → portsWithin ports who ≡ true → Numbered who
-who-numbered ports (Pair i o) e =
-    let b = both-true (within 1 ports i) (within 1 ports o) e in
-    (within-true 1 ports i (b .0) .0, within-true 1 ports o (b .1) .0)
-who-numbered ports (Input i) e = within-true 1 ports i e .0
-who-numbered ports (Output o) e = within-true 1 ports o e .0
+module _ {ports : ℕ} {list : List ℕ} {who : Who} (n : Named ports list who) where
+  pub flow-named : {f : ℕ} → who ≡ Flow f → (1 ≤ f) × (f ≤ flows list)
+  flow-named {f} is = within-true 1 (flows list) f (ap (whoWithin ports list) (sym is) ∙ n .within-is)
 
--- ---- the bytes that can count
--- the first is one of the first slot, and the next at most a slot later
-first-low : (ports : ℕ) (c : Class) → Of ports c → firstByte c < nextByte ports c
-first-low ports (pair i o) of = of .0
+  pub input-named : {i : ℕ} → who ≡ Input i → 1 ≤ i
+  input-named {i} is = within-true 1 ports i (ap (whoWithin ports list) (sym is) ∙ n .within-is) .0
+
+  pub output-named : {o : ℕ} → who ≡ Output o → 1 ≤ o
+  output-named {o} is = within-true 1 ports o (ap (whoWithin ports list) (sym is) ∙ n .within-is) .0
+
+-- ---- the entries that can count
+-- the first is one of the first slot, and the next at most sixteen later
+first-low : (ports : ℕ) (c : Class) → Of ports c → firstEntry c < nextEntry ports c
+first-low ports (flow f) of = omega arith
 first-low ports (input i) of = of
 first-low ports (output o) of = omega arith
 first-low ports total of = omega arith
 
-next-low : (ports : ℕ) (who : Who) → Of ports (classOf who) → nextByte ports (classOf who) ≤ ports
-next-low ports (Pair i o) of = omega arith
-next-low ports (Input i) of = omega arith
-next-low ports (Output o) of = omega arith
+next-low : (ports : ℕ) (who : Who) → ports ≤ 16 → nextEntry ports (classOf who) ≤ 16
+next-low ports (Flow f) l = omega arith
+next-low ports (Input i) l = omega arith
+next-low ports (Output o) l = omega arith
 
-pub who-placed : (ports : ℕ) (who : Who) → portsWithin ports who ≡ true
-    → (firstByte (classOf who) < nextByte ports (classOf who)) × (nextByte ports (classOf who) ≤ ports)
-who-placed ports who e = let of = who-of ports who e in (first-low ports (classOf who) of, next-low ports who of)
-
-pub pair-input : (who : Who) {i o : ℕ} → Numbered who → who ≡ Pair i o → 1 ≤ i
-pair-input who n is = (rw is at n) .0
-
-pub input-input : (who : Who) {i : ℕ} → Numbered who → who ≡ Input i → 1 ≤ i
-input-input who n is = rw is at n
+pub who-placed : (ports : ℕ) (list : List ℕ) (who : Who) → ports ≤ 16 → Named ports list who
+    → (firstEntry (classOf who) < nextEntry ports (classOf who)) × (nextEntry ports (classOf who) ≤ 16)
+who-placed ports list who l n = (first-low ports (classOf who) (who-of ports list who (n .within-is)), next-low ports who l)
 
 module _ (who : Who) where
-  pub pair-first : {i o : ℕ} → who ≡ Pair i o → i - 1 ≡ firstByte (classOf who)
-  pair-first is = rw is
+  pub flow-first : {f : ℕ} → who ≡ Flow f → 0 ≡ firstEntry (classOf who)
+  flow-first is = rw is
 
-  pub input-first : {i : ℕ} → who ≡ Input i → i - 1 ≡ firstByte (classOf who)
+  pub input-first : {i : ℕ} → who ≡ Input i → i - 1 ≡ firstEntry (classOf who)
   input-first is = rw is
+
+  pub output-first : {o : ℕ} → who ≡ Output o → 0 ≡ firstEntry (classOf who)
+  output-first is = rw is
+
+-- ---- an entry of an output
+module _ (list : List ℕ) (e to : ℕ) where
+  pub idle-sends : e ≡ 0 → false ≡ counts (output (to - 1)) list 0 e
+  idle-sends z = rw z
+
+  module _ (some : e ≡ 0 → ⊥) {n : ℕ} (is : n ≡ flows list) where
+    pub none-sends : n < e → false ≡ counts (output (to - 1)) list 0 e
+    none-sends h = rw (within-above 1 (flows list) e (omega arith) (omega arith))
+
+    pub flow-in : e ≤ n → e - 1 < flows list
+    flow-in h = omega arith
+
+    pub flow-sends : {ports : ℕ} → Ported ports list → 1 ≤ to → e ≤ n → {x : ℕ} → x ≡ numberOf 1 list (e - 1) → eqb x to ≡ counts (output (to - 1)) list 0 e
+    unfolding portOf
+    flow-sends {ports} ported low h {x} d =
+        let w = ported outputs (e - 1) (flow-in h) in
+        rw (within-yes 1 (flows list) e (omega arith) (omega arith))
+        (byEq x to
+        (λ q. eq-eqb x to q ∙ sym (eq-eqb (numberOf 1 list (e - 1) - 1) (to - 1) (omega arith)))
+        (λ q. ne-eqb x to q ∙ sym (ne-eqb (numberOf 1 list (e - 1) - 1) (to - 1) (λ z. q (omega arith)))))
 
 back : (o : ℕ) → 1 ≤ o → o ≡ suc (o - 1)
 back o l = omega arith
 
--- a byte there counts for a pair or an output if it is the output, for an input if it is not 0
-module _ (who : Who) (byte : ℕ) (n : Numbered who) {r : ℕ} where
-  pub pair-counts : {i o : ℕ} → who ≡ Pair i o → r ≡ bit (eqb byte o) → r ≡ bit (counts (classOf who) (firstByte (classOf who)) byte)
-  pair-counts {i} {o} is e = rw (is, eq-eqb (i - 1) (i - 1) refl, ← (back o ((rw is at n) .1))) e
+-- an entry there counts for a flow if it is its number, for an input if it is not 0, for an output if it is a flow of it
+module _ {ports : ℕ} {list : List ℕ} (who : Who) (e : ℕ) (n : Named ports list who) {r : ℕ} where
+  pub flow-of-counts : {f : ℕ} → who ≡ Flow f → r ≡ bit (eqb e f) → r ≡ bit (counts (classOf who) list (firstEntry (classOf who)) e)
+  flow-of-counts {f} is d =
+      let w = flow-named n is in
+      rw is (d ∙ ap (λ z. bit (eqb e z)) (back f (w .0)) ∙ sym (flow-counts list (f - 1) 0 e (omega arith)))
 
-  pub input-counts : {i : ℕ} → who ≡ Input i → r ≡ bit (not (eqb byte 0)) → r ≡ bit (counts (classOf who) (firstByte (classOf who)) byte)
-  input-counts {i} is e = rw (is, eq-eqb (i - 1) (i - 1) refl) e
+  pub input-counts : {i : ℕ} → who ≡ Input i → r ≡ bit (not (eqb e 0)) → r ≡ bit (counts (classOf who) list (firstEntry (classOf who)) e)
+  input-counts {i} is d = rw (is, eq-eqb (i - 1) (i - 1) refl) d
 
-  pub output-counts : {o : ℕ} → who ≡ Output o → r ≡ bit (eqb byte o) → r ≡ bit (counts (classOf who) (firstByte (classOf who)) byte)
-  output-counts {o} is e = rw (is, ← (back o (rw is at n))) e
+  pub output-counts : {o : ℕ} {b : Bool} → who ≡ Output o → b ≡ counts (output (o - 1)) list 0 e → r ≡ bit b → r ≡ bit (counts (classOf who) list (firstEntry (classOf who)) e)
+  output-counts {o} is q d = rw is (d ∙ ap bit q)

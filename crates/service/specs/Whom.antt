@@ -1,37 +1,43 @@
--- Whom a count is for, where it is not refused, and which bytes can count.
-use Prim.Native.Nat.{ℕ, _≤_, _<_}
+-- Whom a count is for, where it is not refused, and which entries can count.
+use Prim.Native.Nat.{ℕ, _*_, _≤_, _<_}
 use mathlib.Core.Path.{_≡_}
 use mathlib.Core.List.{List}
 use mathlib.Core.Bool.{true}
-use Rattle.model.specs.Loads.{Class, pair, input, output, total}
-use Rattle.model.specs.Service.{portsWithin}
+use lib.ListN.{length}
+use Rattle.model.specs.Flows.{Class, flow, input, output, total}
+use Rattle.model.specs.Service.{whoWithin}
 use Rattle.model.specs.declared.Who.{Who}
-use Rattle.model.specs.declared.Who.the-variants.{Pair, Input, Output}
-use Rattle.view.specs.Asked.{Framed}
+use Rattle.model.proofs.Reports.{Ported}
 
--- The ports of whom a count is for are numbered from 1.
-abbrev pub Numbered : Who → Type 0
-Numbered (Pair i o) = (1 ≤ i) × (1 ≤ o)
-Numbered (Input i) = 1 ≤ i
-Numbered (Output o) = 1 ≤ o
+-- Whom a count is for is a flow of the list or a port of the switch, and the list's flows are at ports of the switch.
+pub record Named (ports : ℕ) (list : List ℕ) (who : Who) : Type 0 where
+  pub within-is : whoWithin ports list who ≡ true
+  pub ported : Ported ports list
 
--- A pair and an input have their bytes at one place of each slot, an output and the total anywhere: where the first stands,
-abbrev pub firstByte : Class → ℕ
-firstByte (pair i o) = i
-firstByte (input i) = i
-firstByte (output o) = 0
-firstByte total = 0
+-- An input has its entries at one place of each slot, a flow, an output and the total anywhere: where the first stands,
+abbrev pub firstEntry : Class → ℕ
+firstEntry (flow f) = 0
+firstEntry (input i) = i
+firstEntry (output o) = 0
+firstEntry total = 0
 
--- and how many bytes later the next.
-abbrev pub nextByte : ℕ → Class → ℕ
-nextByte ports (pair i o) = ports
-nextByte ports (input i) = ports
-nextByte ports (output o) = 1
-nextByte ports total = 1
+-- and how many entries later the next.
+abbrev pub nextEntry : ℕ → Class → ℕ
+nextEntry ports (flow f) = 1
+nextEntry ports (input i) = ports
+nextEntry ports (output o) = 1
+nextEntry ports total = 1
+
+-- A frame of so many slots, as it stands where refusals 1, 2 and 4 do not hold.
+pub record Framed (ports slots : ℕ) (entries : List ℕ) : Type 0 where
+  pub ports-most : ports ≤ 16
+  pub slot : 1 ≤ slots
+  pub slots-most : slots ≤ 1024
+  pub size : length entries ≡ slots * ports
 
 -- What is asked is not refused; the start is numbered from 0.
-pub record Asked (ports slots : ℕ) (bytes : List ℕ) (who : Who) (start len : ℕ) : Type 0 where
-  pub framed : Framed ports slots bytes
-  pub ports-are : portsWithin ports who ≡ true
+pub record Asked (ports slots : ℕ) (list entries : List ℕ) (who : Who) (start len : ℕ) : Type 0 where
+  pub framed : Framed ports slots entries
+  pub named : Named ports list who
   pub start-is : start < slots
   pub length-is : len ≤ 1000000

@@ -1,15 +1,18 @@
 // Service count: the cells of a run of a frame that repeats, and how far ahead they are.
 ghost use mathlib.Core.Path.{_≡_};
-ghost use mathlib.Core.Bool.{true, not};
-ghost use Prim.Native.Nat.{_+_, _*_, _≤_, min};
+ghost use mathlib.Core.Bool.{not};
+ghost use Prim.Native.Nat.{_+_, _-_, _*_, _≤_, min};
 ghost use lib.Dec.{ltb};
 ghost use lib.IntN.{pos, _-ℤ_};
 ghost use lib.ListN.{length};
 ghost use Rattle.model.specs.Words.{bit};
+ghost use Rattle.model.specs.Flows.{output};
 ghost use Rattle.model.specs.Frames.{counts, cells, runOf};
-ghost use Rattle.model.specs.Service.{classOf, portsWithin, repeated, lead, served, service};
-ghost use Rattle.view.specs.Asked.{Framed};
-ghost use Rattle.service.specs.Whom.{Numbered, firstByte, nextByte, Asked};
+ghost use Rattle.model.specs.Service.{classOf, whoWithin, repeated, lead, served, service};
+ghost use Rattle.model.proofs.Reports.{Ported};
+ghost use Rattle.service.specs.Whom.{Named, firstEntry, nextEntry, Framed, Asked};
+use flows::flows_of;
+use flows::number_of;
 use model::Answer;
 use model::Count;
 use model::Refusal;
@@ -24,16 +27,11 @@ fn lesser(a: usize, b: usize) -> usize
 }
 
 // Refusal 12.
-fn bad_who(ports: usize, who: Who) -> bool
-    ensures { λ r. ⌜ r ≡ not (portsWithin ports who) ⌝ }
+fn bad_who(ports: usize, list: &[u16], who: Who) -> bool
+    ensures { λ r. ⌜ r ≡ not (whoWithin ports (now (list .entry)) who) ⌝ }
 {
     match who {
-        Who::Pair { input, output } => {
-            if admission::outside(ports, input) {
-                return true;
-            }
-            admission::outside(ports, output)
-        }
+        Who::Flow(flow) => admission::outside(flows_of(list), flow),
         Who::Input(input) => admission::outside(ports, input),
         Who::Output(output) => admission::outside(ports, output),
     }
@@ -53,51 +51,65 @@ fn one_if(counts: bool) -> usize
     if counts { 1 } else { 0 }
 }
 
-// Where in whole slots the first byte stands that can count for whom is asked.
-fn first_byte(who: Who) -> usize
-    requires { ⌜ Numbered who ⌝ }
-    ensures { λ r. ⌜ r ≡ firstByte (classOf who) ⌝ }
+// Where in whole slots the first entry stands that can count for whom is asked.
+fn first_entry(ports: usize, list: &[u16], who: Who) -> usize
+    requires { ⌜ Named ports (now list) who ⌝ }
+    ensures { λ r. ⌜ r ≡ firstEntry (classOf who) ⌝ }
 {
     match who {
-        Who::Pair { input, .. } => input - 1,
+        Who::Flow(_) => 0,
         Who::Input(input) => input - 1,
         Who::Output(_) => 0,
     }
 }
 
-// How many bytes later the next one stands.
-fn next_byte(ports: usize, who: Who) -> usize
-    ensures { λ r. ⌜ r ≡ nextByte ports (classOf who) ⌝ }
+// How many entries later the next one stands.
+fn next_entry(ports: usize, who: Who) -> usize
+    ensures { λ r. ⌜ r ≡ nextEntry ports (classOf who) ⌝ }
 {
     match who {
-        Who::Pair { .. } => ports,
+        Who::Flow(_) => 1,
         Who::Input(_) => ports,
         Who::Output(_) => 1,
     }
 }
 
-// 1 where a byte that stands there counts, else 0.
-fn counted(who: Who, byte: usize) -> usize
-    requires { ⌜ Numbered who ⌝ }
-    ensures { λ r. ⌜ r ≡ bit (counts (classOf who) (firstByte (classOf who)) byte) ⌝ }
+// An entry is a flow of an output.
+fn sends_to(ports: usize, list: &[u16], entry: usize, to: usize) -> bool
+    requires { ⌜ Ported ports (now list) × (1 ≤ to) ⌝ }
+    ensures { λ r. ⌜ r ≡ counts (output (to - 1)) (now (list .entry)) 0 entry ⌝ }
+{
+    if entry == 0 {
+        return false;
+    }
+    if flows_of(list) < entry {
+        return false;
+    }
+    number_of(list, entry - 1, 1) == to
+}
+
+// 1 where an entry that stands there counts, else 0.
+fn counted(ports: usize, list: &[u16], who: Who, entry: usize) -> usize
+    requires { ⌜ Named ports (now list) who ⌝ }
+    ensures { λ r. ⌜ r ≡ bit (counts (classOf who) (now (list .entry)) (firstEntry (classOf who)) entry) ⌝ }
 {
     match who {
-        Who::Pair { output, .. } => one_if(byte == output),
-        Who::Input(_) => one_if(byte != 0),
-        Who::Output(output) => one_if(byte == output),
+        Who::Flow(flow) => one_if(entry == flow),
+        Who::Input(_) => one_if(entry != 0),
+        Who::Output(to) => one_if(sends_to(ports, list, entry, to)),
     }
 }
 
 // The cells of whole slots.
-fn slot_cells(ports: usize, who: Who, bytes: &[u8]) -> usize
-    requires { ⌜ (ports ≤ 16) × (portsWithin ports who ≡ true) × (length (now bytes) ≤ 16384) ⌝ }
-    ensures { λ r. ⌜ r ≡ cells (classOf who) ports (now (bytes .entry)) ⌝ }
+fn slot_cells(ports: usize, list: &[u16], who: Who, entries: &[u16]) -> usize
+    requires { ⌜ (ports ≤ 16) × Named ports (now list) who × (length (now entries) ≤ 16384) ⌝ }
+    ensures { λ r. ⌜ r ≡ cells (classOf who) ports (now (list .entry)) (now (entries .entry)) ⌝ }
 {
-    let step = next_byte(ports, who);
+    let step = next_entry(ports, who);
     let mut sum: usize = 0;
-    let mut q: usize = first_byte(who);
-    while q < bytes.len() {
-        sum += counted(who, widths::byte(bytes[q]));
+    let mut q: usize = first_entry(ports, list, who);
+    while q < entries.len() {
+        sum += counted(ports, list, who, widths::count(entries[q]));
         q += step;
     }
     sum
@@ -107,37 +119,39 @@ fn slot_cells(ports: usize, who: Who, bytes: &[u8]) -> usize
 fn inside_cells(
     ports: usize,
     slots: usize,
-    frame: &[u8],
+    list: &[u16],
+    frame: &[u16],
     who: Who,
     start: usize,
     len: usize,
 ) -> usize
-    requires { ⌜ Framed ports slots (now frame) × (portsWithin ports who ≡ true) × (start + len ≤ slots) ⌝ }
-    ensures { λ r. ⌜ r ≡ cells (classOf who) ports (runOf ports start len (now (frame .entry))) ⌝ }
+    requires { ⌜ Framed ports slots (now frame) × Named ports (now list) who × (start + len ≤ slots) ⌝ }
+    ensures { λ r. ⌜ r ≡ cells (classOf who) ports (now (list .entry)) (runOf ports start len (now (frame .entry))) ⌝ }
 {
     let from = start * ports;
     let to = from + len * ports;
-    slot_cells(ports, who, &frame[from..to])
+    slot_cells(ports, list, who, &frame[from..to])
 }
 
 // The cells of a run of a frame that repeats for ever, from the slot after `start` others on, by what the whole frame holds.
 fn run_cells(
     ports: usize,
     slots: usize,
-    frame: &[u8],
+    list: &[u16],
+    frame: &[u16],
     who: Who,
     start: usize,
     len: usize,
     whole: usize,
 ) -> usize
-    requires { ⌜ Asked ports slots (now frame) who start len × (whole ≡ cells (classOf who) ports (now frame)) ⌝ }
-    ensures { λ r. ⌜ r ≡ cells (classOf who) ports (repeated ports slots (now (frame .entry)) start len) ⌝ }
+    requires { ⌜ Asked ports slots (now list) (now frame) who start len × (whole ≡ cells (classOf who) ports (now list) (now frame)) ⌝ }
+    ensures { λ r. ⌜ r ≡ cells (classOf who) ports (now (list .entry)) (repeated ports slots (now (frame .entry)) start len) ⌝ }
 {
     let rest = len % slots;
     let head = lesser(rest, slots - start);
     let tail = rest - head;
-    let before = inside_cells(ports, slots, frame, who, start, head);
-    let after = inside_cells(ports, slots, frame, who, 0, tail);
+    let before = inside_cells(ports, slots, list, frame, who, start, head);
+    let after = inside_cells(ports, slots, list, frame, who, 0, tail);
     len / slots * whole + (before + after)
 }
 
@@ -152,37 +166,51 @@ fn lead_of(slots: usize, cells: usize, len: usize, whole: usize) -> i64
 }
 
 // The count of a run and its lead; the whole frame is counted once, for both.
-fn count_run(ports: usize, slots: usize, frame: &[u8], who: Who, start: usize, len: usize) -> Count
-    requires { ⌜ Asked ports slots (now frame) who start len ⌝ }
-    ensures { λ r. ⌜ r .cells ≡ cells (classOf who) ports (repeated ports slots (now (frame .entry)) start len) ⌝ }
-    ensures { λ r. ⌜ r .lead ≡ lead (classOf who) ports slots (now (frame .entry)) start len ⌝ }
+fn count_run(
+    ports: usize,
+    slots: usize,
+    list: &[u16],
+    frame: &[u16],
+    who: Who,
+    start: usize,
+    len: usize,
+) -> Count
+    requires { ⌜ Asked ports slots (now list) (now frame) who start len ⌝ }
+    ensures { λ r. ⌜ r .cells ≡ cells (classOf who) ports (now (list .entry)) (repeated ports slots (now (frame .entry)) start len) ⌝ }
+    ensures { λ r. ⌜ r .lead ≡ lead (classOf who) ports slots (now (list .entry)) (now (frame .entry)) start len ⌝ }
 {
-    let whole = slot_cells(ports, who, frame);
-    let cells = run_cells(ports, slots, frame, who, start, len, whole);
+    let whole = slot_cells(ports, list, who, frame);
+    let cells = run_cells(ports, slots, list, frame, who, start, len, whole);
     let lead = lead_of(slots, cells, len, whole);
     Count { cells, lead }
 }
 
-// Service count: 1, 2, 4, 11, 12, 13.
+// Service count: 1, 2, 3, 21, 22, 4, 11, 12, 13.
 pub fn service_count(
     ports: usize,
     slots: usize,
-    frame: &[u8],
+    list: &[u16],
+    frame: &[u16],
     who: Who,
     start: usize,
     len: usize,
 ) -> Service
-    ensures { λ r. ⌜ served r ≡ service ports slots (now (frame .entry)) who start len ⌝ }
+    ensures { λ r. ⌜ served r ≡ service ports slots (now (list .entry)) (now (frame .entry)) who start len ⌝ }
 {
-    let answer = view::check_frame(ports, slots, frame, start);
-    if let Answer::Refused(refusal) = answer {
+    if let Answer::Refused(refusal) = admission::check_list(ports, slots, list) {
         return Service::Refused(refusal);
     }
-    if bad_who(ports, who) {
-        return Service::Refused(Refusal::PortNumber);
+    if admission::bad_length(frame.len(), slots, ports) {
+        return Service::Refused(Refusal::FrameLength);
+    }
+    if admission::outside(slots, start) {
+        return Service::Refused(Refusal::SlotNumber);
+    }
+    if bad_who(ports, list, who) {
+        return Service::Refused(Refusal::FlowOrPort);
     }
     if too_long(len) {
         return Service::Refused(Refusal::RunLength);
     }
-    Service::Counted(count_run(ports, slots, frame, who, start - 1, len))
+    Service::Counted(count_run(ports, slots, list, frame, who, start - 1, len))
 }

@@ -4,7 +4,7 @@ use mathlib.Core.Path.{_≡_, refl, sym, ap, _∙_}
 use mathlib.Core.List.{List, [], _∷_}
 use mathlib.Core.Bool.{Bool, true, false, not}
 use native.Mathlib.Omega.{arith}
-use native.Mathlib.Nat.{mul-le-mul-right}
+use native.Mathlib.Nat.{mul-le-mul, mul-le-mul-right}
 use lib.Dec.{eqb}
 use lib.ListN.{length, getD, take, drop}
 use borrow.Author.Tests.{not-true, not-false, eqb-true, eqb-false}
@@ -16,52 +16,53 @@ use Rattle.model.specs.declared.Answer.the-variants.{Accepted, Refused}
 use Rattle.model.specs.declared.Refusal.{Refusal}
 use Rattle.model.proofs.Cases.{both-true}
 use Rattle.model.proofs.Reports.{report-clear, clear-none, clear-some, within-known, slots-known, refusal-number}
-use Rattle.view.specs.Asked.{checked, Framed, onward}
+use Rattle.view.specs.Asked.{checked, onward}
 
 -- ---- the answers in their order
-module _ (ports slots : ℕ) (bytes : List ℕ) (slot : ℕ) where
-  pub ports-refused : {a : Bool} → a ≡ not (within 1 16 ports) → a ≡ true → 1 ∷ [] ≡ checked ports slots bytes slot
+module _ (ports slots : ℕ) (entries : List ℕ) (slot : ℕ) where
+  pub ports-refused : {a : Bool} → a ≡ not (within 1 16 ports) → a ≡ true → 1 ∷ [] ≡ checked ports slots entries slot
   unfolding checked viewChecks
   ports-refused p e = rw (sym p ∙ e)
 
   module _ {a : Bool} (p : a ≡ not (within 1 16 ports)) (p' : a ≡ false) where
-    pub slots-refused : {b : Bool} → b ≡ eqb (levels slots) 11 → b ≡ true → 2 ∷ [] ≡ checked ports slots bytes slot
+    pub slots-refused : {b : Bool} → b ≡ eqb (levels slots) 11 → b ≡ true → 2 ∷ [] ≡ checked ports slots entries slot
     unfolding checked viewChecks
     slots-refused s e = rw (sym p ∙ p', sym s ∙ e)
 
     module _ {b : Bool} (s : b ≡ eqb (levels slots) 11) (s' : b ≡ false) where
-      pub size-refused : {c : Bool} → c ≡ not (eqb (length bytes) (slots * ports)) → c ≡ true → 4 ∷ [] ≡ checked ports slots bytes slot
+      pub size-refused : {c : Bool} → c ≡ not (eqb (length entries) (slots * ports)) → c ≡ true → 4 ∷ [] ≡ checked ports slots entries slot
       unfolding checked viewChecks
       size-refused l e = rw (sym p ∙ p', sym s ∙ s', sym l ∙ e)
 
-      module _ {c : Bool} (l : c ≡ not (eqb (length bytes) (slots * ports))) (l' : c ≡ false) where
-        pub slot-refused : {d : Bool} → d ≡ not (within 1 slots slot) → d ≡ true → 11 ∷ [] ≡ checked ports slots bytes slot
+      module _ {c : Bool} (l : c ≡ not (eqb (length entries) (slots * ports))) (l' : c ≡ false) where
+        pub slot-refused : {d : Bool} → d ≡ not (within 1 slots slot) → d ≡ true → 11 ∷ [] ≡ checked ports slots entries slot
         unfolding checked viewChecks
         slot-refused t e = rw (sym p ∙ p', sym s ∙ s', sym l ∙ l', sym t ∙ e)
 
-        pub none-refused : {d : Bool} → d ≡ not (within 1 slots slot) → d ≡ false → accepted ≡ checked ports slots bytes slot
+        pub none-refused : {d : Bool} → d ≡ not (within 1 slots slot) → d ≡ false → accepted ≡ checked ports slots entries slot
         unfolding checked viewChecks
         none-refused t e = rw (sym p ∙ p', sym s ∙ s', sym l ∙ l', sym t ∙ e)
 
 -- ---- what is known where none holds
 -- a question that is not refused
-pub record Open (ports slots : ℕ) (bytes : List ℕ) (slot : ℕ) : Type 0 where
-  pub framed : Framed ports slots bytes
+pub record Open (ports slots : ℕ) (entries : List ℕ) (slot : ℕ) : Type 0 where
+  pub size : length entries ≡ slots * ports
+  pub short : length entries ≤ 16384
   pub slot-least : 1 ≤ slot
   pub slot-most : slot ≤ slots
-  pub none : clear (viewChecks ports slots bytes slot) ≡ true
+  pub none : clear (viewChecks ports slots entries slot) ≡ true
 
 -- one that is refused, and how
-pub record Shut (ports slots : ℕ) (bytes : List ℕ) (slot : ℕ) (r : Refusal) : Type 0 where
-  pub same : refusal r ≡ checked ports slots bytes slot
-  pub some : clear (viewChecks ports slots bytes slot) ≡ false
+pub record Shut (ports slots : ℕ) (entries : List ℕ) (slot : ℕ) (r : Refusal) : Type 0 where
+  pub same : refusal r ≡ checked ports slots entries slot
+  pub some : clear (viewChecks ports slots entries slot) ≡ false
 
-opened : (ports slots : ℕ) (bytes : List ℕ) (slot : ℕ) → clear (viewChecks ports slots bytes slot) ≡ true → Open ports slots bytes slot
+opened : (ports slots : ℕ) (entries : List ℕ) (slot : ℕ) → clear (viewChecks ports slots entries slot) ≡ true → Open ports slots entries slot
 unfolding viewChecks
-opened ports slots bytes slot e =
+opened ports slots entries slot e =
     let a : Bool = not (within 1 16 ports) in
     let b : Bool = eqb (levels slots) 11 in
-    let c : Bool = not (eqb (length bytes) (slots * ports)) in
+    let c : Bool = not (eqb (length entries) (slots * ports)) in
     let d : Bool = not (within 1 slots slot) in
     let x = both-true (not a) (both (not b) (both (not c) (both (not d) true))) e in
     let y = both-true (not b) (both (not c) (both (not d) true)) (x .1) in
@@ -69,72 +70,68 @@ opened ports slots bytes slot e =
     let w = both-true (not d) true (z .1) in
     let p = within-known {n = ports} {most = 16} {r = a} refl (not-true a (x .0)) in
     let s = slots-known {slots = slots} {r = b} refl (not-true b (y .0)) in
+    let size = eqb-true (length entries) (slots * ports) (not-false (eqb (length entries) (slots * ports)) (not-true c (z .0))) in
     let t = within-known {n = slot} {most = slots} {r = d} refl (not-true d (w .0)) in
     record {
-      framed = record {
-        port = p .0;
-        ports-most = p .1;
-        slot = s .0;
-        slots-most = s .1;
-        size = eqb-true (length bytes) (slots * ports) (not-false (eqb (length bytes) (slots * ports)) (not-true c (z .0)));
-      };
+      size = size;
+      short = omega (arith, size, mul-le-mul (s .1) (p .1));
       slot-least = t .0;
       slot-most = t .1;
       none = e;
     }
 
-module _ {ports slots : ℕ} {bytes : List ℕ} {slot : ℕ} {answer : Answer} (is : answered answer ≡ checked ports slots bytes slot) where
-  pub accepted-open : answer ≡ Accepted → Open ports slots bytes slot
+module _ {ports slots : ℕ} {entries : List ℕ} {slot : ℕ} {answer : Answer} (is : answered answer ≡ checked ports slots entries slot) where
+  pub accepted-open : answer ≡ Accepted → Open ports slots entries slot
   unfolding checked viewChecks
   accepted-open e =
-      let cs = viewChecks ports slots bytes slot in
-      opened ports slots bytes slot
+      let cs = viewChecks ports slots entries slot in
+      opened ports slots entries slot
       (clear-none cs accepted (eqb-false 1 0 refl, (eqb-false 2 0 refl, (eqb-false 4 0 refl, (eqb-false 11 0 refl, tt)))) (ap (λ l. getD l 0 0) (sym is ∙ ap answered e)))
 
-  pub refused-shut : {r : Refusal} → answer ≡ Refused r → Shut ports slots bytes slot r
+  pub refused-shut : {r : Refusal} → answer ≡ Refused r → Shut ports slots entries slot r
   unfolding checked
   refused-shut {r} e =
       let same = sym (ap answered e) ∙ is in
       record {
         same = same;
-        some = clear-some (viewChecks ports slots bytes slot) accepted refl (λ n. refusal-number r (ap (λ l. getD l 0 0) same ∙ n));
+        some = clear-some (viewChecks ports slots entries slot) accepted refl (λ n. refusal-number r (ap (λ l. getD l 0 0) same ∙ n));
       }
 
 -- ---- the part that Slot view shows
--- the slot's bytes are within the frame
-pub slot-inside : {ports slots : ℕ} {bytes : List ℕ} {slot : ℕ} → Open ports slots bytes slot → (slot - 1) * ports + ports ≤ length bytes
-slot-inside {ports} {slots} {bytes} {slot} o =
-    let size = o .framed .size in
+-- the slot's entries are within the frame
+pub slot-inside : {ports slots : ℕ} {entries : List ℕ} {slot : ℕ} → Open ports slots entries slot → (slot - 1) * ports + ports ≤ length entries
+slot-inside {ports} {slots} {entries} {slot} o =
+    let size = o .size in
     let least = o .slot-least in
     let is : slot ≡ suc (slot - 1) = omega arith in
     omega (arith, mul-le-mul-right ports (o .slot-most), ap (λ z. z * ports) is)
 
-pub begins : (place : ℕ × ℕ) {a b : ℕ} → a ≡ b → (place .0, a + place .1) ≡ onward place b
-begins place {a} {b} e = let s : a + place .1 ≡ place .1 + b = omega arith in ap (λ z. (place .0, z)) s
+pub begins : (place : ℕ × ℕ) {a b : ℕ} → a ≡ b → (place .0, a * 2 + place .1) ≡ onward place b
+begins place {a} {b} e = let s : a * 2 + place .1 ≡ place .1 + 2 * b = omega arith in ap (λ z. (place .0, z)) s
 
-module _ (ports slots : ℕ) (bytes : List ℕ) (slot : ℕ) (o : Open ports slots bytes slot) where
-  pub view-of : take ((slot - 1) * ports + ports - (slot - 1) * ports) (drop ((slot - 1) * ports) bytes) ≡ viewed ports slots bytes slot
+module _ (ports slots : ℕ) (entries : List ℕ) (slot : ℕ) (o : Open ports slots entries slot) where
+  pub view-of : take ((slot - 1) * ports + ports - (slot - 1) * ports) (drop ((slot - 1) * ports) entries) ≡ viewed ports slots entries slot
   view-of = let e : (slot - 1) * ports + ports - (slot - 1) * ports ≡ ports = omega arith in rw (o .none, e)
 
-  pub view-start : (slot - 1) * ports ≡ viewStart ports slots bytes slot
+  pub view-start : (slot - 1) * ports ≡ viewStart ports slots entries slot
   view-start = rw (o .none)
 
-  pub view-size : ports ≡ viewSize ports slots bytes slot
+  pub view-size : ports ≡ viewSize ports slots entries slot
   view-size = rw (o .none)
 
-  pub view-accepted : 0 ≡ viewNumber ports slots bytes slot
-  view-accepted = ap (λ l. getD l 0 0) (sym (report-clear (viewChecks ports slots bytes slot) accepted (o .none)))
+  pub view-accepted : 0 ≡ viewNumber ports slots entries slot
+  view-accepted = ap (λ l. getD l 0 0) (sym (report-clear (viewChecks ports slots entries slot) accepted (o .none)))
 
-module _ (ports slots : ℕ) (bytes : List ℕ) (slot : ℕ) (r : Refusal) (s : Shut ports slots bytes slot r) where
-  pub no-view : [] ≡ viewed ports slots bytes slot
+module _ (ports slots : ℕ) (entries : List ℕ) (slot : ℕ) (r : Refusal) (s : Shut ports slots entries slot r) where
+  pub no-view : [] ≡ viewed ports slots entries slot
   no-view = rw (s .some)
 
-  pub no-start : 0 ≡ viewStart ports slots bytes slot
+  pub no-start : 0 ≡ viewStart ports slots entries slot
   no-start = rw (s .some)
 
-  pub no-size : 0 ≡ viewSize ports slots bytes slot
+  pub no-size : 0 ≡ viewSize ports slots entries slot
   no-size = rw (s .some)
 
-  pub view-refused : getD (refusal r) 0 0 ≡ viewNumber ports slots bytes slot
+  pub view-refused : getD (refusal r) 0 0 ≡ viewNumber ports slots entries slot
   unfolding checked
   view-refused = ap (λ l. getD l 0 0) (s .same)

@@ -7,8 +7,8 @@ ghost use Rattle.view.specs.Asked.{checked, onward};
 use model::Answer;
 use model::Refusal;
 
-// Slot view's checks, 1, 2, 4, 11; Service count begins with the same.
-pub fn check_frame(ports: usize, slots: usize, frame: &[u8], slot: usize) -> Answer
+// Slot view's checks: 1, 2, 4, 11.
+pub fn check_frame(ports: usize, slots: usize, frame: &[u16], slot: usize) -> Answer
     ensures { λ r. ⌜ answered r ≡ checked ports slots (now (frame .entry)) slot ⌝ }
 {
     if admission::outside(16, ports) {
@@ -30,10 +30,10 @@ pub fn check_frame(ports: usize, slots: usize, frame: &[u8], slot: usize) -> Ans
 pub fn slot_view<'a>(
     ports: usize,
     slots: usize,
-    frame: &'a [u8],
+    frame: &'a [u16],
     slot: usize,
     refused: &mut usize,
-) -> &'a [u8]
+) -> &'a [u16]
     ensures { λ r. ⌜ now r ≡ viewed ports slots (now (frame .entry)) slot ⌝ }
     ensures { λ r. ⌜ ptr r ≡ onward (ptr (frame .entry)) (viewStart ports slots (now (frame .entry)) slot) ⌝ }
     ensures { λ r. ⌜ now (refused .exit) ≡ viewNumber ports slots (now (frame .entry)) slot ⌝ }

@@ -1,5 +1,5 @@
 use borrow.Author.Needs.{needs}
-use Rattle.service.proofs.Whom.{input-outside, output-outside, input-alone, output-alone}
+use Rattle.service.proofs.Whom.{flow-alone, input-alone, output-alone}
 use Rattle.service.proofs.bad_who.Statement.{statement}
 use Rattle.service.proofs.bad_who.Tie as tie
 
@@ -9,12 +9,11 @@ bad-who-spec =
     (tie.spec
     (λ c. search needs)
     (λ c κs. search needs)
-    (λ c. search (needs, input-outside))
     (λ c κs. search needs)
     (λ c. search needs)
     (λ c κs. search needs)
     (λ c. search needs)
     (λ c κs. search needs)
-    (λ c. search (needs, output-outside))
+    (λ c. search (needs, flow-alone))
     (λ c. search (needs, input-alone))
     (λ c. search (needs, output-alone)))

@@ -9,7 +9,7 @@ use Rattle.service.proofs.count_run.Tie as tie
 
 lead-of-requires : tie.Need-lead-of-requires
 lead-of-requires c κs =
-    let asked = c .before .before .before .pre in
+    let asked = c .before .before .before .before .pre in
     let run = run-fits asked (c .run-cells .ensures) in
     let whole = whole-fits asked (c .before .slot-cells .ensures) in
     (asked .framed .slots-most, omega (arith, run, whole), asked .length-is, omega (arith, run, whole))
@@ -17,13 +17,13 @@ lead-of-requires c κs =
 returns : tie.Need-returns
 returns c =
     let kept : toZ w64 (ofZ w64 (c .lead-of .result)) ≡ c .lead-of .result = search needs in
-    (search needs, kept ∙ c .lead-of .ensures ∙ lead-counted _ _ _ _ _ _ (c .before .run-cells .ensures) (c .before .before .slot-cells .ensures))
+    (search needs, kept ∙ c .lead-of .ensures ∙ lead-counted _ _ _ _ _ _ _ (c .before .run-cells .ensures) (c .before .before .slot-cells .ensures))
 
 pub count-run-spec : {M : Type 1} → statement M
 count-run-spec =
     tie.close
     (tie.spec
-    (λ c κs. (c .before .pre .framed .ports-most, c .before .pre .ports-are, frame-short (c .before .pre .framed)))
+    (λ c κs. (c .before .before .pre .framed .ports-most, c .before .before .pre .named, frame-short (c .before .before .pre .framed)))
     (λ c κs. search needs)
     lead-of-requires
     returns)

@@ -7,13 +7,13 @@ use Rattle.service.proofs.run_cells.Tie as tie
 
 inside-cells-requires-2 : tie.Need-inside-cells-requires-2
 inside-cells-requires-2 c κs =
-    let start = c .before .before .before in
+    let start = c .before .before .before .before in
     let asked = start .pre .0 in
-    (asked .framed, asked .ports-are, omega (arith, mod-lt (start .args .len) (asked .framed .slot), c .before .lesser .ensures))
+    (asked .framed, asked .named, omega (arith, mod-lt (start .args .len) (asked .framed .slot), c .before .lesser .ensures))
 
 returns : tie.Need-returns
 returns c =
-    let start = c .before .before .before .before in
+    let start = c .before .before .before .before .before in
     let lesser = c .before .before .lesser in
     parts-run (start .pre .0) _ _ (lesser .ensures) (omega (arith, lesser .ensures)) (start .pre .1) (c .before .inside-cells .ensures) (c .inside-cells2 .ensures)
 
@@ -28,7 +28,7 @@ run-cells-spec =
     (λ c κs. search needs)
     inside-cells-requires-2
     (λ c. search needs)
-    (λ c. omega (arith, run-fits (c .before .before .before .before .pre .0) (returns c)))
-    (λ c. omega (arith, run-fits (c .before .before .before .before .pre .0) (returns c)))
-    (λ c. omega (arith, run-fits (c .before .before .before .before .pre .0) (returns c)))
+    (λ c. omega (arith, run-fits (c .before .before .before .before .before .pre .0) (returns c)))
+    (λ c. omega (arith, run-fits (c .before .before .before .before .before .pre .0) (returns c)))
+    (λ c. omega (arith, run-fits (c .before .before .before .before .before .pre .0) (returns c)))
     returns)

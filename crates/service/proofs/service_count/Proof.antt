@@ -1,11 +1,27 @@
 use borrow.Author.Needs.{needs}
-use Rattle.view.proofs.Checks.{Open, accepted-open, refused-shut}
-use Rattle.service.proofs.Checks.{asked, frame-refused, who-refused, length-refused, run-counted}
+use Rattle.service.proofs.Checks.{list-shut, frame-shut, start-shut, start-least, who-shut, length-shut, asked, run-counted}
 use Rattle.service.proofs.service_count.Statement.{statement}
 use Rattle.service.proofs.service_count.Tie as tie
 
-opened : (c : tie.Else2) → let a = c .before .before .before .before .before .before .before .before .args in Open (a .ports) (a .slots) (a .frame .now) (a .start)
-opened c = accepted-open (c .before .before .before .before .before .before .check-frame .ensures) (c .before .before .before .before .enum-told .given .1)
+count-run-requires : tie.Need-count-run-requires
+count-run-requires c κs =
+    let named = c .before .before in
+    let started = named .before .before in
+    let sized = started .before .before in
+    let told = sized .before .before in
+    asked _ _ _ _ (told .before .before .check-list .ensures) (told .enum-told .given .1) (sized .before .bad-length .ensures) (sized .if1 .left)
+    (started .before .outside .ensures) (started .if2 .left) (named .before .bad-who .ensures) (named .if3 .left) (c .before .too-long .ensures) (c .if4 .left)
+
+returns-6 : tie.Need-returns-6
+returns-6 c =
+    let short = c .before in
+    let named = short .before .before in
+    let started = named .before .before in
+    let sized = started .before .before in
+    let told = sized .before .before in
+    run-counted _ _ _ _ (told .before .before .check-list .ensures) (told .enum-told .given .1) (sized .before .bad-length .ensures) (sized .if1 .left)
+    (started .before .outside .ensures) (started .if2 .left) (named .before .bad-who .ensures) (named .if3 .left) (short .before .too-long .ensures) (short .if4 .left)
+    (c .count-run .ensures .0) (c .count-run .ensures .1)
 
 pub service-count-spec : {M : Type 1} → statement M
 service-count-spec =
@@ -13,12 +29,16 @@ service-count-spec =
     (tie.spec
     (λ c κs. search needs)
     (λ c. search needs)
-    (λ c. search (needs, frame-refused, refused-shut))
+    (λ c. search (needs, list-shut))
     (λ c. search needs)
     (λ c κs. search needs)
-    (λ c. search (needs, who-refused, accepted-open))
+    (λ c. search (needs, frame-shut))
     (λ c κs. search needs)
-    (λ c. search (needs, length-refused, accepted-open))
-    (λ c. opened c .slot-least)
-    (λ c κs. search (needs, asked, accepted-open))
-    (λ c. search (needs, run-counted, accepted-open)))
+    (λ c. search (needs, start-shut))
+    (λ c κs. search needs)
+    (λ c. search (needs, who-shut))
+    (λ c κs. search needs)
+    (λ c. search (needs, length-shut))
+    (λ c. search (needs, start-least))
+    count-run-requires
+    returns-6)

@@ -32,6 +32,7 @@ slot-view-spec =
     (λ c. opened c .slot-least)
     (λ c. omega (arith, slot-inside (opened c)))
     (λ c. omega (arith, slot-inside (opened c)))
+    (λ c. omega (arith, slot-inside (opened c), opened c .short))
     (λ c. search needs)
     (λ c. search needs)
     (λ c. slot-inside (opened c))
