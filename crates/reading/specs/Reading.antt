@@ -1,13 +1,14 @@
 -- What stands in a sheet from a place on: a word, a number, a line; and what is read there.
-use Prim.Native.Nat.{ℕ, suc, _+_, _-_, _*_, _≤_, _<_}
+use Prim.Native.Nat.{ℕ, _+_, _-_, _*_, _≤_, _<_}
 use mathlib.Core.Path.{_≡_}
 use mathlib.Core.List.{List, [], _∷_, _++_}
 use mathlib.Core.Bool.{Bool, true, false}
 use lib.Dec.{eqb}
-use lib.ListN.{length, getD, set, take, drop, replicate}
+use lib.ListN.{length, getD, take, drop, replicate}
 use Rattle.model.specs.Words.{both, within}
-use Rattle.model.specs.Refusals.{levels, refusal}
-use Rattle.model.specs.Sheet.{text, decimal, pairLine, lines, has, bad-pair, Asked, loads, refused, unless, readPairs, readSlots, readPorts}
+use Rattle.model.specs.Flows.{stride, flows}
+use Rattle.model.specs.Refusals.{clear, listChecks, levels, refusal}
+use Rattle.model.specs.Sheet.{text, decimal, pairLine, lines, Asked, loads, refused, readPairs, readSlots, readPorts}
 use Rattle.reading.specs.declared.NumberRead.{NumberRead}
 use Rattle.reading.specs.declared.NumberRead.the-variants.{Number, NoNumber}
 use Rattle.reading.specs.declared.PairForm.{PairForm}
@@ -82,12 +83,12 @@ abbrev pub PortsOf : List ℕ → Reading → Type 0
 PortsOf s (Ports ports next) = PortsRead s ports next
 PortsOf s (Slots slots next) = ⊥
 PortsOf s (Pair i o m next) = ⊥
-PortsOf s (Loads ports slots) = ⊥
+PortsOf s (Loads ports slots n) = ⊥
 PortsOf s (Refused r) = readPorts (lines s) ≡ refused (refusal r)
 
 -- Line 2 is read.
 pub record SlotsRead (ports : ℕ) (s : List ℕ) (at slots next : ℕ) : Type 0 where
-  pub reads : readSlots ports (lines (drop at s)) ≡ readPairs ports slots 3 [] (replicate (ports * ports) 0) (lines (drop next s))
+  pub reads : readSlots ports (lines (drop at s)) ≡ readPairs ports slots 3 [] (lines (drop next s))
   pub power : eqb (levels slots) 11 ≡ false
   pub inside : next ≤ length s
 
@@ -95,71 +96,63 @@ abbrev pub SlotsOf : ℕ → List ℕ → ℕ → Reading → Type 0
 SlotsOf ports s at (Ports n next) = ⊥
 SlotsOf ports s at (Slots slots next) = SlotsRead ports s at slots next
 SlotsOf ports s at (Pair i o m next) = ⊥
-SlotsOf ports s at (Loads n slots) = ⊥
+SlotsOf ports s at (Loads m slots n) = ⊥
 SlotsOf ports s at (Refused r) = readSlots ports (lines (drop at s)) ≡ refused (refusal r)
 
--- A pair line is read, but for whether an earlier line names its pair.
-abbrev pub position : ℕ → ℕ → ℕ → ℕ
-position ports i o = (i - 1) * ports + (o - 1)
-
-pub record PairRead (ports : ℕ) (s : List ℕ) (at line i o m next : ℕ) : Type 0 where
-  pub reads : (slots : ℕ) (named matrix : List ℕ) → readPairs ports slots line named matrix (lines (drop at s))
-      ≡ unless (bad-pair line (position ports i o) named ∷ [])
-      (readPairs ports slots (suc line) (position ports i o ∷ named) (set matrix (position ports i o) m) (lines (drop next s)))
-  pub input-least : 1 ≤ i
-  pub input-most : i ≤ ports
-  pub output-least : 1 ≤ o
-  pub output-most : o ≤ ports
-  pub low : m ≤ 65535
+-- A pair line is read, behind those of n flows: its flow is one more of the list.
+pub record PairRead (ports : ℕ) (s : List ℕ) (at n i o m next : ℕ) : Type 0 where
+  pub reads : (slots : ℕ) (list : List ℕ) → flows list ≡ n
+      → readPairs ports slots (n + 3) list (lines (drop at s)) ≡ readPairs ports slots (n + 1 + 3) (list ++ (i ∷ o ∷ m ∷ [])) (lines (drop next s))
+  pub few : n < 512
+  pub of-input : (1 ≤ i) × (i ≤ ports)
+  pub of-output : (1 ≤ o) × (o ≤ ports)
+  pub low : (i ≤ 65535) × (o ≤ 65535) × (m ≤ 65535)
   pub on : at < next
   pub inside : next ≤ length s
 
-pub record PairRefused (ports : ℕ) (s : List ℕ) (at line : ℕ) (r : List ℕ) : Type 0 where
-  pub reads : (slots : ℕ) (named matrix : List ℕ) → readPairs ports slots line named matrix (lines (drop at s)) ≡ refused r
+pub record PairRefused (ports : ℕ) (s : List ℕ) (at n : ℕ) (r : List ℕ) : Type 0 where
+  pub reads : (slots : ℕ) (list : List ℕ) → flows list ≡ n → readPairs ports slots (n + 3) list (lines (drop at s)) ≡ refused r
 
 abbrev pub PairOf : ℕ → List ℕ → ℕ → ℕ → Reading → Type 0
-PairOf ports s at line (Ports n next) = ⊥
-PairOf ports s at line (Slots slots next) = ⊥
-PairOf ports s at line (Pair i o m next) = PairRead ports s at line i o m next
-PairOf ports s at line (Loads n slots) = ⊥
-PairOf ports s at line (Refused r) = PairRefused ports s at line (refusal r)
+PairOf ports s at n (Ports p next) = ⊥
+PairOf ports s at n (Slots slots next) = ⊥
+PairOf ports s at n (Pair i o m next) = PairRead ports s at n i o m next
+PairOf ports s at n (Loads p slots f) = ⊥
+PairOf ports s at n (Refused r) = PairRefused ports s at n (refusal r)
 
--- The sheet is read: what it asks for, with the matrix where one is asked for, and zeros behind that.
-pub record LoadsRead (asked : Asked) (matrix : List ℕ) (ports slots : ℕ) : Type 0 where
-  pub asks : asked ≡ loads ports slots (take (ports * ports) matrix)
-  pub least : 1 ≤ ports
-  pub most : ports ≤ 16
-  pub power : eqb (levels slots) 11 ≡ false
-  pub size : length matrix ≡ 256
-  pub rest : drop (ports * ports) matrix ≡ replicate (256 - ports * ports) 0
+-- The sheet is read: what it asks for, with n flows at the front of the list where a list is asked for, and zeros behind them; none of
+-- 1, 2, 3, 21 and 22 holds of those.
+pub record LoadsRead (asked : Asked) (list : List ℕ) (ports slots n : ℕ) : Type 0 where
+  pub asks : asked ≡ loads ports slots (take (n * stride) list)
+  pub fine : clear (listChecks ports slots (take (n * stride) list)) ≡ true
+  pub few : n ≤ 512
+  pub size : length list ≡ 1536
+  pub rest : drop (n * stride) list ≡ replicate (1536 - n * stride) 0
 
 abbrev pub SheetOf : Asked → List ℕ → Reading → Type 0
-SheetOf asked matrix (Ports n next) = ⊥
-SheetOf asked matrix (Slots slots next) = ⊥
-SheetOf asked matrix (Pair i o m next) = ⊥
-SheetOf asked matrix (Loads ports slots) = LoadsRead asked matrix ports slots
-SheetOf asked matrix (Refused r) = asked ≡ refused (refusal r)
+SheetOf asked list (Ports p next) = ⊥
+SheetOf asked list (Slots slots next) = ⊥
+SheetOf asked list (Pair i o m next) = ⊥
+SheetOf asked list (Loads ports slots n) = LoadsRead asked list ports slots n
+SheetOf asked list (Refused r) = asked ≡ refused (refusal r)
 
--- What the reading of a sheet leaves in a matrix that was lent: the loads read and zeros behind them; on a refusal what stood there.
-abbrev pub matrixLeft : Asked → List ℕ → List ℕ
-matrixLeft (loads ports slots l) lent = l ++ replicate (256 - length l) 0
-matrixLeft (refused r) lent = lent
+-- What the reading of a sheet leaves in a list that was lent: the flows read and zeros behind them; on a refusal what stood there.
+abbrev pub listLeft : Asked → List ℕ → List ℕ
+listLeft (loads ports slots l) lent = l ++ replicate (1536 - length l) 0
+listLeft (refused r) lent = lent
 
--- Lines 1 and 2 are well-formed, and nothing is noted of the pairs.
-pub record Fresh (ports slots : ℕ) (matrix : List ℕ) (named : List Bool) : Type 0 where
+-- Lines 1 and 2 are well-formed, and the list has nothing but zeros.
+pub record Fresh (ports slots : ℕ) (list : List ℕ) : Type 0 where
   pub least : 1 ≤ ports
   pub most : ports ≤ 16
   pub power : eqb (levels slots) 11 ≡ false
-  pub empty : matrix ≡ replicate 256 0
-  pub unnamed : named ≡ replicate 256 false
+  pub empty : list ≡ replicate 1536 0
 
--- Pair lines are read up to next: the pairs that they name are marked, and the matrix has their cells and zeros behind them.
-pub record Reached (asked : Asked) (ports slots : ℕ) (s matrix : List ℕ) (named : List Bool) (line next : ℕ) : Type 0 where
-  pub names : List ℕ
-  pub marks : (p : ℕ) → has p names ≡ getD named p false
-  pub size : length matrix ≡ 256
-  pub marked : length named ≡ 256
-  pub rest : drop (ports * ports) matrix ≡ replicate (256 - ports * ports) 0
+-- Pair lines are read up to next: their n flows stand at the front of the list, zeros behind them.
+pub record Reached (asked : Asked) (ports slots : ℕ) (s list : List ℕ) (n next : ℕ) : Type 0 where
+  pub reads : asked ≡ readPairs ports slots (n + 3) (take (n * stride) list) (lines (drop next s))
+  pub fine : clear (listChecks ports slots (take (n * stride) list)) ≡ true
+  pub few : n ≤ 512
+  pub size : length list ≡ 1536
+  pub rest : drop (n * stride) list ≡ replicate (1536 - n * stride) 0
   pub inside : next ≤ length s
-  pub count : line ≤ 3 + next
-  pub reads : asked ≡ readPairs ports slots line names (take (ports * ports) matrix) (lines (drop next s))

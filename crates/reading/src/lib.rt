@@ -1,11 +1,16 @@
 // The reading of a sheet: what its lines ask for.
 ghost use mathlib.Core.Path.{_≡_};
-ghost use mathlib.Core.List.{[]};
+ghost use mathlib.Core.List.{[], _∷_};
 ghost use Prim.Native.Nat.{_*_, _≤_, _<_};
-ghost use lib.ListN.{length, drop, replicate};
+ghost use lib.ListN.{length, drop};
+ghost use lib.Seq.{sets};
+ghost use Rattle.model.specs.Flows.{stride};
 ghost use Rattle.model.specs.Sheet.{lines, readPorts, readPairs};
-ghost use Rattle.reading.specs.Reading.{starts, DigitAt, NumberOf, LineOf, FormOf, PortsOf, SlotsOf, PairOf, SheetOf, Fresh, matrixLeft};
+ghost use Rattle.reading.specs.Reading.{starts, DigitAt, NumberOf, LineOf, FormOf, PortsOf, SlotsOf, PairOf, SheetOf, Fresh, listLeft};
 use model::Refusal;
+
+// The numbers of the longest list, three to each of 512 flows.
+pub const LIST_MOST: usize = 1536;
 
 // A number at a place of the sheet, and the place behind it.
 enum NumberRead {
@@ -43,16 +48,17 @@ pub enum Reading {
     Loads {
         ports: usize,
         slots: usize,
+        flows: usize,
     },
     Refused(Refusal),
 }
 
-// A count of cells at the width of the matrix.
-fn narrow(cells: usize) -> u16
-    requires { ⌜ cells ≤ 65535 ⌝ }
-    ensures { λ r. ⌜ r ≡ cells ⌝ }
+// A number at the width of the list.
+fn narrow(x: usize) -> u16
+    requires { ⌜ x ≤ 65535 ⌝ }
+    ensures { λ r. ⌜ r ≡ x ⌝ }
 {
-    cells as u16
+    x as u16
 }
 
 // A word stands at a place of the sheet.
@@ -204,11 +210,12 @@ fn slots_line(sheet: &[u8], at: usize, ports: usize) -> Reading
     Reading::Slots { slots, next }
 }
 
-// A pair line: 7, then 8.
-fn pair_line(sheet: &[u8], at: usize, ports: usize, line: usize) -> Reading
-    requires { ⌜ at < length (now sheet) ⌝ }
-    ensures { λ r. ⌜ PairOf ports (now (sheet .entry)) at line r ⌝ }
+// A pair line behind those of so many flows: 7, then 21, then 8.
+fn pair_line(sheet: &[u8], at: usize, ports: usize, flows: usize) -> Reading
+    requires { ⌜ (at < length (now sheet)) × (flows ≤ 512) ⌝ }
+    ensures { λ r. ⌜ PairOf ports (now (sheet .entry)) at flows r ⌝ }
 {
+    let line = flows + 3;
     let read = pair_form(sheet, at);
     let PairForm::Form {
         input,
@@ -219,6 +226,9 @@ fn pair_line(sheet: &[u8], at: usize, ports: usize, line: usize) -> Reading
     else {
         return Reading::Refused(Refusal::LineForm { line });
     };
+    if 512 <= flows {
+        return Reading::Refused(Refusal::TooManyFlows);
+    }
     if admission::outside(ports, input) {
         return Reading::Refused(Refusal::LinePort { line });
     }
@@ -233,22 +243,32 @@ fn pair_line(sheet: &[u8], at: usize, ports: usize, line: usize) -> Reading
     }
 }
 
-// The pair lines in turn, each with 9 last; the cells of each pair go to its place in the matrix.
+// Puts a flow behind so many others.
+fn put_flow(list: &mut [u16; LIST_MOST], flows: usize, input: usize, output: usize, cells: usize)
+    requires { ⌜ (length (now list) ≡ 1536) × (flows < 512) × (input ≤ 65535) × (output ≤ 65535) × (cells ≤ 65535) ⌝ }
+    ensures { λ _. ⌜ now (list .exit) ≡ sets (now (list .entry)) (flows * stride) (input ∷ output ∷ cells ∷ []) ⌝ }
+{
+    let at = flows * 3;
+    list[at] = narrow(input);
+    list[at + 1] = narrow(output);
+    list[at + 2] = narrow(cells);
+}
+
+// The pair lines in turn, each one flow more of the list.
 fn read_pairs(
     sheet: &[u8],
     at: usize,
     ports: usize,
     slots: usize,
-    matrix: &mut [u16; 256],
-    named: &mut [bool; 256],
+    list: &mut [u16; LIST_MOST],
 ) -> Reading
-    requires { ⌜ (at ≤ length (now sheet)) × Fresh ports slots (now matrix) (now named) ⌝ }
-    ensures { λ r. ⌜ SheetOf (readPairs ports slots 3 [] (replicate (ports * ports) 0) (lines (drop at (now (sheet .entry))))) (now (matrix .exit)) r ⌝ }
+    requires { ⌜ (at ≤ length (now sheet)) × Fresh ports slots (now list) ⌝ }
+    ensures { λ r. ⌜ SheetOf (readPairs ports slots 3 [] (lines (drop at (now (sheet .entry))))) (now (list .exit)) r ⌝ }
 {
     let mut next = at;
-    let mut line: usize = 3;
+    let mut flows: usize = 0;
     while next < sheet.len() {
-        let read = pair_line(sheet, next, ports, line);
+        let read = pair_line(sheet, next, ports, flows);
         let Reading::Pair {
             input,
             output,
@@ -258,22 +278,21 @@ fn read_pairs(
         else {
             return read;
         };
-        let p = (input - 1) * ports + (output - 1);
-        if named[p] {
-            return Reading::Refused(Refusal::LinePair { line });
-        }
-        named[p] = true;
-        matrix[p] = narrow(cells);
+        put_flow(list, flows, input, output, cells);
         next = after;
-        line += 1;
+        flows += 1;
     }
-    Reading::Loads { ports, slots }
+    Reading::Loads {
+        ports,
+        slots,
+        flows,
+    }
 }
 
-// Reads the lines in turn; a line's refusal is the sheet's, and the matrix is written where there is none.
-pub fn read_lines(sheet: &[u8], matrix: &mut [u16; 256]) -> Reading
-    ensures { λ r. ⌜ SheetOf (readPorts (lines (now (sheet .entry)))) (now (matrix .exit)) r
-        × (now (matrix .exit) ≡ matrixLeft (readPorts (lines (now (sheet .entry)))) (now (matrix .entry))) ⌝ }
+// Reads the lines in turn; a line's refusal is the sheet's, and the list is written where there is none.
+pub fn read_lines(sheet: &[u8], list: &mut [u16; LIST_MOST]) -> Reading
+    ensures { λ r. ⌜ SheetOf (readPorts (lines (now (sheet .entry)))) (now (list .exit)) r
+        × (now (list .exit) ≡ listLeft (readPorts (lines (now (sheet .entry)))) (now (list .entry))) ⌝ }
 {
     let first = ports_line(sheet);
     let Reading::Ports { ports, next } = first else {
@@ -283,12 +302,20 @@ pub fn read_lines(sheet: &[u8], matrix: &mut [u16; 256]) -> Reading
     let Reading::Slots { slots, next: after } = second else {
         return second;
     };
-    let mut cells = [0u16; 256];
-    let mut named = [false; 256];
-    let read = read_pairs(sheet, after, ports, slots, &mut cells, &mut named);
-    let Reading::Loads { ports, slots } = read else {
+    let mut taken = [0u16; LIST_MOST];
+    let read = read_pairs(sheet, after, ports, slots, &mut taken);
+    let Reading::Loads {
+        ports,
+        slots,
+        flows,
+    } = read
+    else {
         return read;
     };
-    *matrix = cells;
-    Reading::Loads { ports, slots }
+    *list = taken;
+    Reading::Loads {
+        ports,
+        slots,
+        flows,
+    }
 }

@@ -18,23 +18,23 @@ read-lines-spec =
     slots-passed _ _ _ _ _ (c .before .slots-line .result) (one .before .before .before .ports-line .ensures) (one .before .first .given .1)
     (c .before .slots-line .ensures) (c .match2 .keys2))
     (λ c κs.
-    let two = c .before .before in
+    let two = c .before in
     let one = two .before .before .before .before in
     let start = one .before .before .before .before .before in
     let first = ports-known (start .args .sheet .now) _ _ _ (one .before .before .before .ports-line .ensures) (one .before .first .given .1) in
     let second =
     slots-known (one .before .first .given .0 .0) (start .args .sheet .now) (one .before .first .given .0 .1 .0) _ _ _
     (two .before .before .before .slots-line .ensures) (two .before .second .given .1) in
-    (second .inside, record { least = first .least; most = first .most; power = second .power; empty = refl; unnamed = refl }))
+    (second .inside, record { least = first .least; most = first .most; power = second .power; empty = refl }))
     (λ c. search needs)
     (λ c.
-    let two = c .before .before .before .before in
+    let two = c .before .before .before in
     let one = two .before .before .before .before in
     pairs-passed _ _ _ _ _ _ _ _ (one .before .before .before .ports-line .ensures) (one .before .first .given .1)
     (two .before .before .before .slots-line .ensures) (two .before .second .given .1) _ (c .before .read-pairs .result) (c .before .read-pairs .ensures) (c .match3 .keys2))
     (λ c.
     let pairs = c .before .before .before in
-    let two = pairs .before .before .before in
+    let two = pairs .before .before in
     let one = two .before .before .before .before in
     pairs-read _ _ _ _ _ _ _ _ (one .before .before .before .ports-line .ensures) (one .before .first .given .1)
-    (two .before .before .before .slots-line .ensures) (two .before .second .given .1) _ (pairs .read-pairs .result) _ _ (pairs .read-pairs .ensures) (c .before .read .given .1)))
+    (two .before .before .before .slots-line .ensures) (two .before .second .given .1) _ (pairs .read-pairs .result) _ _ _ (pairs .read-pairs .ensures) (c .before .read .given .1)))
