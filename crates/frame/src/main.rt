@@ -46,7 +46,7 @@ fn skip_rest(failed: &mut bool) {
 
 // Reads a sheet to its end, and answers how many bytes of it are in the buffer: a sheet that fills it is too long.
 fn take_sheet(buffer: &mut [u8], failed: &mut bool) -> usize
-    requires { ⌜ 16384 < length (now buffer) ⌝ }
+    requires { ⌜ 32768 < length (now buffer) ⌝ }
     ensures { λ r. ⌜ Counts r (now (buffer .exit)) ⌝ }
 {
     let n = fill(buffer, failed);

@@ -9,13 +9,13 @@ put-answer-spec =
     tie.close
     (tie.spec
     (λ c. search needs)
-    (λ c. lies-low (c .before .before .before .before .before .args .answer) _ _ (c .before .before .before .before .before .args .frame .now) (c .before .before .before .before .before .pre) (c .before .answer .given .1))
-    (λ c. sym (lies-sized (c .before .before .before .before .before .before .before .args .answer) _ _ (c .before .before .before .before .before .before .before .args .frame .now) (c .before .before .before .before .before .before .before .pre) (c .before .before .before .answer .given .1) .size))
+    (λ c. lies-low (c .before .before .before .before .before .args .answer) _ _ _ (c .before .before .before .before .before .args .frame .now) (c .before .before .before .before .before .pre) (c .before .answer .given .1))
+    (λ c. sym (lies-sized (c .before .before .before .before .before .before .before .args .answer) _ _ _ (c .before .before .before .before .before .before .before .args .frame .now) (c .before .before .before .before .before .before .before .pre) (c .before .before .before .answer .given .1) .size))
     (λ c κs. search needs)
     (λ c. search needs)
     (λ c.
     let start = c .before .before .before .before .before .before .before .before .before .before in
-    answer-frame _ (start .args .answer) _ _ (start .args .frame .now) _ _ (start .pre) (c .before .before .before .before .before .before .answer .given .1) (c .before .before .put-frame .ensures))
+    answer-frame _ (start .args .answer) _ _ _ (start .args .frame .now) _ _ (start .pre) (c .before .before .before .before .before .before .answer .given .1) (c .before .before .put-frame .ensures))
     (λ c. search needs)
     (λ c κs. search needs)
     (λ c. search needs)

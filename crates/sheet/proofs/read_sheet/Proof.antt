@@ -13,9 +13,9 @@ read-sheet-spec =
     (λ c κs. search needs)
     (λ c. search needs)
     (λ c. sheet-passed _ (c .before .read-lines .last .1 .0) _ (c .before .read-lines .result) (c .before .before .before .if1 .left) (c .before .read-lines .ensures .0) (c .match .keys2))
-    (λ c. sym (loads-known (readPorts (lines (c .before .before .before .before .before .before .before .before .before .args .sheet .now))) (c .before .before .before .before .read-lines .last .1 .0) _ _ _ (c .before .before .before .before .read-lines .ensures .0) (c .before .before .read .given .1) .size))
-    (λ c κs. loads-readable (readPorts (lines (c .before .before .before .before .before .before .before .before .before .before .args .sheet .now))) _ _ _ _ _ (c .before .before .before .before .before .read-lines .ensures .0) (c .before .before .before .read .given .1) (c .before .before .before .before .before .before .before .before .before .before .pre))
+    (λ c. sym (loads-known (readPorts (lines (c .before .before .before .before .before .before .before .before .before .args .sheet .now))) (c .before .before .before .before .read-lines .last .1 .0) _ _ _ _ (c .before .before .before .before .read-lines .ensures .0) (c .before .before .read .given .1) .size))
+    (λ c κs. loads-readable (readPorts (lines (c .before .before .before .before .before .before .before .before .before .before .args .sheet .now))) _ _ _ _ _ _ (c .before .before .before .before .before .read-lines .ensures .0) (c .before .before .before .read .given .1) (c .before .before .before .before .before .before .before .before .before .before .pre))
     (λ c. search needs)
     (λ c.
-    sheet-built _ (c .before .before .before .before .before .before .before .before .read-lines .last .1 .0) _ (c .before .before .before .before .before .before .before .before .read-lines .result) _ _ _ (c .before .before .before .before .before .before .before .before .before .before .if1 .left) (c .before .before .before .before .before .before .before .before .read-lines .ensures .0) (c .before .before .before .before .before .before .read .given .1)
+    sheet-built _ (c .before .before .before .before .before .before .before .before .read-lines .last .1 .0) _ (c .before .before .before .before .before .before .before .before .read-lines .result) _ _ _ _ (c .before .before .before .before .before .before .before .before .before .before .if1 .left) (c .before .before .before .before .before .before .before .before .read-lines .ensures .0) (c .before .before .before .before .before .before .read .given .1)
     (c .before .before .build-loads .ensures)))
