@@ -1,14 +1,13 @@
 -- The sheet program's response is that of its cases.
-use Prim.Native.Nat.{ℕ, suc, _+_, _*_, _/_, _%_, _≤_, _<_}
+use Prim.Native.Nat.{ℕ, suc, _+_, _*_, _%_, _≤_, _<_}
 use mathlib.Core.Path.{_≡_, refl, sym, ap, _∙_, subst}
 use mathlib.Core.List.{List, [], _∷_, _++_}
-use mathlib.Core.Bool.{false}
 use native.Mathlib.Omega.{arith}
 use lib.ListN.{length, getD, length-append, List·getD-append}
 use lib.Seq.{getD-append-add}
 use borrow.Author.Tests.{lt-leb, leb-false, not-false}
 use Rattle.model.specs.Words.{within}
-use Rattle.model.specs.Flows.{stride, flows, numberOf, Side, inputs, outputs, portOf, countsOf, output, load, input}
+use Rattle.model.specs.Flows.{stride, flows, numberOf, inputs, outputs, portOf, countsOf, output, load, input}
 use Rattle.model.specs.Refusals.{Check, report, overload, overloads}
 use Rattle.model.specs.Schedule.{frameOf}
 use Rattle.model.specs.Sheet.{printFrame, digits, portsLine, slotsLine, pairLine, lines, bad-line-flow, bad-port, Asked, loads, readPairs, readPorts, readSheet, response}

@@ -16,7 +16,7 @@ use Rattle.model.specs.Words.{if, both}
 use Rattle.model.specs.Sheet.{text, decimal, printCells, printSlots, printFrame, printRefusal}
 use Rattle.model.specs.Refusals.{refusal}
 use Rattle.model.specs.declared.Refusal.{Refusal}
-use Rattle.model.proofs.Cases.{both-true, both-yes}
+use Rattle.model.proofs.Cases.{both-true}
 use Rattle.model.proofs.Sheets.{decimal-one, decimal-go, decimal-most}
 use Rattle.numbers.specs.Numbers.{Three}
 use Rattle.numbers.proofs.Valued.{valued-is}

@@ -1,5 +1,5 @@
 -- The lines in turn: what each is read as, and the flows that were read so far.
-use Prim.Native.Nat.{ℕ, suc, zero, _+_, _-_, _*_, _/_, _≤_, _<_}
+use Prim.Native.Nat.{ℕ, suc, zero, _+_, _-_, _*_, _≤_, _<_}
 use mathlib.Core.Path.{_≡_, refl, sym, ap, subst, _∙_}
 use mathlib.Core.List.{List, [], _∷_, _++_}
 use mathlib.Core.Bool.{Bool, true, false, not}
@@ -11,11 +11,11 @@ use lib.Seq.{sets, length-sets, sets-eq, take-at, drop-at, drop-drop, length-tak
 use borrow.Author.Tests.{le-leb, lt-leb, not-true, not-false}
 use Rattle.model.specs.Words.{within}
 use Rattle.model.specs.Flows.{stride, flows}
-use Rattle.model.specs.Refusals.{clear, listChecks, levels, refusal, bad-ports, bad-slots}
+use Rattle.model.specs.Refusals.{levels, refusal, bad-ports, bad-slots}
 use Rattle.model.specs.declared.Refusal.{Refusal}
 use Rattle.model.specs.Sheet.{text, portsLine, slotsLine, pairLine, lines, bad-line-flow, bad-port, Asked, refused, unless, readPairs, readSlots, readPorts}
 use Rattle.model.proofs.Reports.{within-known, slots-tells}
-use Rattle.model.proofs.Demand2.{WellFormed, well-clear, clear-well}
+use Rattle.model.proofs.Demand2.{well-clear, clear-well}
 use Rattle.model.proofs.Responses.{well-none, well-more}
 use Rattle.model.proofs.Sheets.{ports-yes, ports-no, slots-yes, slots-no, pairs-yes, pairs-no, pairs-none}
 use Rattle.reading.specs.Reading.{LineAt, NoLineAt, LineOf, PairAt, NoPairAt, FormOf, PortsRead, PortsOf, SlotsRead, SlotsOf, PairRead, PairRefused, PairOf, LoadsRead, SheetOf, listLeft, Fresh, Reached}

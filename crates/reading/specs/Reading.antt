@@ -102,7 +102,8 @@ SlotsOf ports s at (Refused r) = readSlots ports (lines (drop at s)) ≡ refused
 -- A pair line is read, behind those of n flows: its flow is one more of the list.
 pub record PairRead (ports : ℕ) (s : List ℕ) (at n i o m next : ℕ) : Type 0 where
   pub reads : (slots : ℕ) (list : List ℕ) → flows list ≡ n
-      → readPairs ports slots (n + 3) list (lines (drop at s)) ≡ readPairs ports slots (n + 1 + 3) (list ++ (i ∷ o ∷ m ∷ [])) (lines (drop next s))
+      → readPairs ports slots (n + 3) list (lines (drop at s))
+      ≡ readPairs ports slots (n + 1 + 3) (list ++ (i ∷ o ∷ m ∷ [])) (lines (drop next s))
   pub few : n < 512
   pub of-input : (1 ≤ i) × (i ≤ ports)
   pub of-output : (1 ≤ o) × (o ≤ ports)

@@ -44,7 +44,7 @@ module _ (ports slots n : ℕ) (list frame : List ℕ) (x : Readable ports slots
   well : WellFormed ports slots part
   well = clear-well ports slots part (x .fine)
 
-  pub most-slots : slots ≤ 1024
+  most-slots : slots ≤ 1024
   most-slots = power-most (well .power)
 
   pub size-low : slots * ports ≤ 16384
