@@ -1,0 +1,80 @@
+-- Counts read off the planes.
+use Prim.Native.Nat.{ℕ, suc, zero, _+_, _*_, _/_, _%_, _^_, _≤_, _<_}
+use mathlib.Core.Path.{_≡_, refl, sym, ap, ap₂, _∙_}
+use mathlib.Core.List.{List, [], _∷_}
+use mathlib.Core.Bool.{Bool, false}
+use native.Mathlib.Omega.{arith}
+use lib.Dec.{eqb}
+use lib.ListN.{length, getD, take}
+use borrow.Author.Tests.{ne-eqb}
+use Rattle.model.specs.Words.{upFrom, keep}
+use Rattle.model.specs.Rules.{odd}
+use Rattle.model.proofs.Kept.{keep-same}
+use Rattle.planes.specs.Digits.{digit, binary}
+use Rattle.planes.specs.Planes.{digitIn, digitAt, countAt, each, counts, oddAt, oddsIn, spanOf, Ends, Block}
+use Rattle.planes.proofs.Digits.{digit-most, binary-up}
+
+-- ---- lists of counts
+pub each-length : (f : ℕ → ℕ) (a n : ℕ) → length (each f a n) ≡ n
+each-length f a zero = refl
+each-length f a (suc n) = ap suc (each-length f (suc a) n)
+
+pub each-at : (f : ℕ → ℕ) (a n p : ℕ) → p < n → getD (each f a n) p 0 ≡ f (a + p)
+each-at f a zero p h = absurd (omega arith)
+each-at f a (suc n) zero h = ap f (omega arith)
+each-at f a (suc n) (suc p) h = each-at f (suc a) n p (omega arith) ∙ ap f (omega arith)
+
+pub each-is : (f : ℕ → ℕ) (a : ℕ) (l : List ℕ) → ((p : ℕ) → p < length l → f (a + p) ≡ getD l p 0) → each f a (length l) ≡ l
+each-is f a [] e = refl
+each-is f a (x ∷ l) e =
+    ap₂ (λ (y : ℕ) (z : List ℕ). y ∷ z) (ap f (omega arith) ∙ e 0 (omega arith))
+    (each-is f (suc a) l (λ p k. ap f (omega arith) ∙ e (suc p) (omega arith)))
+
+pub counts-length : (k : ℕ) (planes : List ℕ) (n : ℕ) → length (counts k planes n) ≡ n
+unfolding counts
+counts-length k planes n = each-length (countAt k planes) 0 n
+
+pub counts-at : (k : ℕ) (planes : List ℕ) (n p : ℕ) → p < n → getD (counts k planes n) p 0 ≡ countAt k planes p
+unfolding counts
+counts-at k planes n p h = each-at (countAt k planes) 0 n p h ∙ ap (countAt k planes) (omega arith)
+
+-- a list that has the count of each position
+pub counts-are : (k : ℕ) (planes l : List ℕ) → ((p : ℕ) → p < length l → countAt k planes p ≡ getD l p 0) → counts k planes (length l) ≡ l
+unfolding counts
+counts-are k planes l e = each-is (countAt k planes) 0 l (λ p h. ap (countAt k planes) (omega arith) ∙ e p h)
+
+-- ---- odd counts, by the lowest plane
+lowest : (planes : List ℕ) (p : ℕ) → digitIn planes p 0 ≡ digitAt planes p
+unfolding digitIn
+lowest planes p = ap (λ (x : ℕ). digit (getD planes x 0) (p % 64)) (omega arith)
+
+pub digit-le : (mask : List ℕ) (p : ℕ) → digitAt mask p ≤ 1
+digit-le mask p = digit-most (getD mask (p / 64) 0) (p % 64)
+
+-- what stands above the lowest plane is half of the count
+pub count-parts : (m : ℕ) (planes : List ℕ) (p : ℕ) → countAt (suc m) planes p ≡ digitAt planes p + 2 * binary m (λ b. digitIn planes p (suc b))
+unfolding countAt
+count-parts m planes p = omega (arith, binary-up m (digitIn planes p), lowest planes p)
+
+pub count-odd : (m : ℕ) (planes : List ℕ) (p : ℕ) → countAt (suc m) planes p % 2 ≡ digitAt planes p
+count-odd m planes p = omega (arith, count-parts m planes p, digit-le planes p)
+
+pub odd-is : (m : ℕ) (planes : List ℕ) (n p : ℕ) → p < n → oddAt planes p ≡ odd (counts (suc m) planes n) p
+odd-is m planes n p h =
+    ap (λ (x : ℕ). eqb x 1) (sym (count-odd m planes p) ∙ ap (λ (x : ℕ). x % 2) (sym (counts-at (suc m) planes n p h)))
+
+pub odds-are : (m n : ℕ) (planes : List ℕ) → oddsIn n planes ≡ keep (odd (counts (suc m) planes n)) (upFrom 0 n)
+odds-are m n planes = keep-same (oddAt planes) (odd (counts (suc m) planes n)) 0 n (λ p h. odd-is m planes n p (omega arith))
+
+-- ---- blocks
+pub block-ends : {m n : ℕ} {planes : List ℕ} → Block m n planes → Ends n planes
+block-ends {m} {n} {planes} b =
+    record {
+      len = b .len;
+      few = b .few;
+      past = λ p l h. omega (arith, count-odd m planes p, b .past p l h);
+    }
+
+-- no count behind the first n is odd
+pub none-odd : {n : ℕ} {planes : List ℕ} → Ends n planes → (p : ℕ) → n ≤ p → p < spanOf n → oddAt planes p ≡ false
+none-odd {n} {planes} e p l h = let z = e .past p l h in ne-eqb (digitAt planes p) 1 (omega arith)

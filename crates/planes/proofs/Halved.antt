@@ -1,0 +1,136 @@
+-- One more plane of a word added, and one more word halved.
+use Prim.Native.Nat.{ℕ, suc, zero, _+_, _-_, _*_, _/_, _%_, _^_, _≤_, _<_}
+use mathlib.Core.Path.{_≡_, refl, sym, ap, _∙_}
+use mathlib.Core.Logic.{_≢_}
+use mathlib.Core.List.{List}
+use native.Mathlib.Omega.{arith}
+use native.Mathlib.Nat.{mul-one, pow-le-pow-right, zero-lt-suc}
+use native.Mathlib.Numerals.{add-one}
+use lib.Bits.{bitAnd, bitXor}
+use lib.ListN.{length, getD, set, length-set}
+use lib.Seq.{getD-set-same, getD-set-other}
+use Rattle.model.proofs.Cases.{byEq, byLt}
+use Rattle.planes.specs.Digits.{digit, binary}
+use Rattle.planes.specs.Planes.{digitIn, digitAt, countAt, wordsOf, spanOf, Block, Mask}
+use Rattle.planes.specs.Steps.{Grown, Halved}
+use Rattle.planes.proofs.Lists.{at-end}
+use Rattle.planes.proofs.Digits.{digit-most, digit-sum, twice-pow, binary-suc, binary-same, scaled}
+use Rattle.planes.proofs.Counts.{digit-le, count-parts}
+
+-- ---- one word
+-- what the planes above the lowest have at a position
+abbrev upper : ℕ → List ℕ → ℕ → ℕ
+upper m planes p = binary m (λ b. digitIn planes p (suc b))
+
+-- the first b planes of word w are added, and the carry is left to add
+pub record Rippling (planes : List ℕ) (w extra b : ℕ) (old half : List ℕ) (carry : ℕ) : Type 0 where
+  pub len : length half ≡ 99
+  pub sum : (p : ℕ) → p / 64 ≡ w → binary b (digitIn half p) + 2 ^ b * digit carry (p % 64) ≡ upper b planes p + digit extra (p % 64)
+  pub rest : (p a : ℕ) → p < 576 → p / 64 ≢ w → digitIn half p a ≡ digitIn old p a
+
+pub rippling-start : {planes half : List ℕ} {w extra : ℕ} → length half ≡ 99 → Rippling planes w extra 0 half half extra
+unfolding binary
+rippling-start l = record { len = l; sum = λ p e. omega arith; rest = λ p a h n. refl }
+
+module _ (planes half : List ℕ) (w carry b : ℕ) (l : length half ≡ 99) (fits : b * 9 + w < 99) (w-lt : w < 9) where
+  abbrev word : ℕ
+  word = getD planes (b * 9 + w + 9) 0
+
+  abbrev next : List ℕ
+  next = set half (b * 9 + w) (bitXor word carry)
+
+  other : (p a : ℕ) → a * 9 + p / 64 ≢ b * 9 + w → digitIn next p a ≡ digitIn half p a
+  unfolding digitIn
+  other p a n = ap (λ (z : ℕ). digit z (p % 64)) (getD-set-other half (b * 9 + w) (a * 9 + p / 64) (bitXor word carry) 0 n)
+
+  below : (p : ℕ) → p / 64 ≡ w → binary b (digitIn next p) ≡ binary b (digitIn half p)
+  below p e = binary-same b (digitIn next p) (digitIn half p) (λ a h. other p a (omega arith))
+
+  here : (p : ℕ) → p / 64 ≡ w → digitIn next p b ≡ digit (bitXor word carry) (p % 64)
+  unfolding digitIn
+  here p e = rw e (ap (λ (z : ℕ). digit z (p % 64)) (getD-set-same half (b * 9 + w) (bitXor word carry) 0 (omega arith)))
+
+  above : (p : ℕ) → p / 64 ≡ w → digitIn planes p (suc b) ≡ digit word (p % 64)
+  unfolding digitIn
+  above p e = ap (λ (z : ℕ). digit (getD planes z 0) (p % 64)) (omega arith)
+
+pub rippling-on : {planes old half : List ℕ} {w extra b m carry : ℕ} → Rippling planes w extra b old half carry → b < m → m ≤ 10 → w < 9
+    → Rippling planes w extra (b + 1) old (set half (b * 9 + w) (bitXor (getD planes (b * 9 + w + 9) 0) carry)) (bitAnd (getD planes (b * 9 + w + 9) 0) carry)
+rippling-on {planes} {old} {half} {w} {extra} {b} {m} {carry} r h k w-lt =
+    let l = r .len in
+    let fits : b * 9 + w < 99 = omega arith in
+    let x = getD planes (b * 9 + w + 9) 0 in
+    rw add-one (record {
+      len = length-set half (b * 9 + w) (bitXor x carry) ∙ l;
+      sum = λ p e.
+          omega (
+            arith,
+            binary-suc b (digitIn (set half (b * 9 + w) (bitXor x carry)) p),
+            binary-suc b (λ a. digitIn planes p (suc a)),
+            below planes half w carry b l fits w-lt p e,
+            r .sum p e,
+            twice-pow b (digit (bitAnd x carry) (p % 64)),
+            ap (λ (z : ℕ). 2 ^ b * z) (here planes half w carry b l fits w-lt p e),
+            ap (λ (z : ℕ). 2 ^ b * z) (above planes half w carry b l fits w-lt p e),
+            scaled (2 ^ b) (digit (bitXor x carry) (p % 64)) (digit (bitAnd x carry) (p % 64)) (digit x (p % 64)) (digit carry (p % 64)) (digit-sum x carry (p % 64)),
+          );
+      rest = λ p a q n. other planes half w carry b l fits w-lt p a (omega arith) ∙ r .rest p a q n;
+    })
+
+-- what fits carries nothing out
+no-carry : (s t m c : ℕ) → s + 2 ^ m * c ≡ t → t < 2 ^ m → c ≤ 1 → s ≡ t
+no-carry s t m c e h l =
+    byEq c 0
+    (λ z. omega (arith, ap (λ (y : ℕ). 2 ^ m * y) z))
+    (λ n. let o : c ≡ 1 = omega arith in absurd (omega (arith, ap (λ (y : ℕ). 2 ^ m * y) o, mul-one (2 ^ m))))
+
+pub rippling-end : {planes old half : List ℕ} {w extra b m carry : ℕ} → Rippling planes w extra b old half carry → b ≤ m → m ≤ b → Grown planes w extra m old half
+unfolding countAt
+rippling-end {planes} {old} {half} {w} {extra} {b} {m} {carry} g a z =
+    let r = at-end (λ k. Rippling planes w extra k old half carry) g a z in
+    record {
+      len = r .len;
+      sum = λ p e h. no-carry (binary m (digitIn half p)) (upper m planes p + digit extra (p % 64)) m (digit carry (p % 64)) (r .sum p e) h (digit-most carry (p % 64));
+      rest = λ p h n. binary-same m (digitIn half p) (digitIn old p) (λ b l. r .rest p b h n);
+    }
+
+-- ---- all words
+pub record Halving (m n : ℕ) (planes mask : List ℕ) (w : ℕ) (half : List ℕ) : Type 0 where
+  pub len : length half ≡ 99
+  pub done : (p : ℕ) → p < w * 64 → p < spanOf n → countAt m half p ≡ countAt (suc m) planes p / 2 + digitAt mask p
+
+pub halving-start : {m n : ℕ} {planes mask half : List ℕ} → length half ≡ 99 → Halving m n planes mask 0 half
+halving-start l = record { len = l; done = λ p h. absurd (omega arith) }
+
+module _ {m n : ℕ} {planes mask : List ℕ} (b : Block m n planes) (k : Mask n planes mask) (some : 1 ≤ m) where
+  -- a half has room in one plane less
+  half-room : (p : ℕ) → p < spanOf n → upper m planes p + digitAt mask p < 2 ^ m
+  half-room p h =
+      let two : 2 ^ 1 ≤ 2 ^ m = pow-le-pow-right (zero-lt-suc 1) some in
+      let parts = count-parts m planes p in
+      let one = k .only p h in
+      byLt p n
+      (λ l. omega (arith, b .most p l, digit-le planes p))
+      (λ l. omega (arith, b .past p l h, digit-le planes p))
+
+  pub halving-on : {w words : ℕ} {half next : List ℕ} → Halving m n planes mask w half → w < words → words ≡ wordsOf n → words ≤ 9
+      → Grown planes w (getD mask w 0) m half next → Halving m n planes mask (w + 1) next
+  halving-on {w} {words} {half} {next} g h v few r =
+      record {
+        len = r .len;
+        done = λ p l s.
+            byEq (p / 64) w
+            (λ e. here p e s)
+            (λ z. r .rest p (omega arith) z ∙ g .done p (omega arith) s);
+      }
+    where
+      here : (p : ℕ) → p / 64 ≡ w → p < spanOf n → countAt m next p ≡ countAt (suc m) planes p / 2 + digitAt mask p
+      here p e s =
+          let f = sym e in
+          let room = half-room p s in
+          let sum = rw f at (r .sum p e) in
+          omega (arith, sum room, count-parts m planes p, digit-le planes p)
+
+pub halving-end : {m n : ℕ} {planes mask half : List ℕ} {w words : ℕ} → Halving m n planes mask w half → words ≡ wordsOf n → w ≤ words → words ≤ w
+    → Halved m n planes mask half
+halving-end g v a b = record { len = g .len; each = λ p h. g .done p (omega arith) h }

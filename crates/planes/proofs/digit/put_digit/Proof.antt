@@ -1,0 +1,11 @@
+use borrow.Author.Needs.{needs}
+use Rattle.planes.proofs.Digits.{put-at}
+use Rattle.planes.proofs.digit.put_digit.Statement.{statement}
+use Rattle.planes.proofs.digit.put_digit.Tie as tie
+
+pub put-digit-spec : {M : Type 1} → statement M
+put-digit-spec =
+    tie.close
+    (tie.spec
+    (λ c. search needs)
+    (λ c. put-at (c .pre .0) (c .pre .1)))

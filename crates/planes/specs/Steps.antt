@@ -1,0 +1,75 @@
+-- What each function does with the planes, masks and lists that it is lent.
+use Prim.Native.Nat.{ℕ, suc, _+_, _-_, _*_, _/_, _%_, _^_, _≤_, _<_, max}
+use mathlib.Core.Path.{_≡_}
+use mathlib.Core.Logic.{_≢_}
+use mathlib.Core.List.{List, _++_}
+use lib.Dec.{eqb}
+use lib.ListN.{length, getD, take}
+use Rattle.model.specs.Words.{if}
+use Rattle.planes.specs.Digits.{digit, binary, places}
+use Rattle.planes.specs.Planes.{digitIn, digitAt, countAt, counts, oddsIn, spanOf}
+
+-- ---- digits
+-- The word x with d put at digit i, where it had 0 or d, is r.
+pub record PutAt (x i d r : ℕ) : Type 0 where
+  pub put : (j : ℕ) → digit r j ≡ max (digit x j) (if (eqb j i) d 0)
+
+-- ---- load
+-- Nothing is in the planes.
+pub record Blank (planes : List ℕ) : Type 0 where
+  pub len : length planes ≡ 99
+  pub none : (j : ℕ) → getD planes j 0 ≡ 0
+
+-- Each of the first k planes has its digit of x put at position p.
+pub record Stored (x k p : ℕ) (old planes : List ℕ) : Type 0 where
+  pub len : length planes ≡ 99
+  pub put : (q b : ℕ) → q < 576 → b < k → digitIn planes q b ≡ max (digitIn old q b) (if (eqb q p) (digit x b) 0)
+
+-- The first k planes have the counts of a matrix, and nothing behind them.
+pub record Loaded (matrix : List ℕ) (k : ℕ) (planes : List ℕ) : Type 0 where
+  pub len : length planes ≡ 99
+  pub same : counts k planes (length matrix) ≡ matrix
+  pub past : (p : ℕ) → length matrix ≤ p → p < 576 → countAt k planes p ≡ 0
+
+-- ---- gather
+-- From place k on, a list has the places of the digits of a word, and before them what it had.
+pub record Placed (base x k : ℕ) (old list : List ℕ) (r : ℕ) : Type 0 where
+  pub len : length list ≡ 528
+  pub number : r ≡ k + length (places base 64 x)
+  pub same : take r list ≡ take k old ++ places base 64 x
+
+-- The first r of a list are the positions of the odd counts among the first n.
+pub record Gathered (n : ℕ) (planes list : List ℕ) (r : ℕ) : Type 0 where
+  pub len : length list ≡ 528
+  pub number : r ≡ length (oddsIn n planes)
+  pub same : take r list ≡ oddsIn n planes
+
+-- ---- mark
+-- Of the digits of a word, r has those whose position favours the first half.
+pub record Picked (x base : ℕ) (favoured : List ℕ) (r : ℕ) : Type 0 where
+  pub has : (i : ℕ) → digit x i ≡ 1 → digit r i ≡ getD favoured (base + i) 0 % 2
+  pub none : (i : ℕ) → digit x i ≡ 0 → digit r i ≡ 0
+
+-- Of the odd counts, a mask has those that favour the first half.
+pub record Marked (n : ℕ) (planes favoured mask : List ℕ) : Type 0 where
+  pub len : length mask ≡ 9
+  pub has : (p : ℕ) → p < spanOf n → digitAt planes p ≡ 1 → digitAt mask p ≡ getD favoured p 0 % 2
+  pub none : (p : ℕ) → p < spanOf n → digitAt planes p ≡ 0 → digitAt mask p ≡ 0
+
+-- A mask has the odd counts that another has not.
+pub record Others (n : ℕ) (planes old mask : List ℕ) : Type 0 where
+  pub len : length mask ≡ 9
+  pub has : (p : ℕ) → p < spanOf n → digitAt mask p ≡ digitAt planes p - digitAt old p
+
+-- ---- halve
+-- Each count of word w of a half is what the planes above the lowest have, and one more where `extra` has it, if that has room.
+pub record Grown (planes : List ℕ) (w extra m : ℕ) (old half : List ℕ) : Type 0 where
+  pub len : length half ≡ 99
+  pub sum : (p : ℕ) → p / 64 ≡ w → binary m (λ b. digitIn planes p (suc b)) + digit extra (p % 64) < 2 ^ m
+      → countAt m half p ≡ binary m (λ b. digitIn planes p (suc b)) + digit extra (p % 64)
+  pub rest : (p : ℕ) → p < 576 → p / 64 ≢ w → countAt m half p ≡ countAt m old p
+
+-- Half of each count, and one cell more where the mask has it.
+pub record Halved (m n : ℕ) (planes mask half : List ℕ) : Type 0 where
+  pub len : length half ≡ 99
+  pub each : (p : ℕ) → p < spanOf n → countAt m half p ≡ countAt (suc m) planes p / 2 + digitAt mask p

@@ -1,0 +1,36 @@
+// Half of every count.
+use crate::words::words_of;
+ghost use mathlib.Core.Path.{_≡_};
+ghost use Prim.Native.Nat.{_<_, _≤_};
+ghost use lib.ListN.{length};
+ghost use Rattle.planes.specs.Planes.{Block, Mask};
+ghost use Rattle.planes.specs.Steps.{Grown, Halved};
+
+// One word of every plane: the planes above the lowest, with one word added.
+fn ripple(planes: &[u64; 99], m: usize, w: usize, extra: u64, half: &mut [u64; 99])
+    requires { ⌜ (m ≤ 10) × (w < 9) × (length (now planes) ≡ 99) × (length (now half) ≡ 99) ⌝ }
+    ensures { λ _. ⌜ Grown (now (planes .entry)) w extra m (now (half .entry)) (now (half .exit)) ⌝ }
+{
+    let mut carry = extra;
+    let mut b: usize = 0;
+    while b < m {
+        let at = b * 9 + w;
+        let x = planes[at + 9];
+        half[at] = x ^ carry;
+        carry = x & carry;
+        b += 1;
+    }
+}
+
+// The mask has the odd counts that favour the half.
+pub fn halve(planes: &[u64; 99], m: usize, n: usize, mask: &[u64; 9], half: &mut [u64; 99])
+    requires { ⌜ (1 ≤ m) × (m ≤ 10) × Block m n (now planes) × Mask n (now planes) (now mask) × (length (now half) ≡ 99) ⌝ }
+    ensures { λ _. ⌜ Halved m n (now (planes .entry)) (now (mask .entry)) (now (half .exit)) ⌝ }
+{
+    let words = words_of(n);
+    let mut w: usize = 0;
+    while w < words {
+        ripple(planes, m, w, mask[w], half);
+        w += 1;
+    }
+}
