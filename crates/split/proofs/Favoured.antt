@@ -2,12 +2,12 @@
 use Prim.Native.Nat.{ℕ, suc, zero, _+_, _-_, _≤_, _<_}
 use mathlib.Core.Path.{_≡_, refl, sym, ap, ap₂, _∙_, subst, fun-ext}
 use mathlib.Core.Logic.{_≢_}
-use mathlib.Core.List.{List, [], _∷_, _++_}
+use mathlib.Core.List.{List, [], _∷_}
 use mathlib.Core.Bool.{Bool, true, false}
 use native.Mathlib.Omega.{arith}
 use lib.Dec.{eqb}
-use lib.ListN.{length, getD, set, take, drop, replicate, length-set, length-append, length-drop, length-replicate}
-use lib.Seq.{length-take-le, getD-take, take-set-lt, take-at, drop-set-lt}
+use lib.ListN.{length, getD, set, take, drop, replicate, length-set, length-replicate}
+use lib.Seq.{length-take-le, getD-take, take-set-lt, drop-set-lt}
 use borrow.Author.Tests.{eq-eqb, ne-eqb}
 use Rattle.model.specs.Words.{both, upFrom, keep, Every}
 use Rattle.model.specs.Rules.{Side, inputs, outputs, portOf, odd, oddsAt}
@@ -17,11 +17,9 @@ use Rattle.model.proofs.Partners.{odd-lt, every-map, keep-every}
 use Rattle.model.proofs.Kept.{keep-same, keep-keep}
 use Rattle.model.proofs.Favouring.{none-favour, settled-less, unsettled-most}
 use Rattle.model.proofs.Walks.{walk-on, walk-off, walk-length}
-use Rattle.model.proofs.Settled.{partner-pairing, favours-law}
-use Rattle.model.proofs.Splits.{half-length}
-use Rattle.split.specs.Steps.{Wide, lookup, tabled, Sides, Tables, oddsBelow, portIn, thoseAt, mateAmong, Linked, walked, bothWays, groupSettled, allSettled, SettledBy, halvedBy, halved}
+use Rattle.model.proofs.Settled.{partner-pairing}
+use Rattle.split.specs.Steps.{lookup, tabled, Sides, Tables, portIn, thoseAt, mateAmong, Linked, walked, bothWays, groupSettled, allSettled, SettledBy}
 use Rattle.split.proofs.Lists.{every-kept}
-use Rattle.split.proofs.Gathered.{Gathered, odds-take}
 use Rattle.split.proofs.Walked.{walk-end}
 use Rattle.split.proofs.Linked.{Mated, none-at}
 
@@ -172,30 +170,30 @@ module _ (m i o : List ℕ) (i′ o′ : ℕ → ℕ) (di : Does (length m) (odd
       off p c e = rw (e, settleAt)
 
 -- ---- partners
-module _ (n : ℕ) (m : List ℕ) (len : length (take n m) ≡ n) where
-  -- the partner in the list is the partner of the definitions
-  mate-is : (table : List ℕ) → ((p : ℕ) → p < n → lookup table p < 16) → (p : ℕ) → p < n
-      → mateAmong table (oddsBelow n m) p ≡ partner (lookup table) (take n m) p
-  mate-is table low p h =
-      ap (λ (x : ℕ). partnerIn (thoseAt table x (oddsBelow n m)) p) (port-is p h)
-      ∙ ap (λ (l : List ℕ). partnerIn l p)
-      (ap (thoseAt table (lookup table p)) (odds-take n m)
-      ∙ keep-keep (odd (take n m)) (λ q. eqb (portIn table q) (lookup table p)) (upFrom 0 n)
-      ∙ keep-same (λ q. both (odd (take n m) q) (eqb (portIn table q) (lookup table p))) (λ q. both (odd (take n m) q) (eqb (lookup table q) (lookup table p))) 0 n
-      (λ q g. ap (λ (x : ℕ). both (odd (take n m) q) (eqb x (lookup table p))) (port-is q (omega arith)))
-      ∙ ap (λ (j : ℕ). keep (λ q. both (odd (take n m) q) (eqb (lookup table q) (lookup table p))) (upFrom 0 j)) (sym len))
-    where
-      port-is : (q : ℕ) → q < n → portIn table q ≡ lookup table q
-      port-is q g = let l = low q g in omega arith
+-- the positions of the odd counts of a list
+abbrev odds-of : List ℕ → List ℕ
+odds-of m = keep (odd m) (upFrom 0 (length m))
 
-  does : (table mates : List ℕ) → ((p : ℕ) → p < n → lookup table p < 16) → Every (Mated table mates (oddsBelow n m)) (oddsBelow n m)
-      → Does (length (take n m)) (odd (take n m)) (odd-lt (take n m)) (lookup mates) (partner (lookup table) (take n m))
-  does table mates low al p o =
-      let p-lt : p < n = omega (arith, odd-lt (take n m) p o, len) in
-      let al′ = subst (Every (Mated table mates (oddsBelow n m))) (odds-take n m) al in (
-        every-kept (Mated table mates (oddsBelow n m)) (odd (take n m)) 0 n al′ p (omega arith) (omega arith) o ∙ mate-is table low p p-lt,
-        partner-pairing (lookup table) (take n m) .odds p o,
-      )
+-- the partner in the list is the partner of the definitions
+mate-is : (m table : List ℕ) → ((p : ℕ) → p < length m → lookup table p < 16) → (p : ℕ) → p < length m
+    → mateAmong table (odds-of m) p ≡ partner (lookup table) m p
+mate-is m table low p h =
+    ap (λ (x : ℕ). partnerIn (thoseAt table x (odds-of m)) p) (port-is p h)
+    ∙ ap (λ (l : List ℕ). partnerIn l p)
+    (keep-keep (odd m) (λ q. eqb (portIn table q) (lookup table p)) (upFrom 0 (length m))
+    ∙ keep-same (λ q. both (odd m q) (eqb (portIn table q) (lookup table p))) (λ q. both (odd m q) (eqb (lookup table q) (lookup table p))) 0 (length m)
+    (λ q g. ap (λ (x : ℕ). both (odd m q) (eqb x (lookup table p))) (port-is q (omega arith))))
+  where
+    port-is : (q : ℕ) → q < length m → portIn table q ≡ lookup table q
+    port-is q g = let l = low q g in omega arith
+
+does : (m table mates : List ℕ) → ((p : ℕ) → p < length m → lookup table p < 16) → Every (Mated table mates (odds-of m)) (odds-of m)
+    → Does (length m) (odd m) (odd-lt m) (lookup mates) (partner (lookup table) m)
+does m table mates low al p o =
+    let p-lt = odd-lt m p o in (
+      every-kept (Mated table mates (odds-of m)) (odd m) 0 (length m) al p (omega arith) (omega arith) o ∙ mate-is m table low p p-lt,
+      partner-pairing (lookup table) m .odds p o,
+    )
 
 take-zeros : (n k : ℕ) → n ≤ k → take {A = ℕ} n (replicate k 0) ≡ replicate n 0
 take-zeros zero k h = refl
@@ -203,28 +201,21 @@ take-zeros (suc n) zero h = absurd (omega arith)
 take-zeros (suc n) (suc k) h = ap (λ (l : List ℕ). 0 ∷ l) (take-zeros n k (omega arith))
 
 -- ---- the half that each count favours
-module _ {n k : ℕ} {m ins outs odds i o c : List ℕ} (t : Sides n ins outs) (w : Wide m) (g : Gathered m n odds k)
-    (li : Linked ins odds k i) (lo : Linked outs odds k o)
-    (s : SettledBy i o odds k (replicate 256 0) c) where
-  favoured-is : take n c ≡ favours (tabled ins outs) (take n m)
-  unfolding favours
-  favoured-is =
-      let len : length (take n m) ≡ n = length-take-le n m (omega (arith, t .most)) in
-      let z : List ℕ = replicate 256 0 in
-      let i′ = partner (lookup ins) (take n m) in
-      let o′ = partner (lookup outs) (take n m) in
-      let di = does n m len ins i (t .low inputs) (subst (λ (l : List ℕ). Every (Mated ins i l) l) (g .same) (li .same)) in
-      let do′ = does n m len outs o (t .low outputs) (subst (λ (l : List ℕ). Every (Mated outs o l) l) (g .same) (lo .same)) in
-      let wz : length (take n m) ≤ length z = omega (arith, t .most, length-replicate {A = ℕ} 256 0) in
-      ap (take n) (s .same)
-      ∙ ap (λ (l : List ℕ). take n (allSettled i o l z)) (g .same ∙ odds-take n m)
-      ∙ ap (λ (j : ℕ). take j (allSettled i o (keep (odd (take n m)) (upFrom 0 j)) z)) (sym len)
-      ∙ all-take (take n m) i o i′ o′ di do′ (length (take n m)) 0 z wz (zeros-blank (length (take n m)) 256)
-      ∙ ap (settle i′ o′ (take n m) (upFrom 0 (length (take n m)))) (take-zeros (length (take n m)) 256 (omega (arith, t .most)))
-
-  pub half-is : (h : ℕ) (lent half : List ℕ) → half ≡ halvedBy h n m c lent → half ≡ halved h n m ins outs lent
-  unfolding halvedBy halved
-  half-is h lent half f = f ∙ ap (λ z. halfBy h (take n m) z ++ drop n lent) favoured-is
+-- the steps over a list of the odd counts of m settle what the definitions settle
+pub favoured-is : {n k : ℕ} {ins outs odds i o c : List ℕ} (m : List ℕ) → Sides n ins outs → length m ≡ n → take k odds ≡ keep (odd m) (upFrom 0 n)
+    → Linked ins odds k i → Linked outs odds k o → SettledBy i o odds k (replicate 528 0) c → take n c ≡ favours (tabled ins outs) m
+unfolding favours
+favoured-is {n} {k} {ins} {outs} {odds} {i} {o} {c} m t len g li lo s =
+    let z : List ℕ = replicate 528 0 in
+    let i′ = partner (lookup ins) m in
+    let o′ = partner (lookup outs) m in
+    let g′ : take k odds ≡ odds-of m = g ∙ ap (λ (j : ℕ). keep (odd m) (upFrom 0 j)) (sym len) in
+    let di = does m ins i (λ p h. t .low inputs p (omega arith)) (subst (λ (l : List ℕ). Every (Mated ins i l) l) g′ (li .same)) in
+    let do′ = does m outs o (λ p h. t .low outputs p (omega arith)) (subst (λ (l : List ℕ). Every (Mated outs o l) l) g′ (lo .same)) in
+    let wz : length m ≤ length z = omega (arith, t .most, length-replicate {A = ℕ} 528 0) in
+    ap₂ (λ (j : ℕ) (d : List ℕ). take j d) (sym len) (s .same ∙ ap (λ (l : List ℕ). allSettled i o l z) g′)
+    ∙ all-take m i o i′ o′ di do′ (length m) 0 z wz (zeros-blank (length m) 528)
+    ∙ ap (settle i′ o′ m (upFrom 0 (length m))) (take-zeros (length m) 528 (omega (arith, t .most)))
 
 -- ---- ports that are the same at each position of a matrix
 partner-same : (f g : ℕ → ℕ) (m : List ℕ) → ((p : ℕ) → p < length m → f p ≡ g p) → (p : ℕ) → partner f m p ≡ partner g m p
@@ -246,19 +237,6 @@ favours-same f g m e =
     (fun-ext (partner-same (f inputs) (g inputs) m (e inputs))) (fun-ext (partner-same (f outputs) (g outputs) m (e outputs)))
 
 -- the halves that the tables of a matrix give are the matrix's
-module _ (h : ℕ) {ports n : ℕ} {ins outs : List ℕ} (m lent half : List ℕ) (t : Tables ports n ins outs) (w : Wide m) (f : half ≡ halved h n m ins outs lent) where
-  size : length (halfOf (tabled ins outs) h (take n m)) ≡ n
-  size = half-length h (take n m) (favours (tabled ins outs) (take n m)) (favours-law (tabled ins outs) (take n m) .len) ∙ length-take-le n m (omega (arith, t .most))
-
-  pub half-wide : Wide lent → Wide half
-  unfolding halved
-  half-wide l =
-      ap length f ∙ length-append (halfOf (tabled ins outs) h (take n m)) (drop n lent) ∙ omega (arith, size, length-drop n lent, t .most)
-
-  pub half-of : take n half ≡ halfOf (portOf ports) h (take n m)
-  unfolding halved
-  half-of =
-      let len : length (take n m) ≡ n = length-take-le n m (omega (arith, t .most)) in
-      ap (take n) f
-      ∙ take-at (halfOf (tabled ins outs) h (take n m)) (drop n lent) n size
-      ∙ ap (halfBy h (take n m)) (favours-same (tabled ins outs) (portOf ports) (take n m) (λ s p l. t .has s p (omega arith)))
+pub half-tabled : (h : ℕ) {ports n : ℕ} {ins outs : List ℕ} (m : List ℕ) → Tables ports n ins outs → length m ≡ n → halfOf (tabled ins outs) h m ≡ halfOf (portOf ports) h m
+half-tabled h {ports} {n} {ins} {outs} m t len =
+    ap (halfBy h m) (favours-same (tabled ins outs) (portOf ports) m (λ s p l. t .has s p (omega arith)))

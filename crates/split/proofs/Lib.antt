@@ -1,9 +1,8 @@
 -- Laws of the steps, one file for each that they are about.
 pub mod Lists
-pub mod Gathered
 pub mod Linked
 pub mod Turned
 pub mod Walked
 pub mod Settled
 pub mod Favoured
-pub mod Halved
+pub mod Divided

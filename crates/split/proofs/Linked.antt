@@ -8,15 +8,15 @@ use native.Mathlib.Omega.{arith}
 use native.Mathlib.Numerals.{add-one}
 use native.Mathlib.Nat.{mod-lt}
 use lib.Dec.{eqb}
-use lib.ListN.{length, getD, set, take, length-set}
+use lib.ListN.{length, getD, set, take, length-set, List·getD-eq-default}
 use lib.Seq.{take-suc, getD-set-same, getD-set-other}
 use borrow.Author.Tests.{eqb-true, eq-eqb, ne-eqb}
 use Rattle.model.specs.Words.{if, keep, Every}
 use Rattle.model.specs.Schedule.{partnerIn}
-use Rattle.model.proofs.Cases.{byBool, byEq}
+use Rattle.model.proofs.Cases.{byBool, byEq, byLt}
 use Rattle.model.proofs.Partners.{Rising, in-first, in-second, in-rest, rising-weaken, every-map}
-use Rattle.split.specs.Steps.{Wide, lookup, portIn, thoseAt, mateAmong, Linked}
-use Rattle.split.proofs.Lists.{keep-snoc, every-snoc, every-two}
+use Rattle.split.specs.Steps.{Odds, Mates, lookup, portIn, thoseAt, mateAmong, Linked}
+use Rattle.split.proofs.Lists.{keep-snoc, every-snoc, every-two, position-low}
 
 -- ---- rising lists
 rising-snoc : (k : ℕ) (l : List ℕ) (p : ℕ) → Rising k (l ++ (p ∷ [])) → (Rising k l) × (Every (λ r. r < p) l) × (k ≤ p)
@@ -174,6 +174,22 @@ module _ (table l : List ℕ) (p : ℕ) where
             ∙ sym (mate-same h (sym (eqb-true (portIn table h) (portIn table p) (h-is .1)))
             ∙ odd-held p h 0 here e (rising-keep (λ r. eqb (portIn table r) (portIn table p)) 0 l rising))
 
+-- ---- positions below 528
+set-low : (l : List ℕ) (a v r : ℕ) → getD l r 0 < 528 → v < 528 → getD (set l a v) r 0 < 528
+set-low l a v r h k =
+    byEq r a
+    (λ e. byLt a (length l)
+    (λ g. omega (arith, ap (λ (x : ℕ). getD (set l a v) x 0) e, getD-set-same l a v 0 g))
+    (λ g. let out : length (set l a v) ≤ r = omega (arith, length-set l a v) in omega (arith, List·getD-eq-default (set l a v) 0 out)))
+    (λ n. omega (arith, getD-set-other l a r v 0 n))
+
+pub own-low : {odds : List ℕ} {i k p a : ℕ} → Odds odds k → i < k → p ≡ getD odds i 0 → a ≡ p → a < 528
+own-low o h e f = rw f (position-low (o .positions) h e)
+
+choice-low : (b : Bool) (h p : ℕ) → h < 528 → p < 528 → if b h p < 528
+choice-low true h p a c = a
+choice-low false h p a c = c
+
 -- ---- the state of the loop
 -- h waits among l, or none does
 abbrev pub Waits : Bool → ℕ → List ℕ → Type 0
@@ -181,7 +197,8 @@ Waits true h l = single l ≡ h ∷ []
 Waits false h l = single l ≡ []
 
 pub record Links (table odds : List ℕ) (i : ℕ) (mates held : List ℕ) (waits : List Bool) : Type 0 where
-  pub len : Wide mates
+  pub mates-low : Mates mates
+  pub held-low : (x : ℕ) → x < 16 → getD held x 0 < 528
   pub helds : length held ≡ 16
   pub flags : length waits ≡ 16
   pub mated : Every (Mated table mates (take i odds)) (take i odds)
@@ -213,25 +230,36 @@ module _ (table l : List ℕ) (p : ℕ) (held : List ℕ) (waits : List Bool) (h
       let n′ : portIn table p ≢ x = λ e. n (sym e) in
       rw (getD-set-other waits (portIn table p) x (not was) false n, getD-set-other held (portIn table p) x p 0 n, other-port table l p x n′) (ports x h))
 
-pub links-start : (table odds mates : List ℕ) → Wide mates → (held : List ℕ) (waits : List Bool) → length held ≡ 16
-    → length waits ≡ 16 → ((x : ℕ) → x < 16 → getD waits x false ≡ false)
+pub links-start : (table odds mates : List ℕ) → Mates mates → (held : List ℕ) (waits : List Bool) → length held ≡ 16
+    → length waits ≡ 16 → ((x : ℕ) → x < 16 → getD held x 0 ≡ 0) → ((x : ℕ) → x < 16 → getD waits x false ≡ false)
     → Links table odds 0 mates held waits
-links-start table odds mates l held waits a b z = record { len = l; helds = a; flags = b; mated = tt; ports = λ x h. rw (z x h) refl }
+links-start table odds mates m held waits a b y z =
+    record { mates-low = m; held-low = λ x h. omega (arith, y x h); helds = a; flags = b; mated = tt; ports = λ x h. rw (z x h) refl }
+
+pub other-low : {table odds : List ℕ} {i : ℕ} {mates held : List ℕ} {waits : List Bool} {p x q t k : ℕ}
+    → Links table odds i mates held waits → Odds odds k → i < k → p ≡ getD odds i 0 → x < 16
+    → q ≡ if (getD waits x false) (getD held x 0) p → t ≡ q → t < 528
+other-low {held = held} {waits} {p} {x} s o h e y u v = rw (v, u) (choice-low (getD waits x false) (getD held x 0) p (s .held-low x y) (own-low o h e refl))
 
 pub links-on : {table odds : List ℕ} {i : ℕ} {mates held : List ℕ} {waits : List Bool} {p a x q t k : ℕ}
-    → Links table odds i mates held waits → i < k → k ≤ 256 → Wide odds → Rising 0 (take k odds)
-    → p ≡ getD odds i 0 → a ≡ p → a < 256 → x ≡ getD table a 0 % 16 → q ≡ if (getD waits x false) (getD held x 0) p → t ≡ q
+    → Links table odds i mates held waits → i < k → Odds odds k → p ≡ getD odds i 0 → a ≡ p → x ≡ getD table a 0 % 16 → q ≡ if (getD waits x false) (getD held x 0) p → t ≡ q
     → Links table odds (i + 1) (set (set mates a q) t p) (set held x p) (set waits x (not (getD waits x false)))
-links-on {table} {odds} {i} {mates} {held} {waits} {p} {a} {x} {q} {t} {k} s h k-le w up e f a-lt y u v =
-    let g : i < length odds = omega arith in
+links-on {table} {odds} {i} {mates} {held} {waits} {p} {a} {x} {q} {t} {k} s h o e f y u v =
+    let g : i < length odds = omega (arith, o .positions .len, o .positions .most) in
+    let a-lt = own-low o h e f in
     let x′ : x ≡ portIn table p = y ∙ ap (portIn table) f in
     let l′ : take (i + 1) odds ≡ take i odds ++ (p ∷ []) = rw (add-one, e) (take-suc odds i 0 g) in
     let u′ : q ≡ if (getD waits (portIn table p) false) (getD held (portIn table p) 0) p = rw x′ at u in
     let lt : portIn table p < 16 = mod-lt (lookup table p) {m = 16} (omega arith) in
-    let p-lt : p < length mates = omega (arith, s .len) in
-    let up′ = rw l′ at (rising-take 0 (i + 1) k odds (omega arith) up) in
+    let p-lt : p < length mates = omega (arith, s .mates-low .len) in
+    let up′ = rw l′ at (rising-take 0 (i + 1) k odds (omega arith) (o .rising)) in
+    let q-lt : q < 528 = other-low s o h e (rw x′ lt) u refl in
     record {
-      len = length-set (set mates a q) t p ∙ length-set mates a q ∙ s .len;
+      mates-low = record {
+        len = length-set (set mates a q) t p ∙ length-set mates a q ∙ s .mates-low .len;
+        low = λ r. set-low (set mates a q) t p r (set-low mates a q r (s .mates-low .low r) q-lt) (omega arith);
+      };
+      held-low = λ y b. set-low held x p y (s .held-low y b) (omega arith);
       helds = length-set held x p ∙ s .helds;
       flags = length-set waits x (not (getD waits x false)) ∙ s .flags;
       mated = rw (l′, v, f)
@@ -241,4 +269,4 @@ links-on {table} {odds} {i} {mates} {held} {waits} {p} {a} {x} {q} {t} {k} s h k
 
 pub links-end : {table odds : List ℕ} {i k : ℕ} {mates held : List ℕ} {waits : List Bool}
     → Links table odds i mates held waits → i ≤ k → k ≤ i → Linked table odds k mates
-links-end {table} {odds} {i} {k} {mates} {held} {waits} s a b = let e : k ≡ i = omega arith in record { len = s .len; same = rw e (s .mated) }
+links-end {table} {odds} {i} {k} {mates} {held} {waits} s a b = let e : k ≡ i = omega arith in record { mates-low = s .mates-low; same = rw e (s .mated) }

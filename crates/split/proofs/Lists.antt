@@ -1,4 +1,4 @@
--- Lists with one more at the end, and the end of a loop.
+-- Lists with one more at the end, and what holds of each.
 use Prim.Native.Nat.{ℕ, suc, zero, _+_, _≤_, _<_}
 use mathlib.Core.Path.{_≡_, refl, sym, ap, _∙_}
 use mathlib.Core.List.{List, [], _∷_, _++_}
@@ -7,10 +7,7 @@ use native.Mathlib.Omega.{arith}
 use lib.ListN.{length, getD, take}
 use Rattle.model.specs.Words.{if, upFrom, keep, Every}
 use Rattle.model.proofs.Cases.{byBool, byEq}
-
--- what holds after i turns holds after n, where the loop was left at n
-pub at-end : (P : ℕ → Type 0) {i n : ℕ} → P i → i ≤ n → n ≤ i → P n
-at-end P {i} {n} h a b = let e : n ≡ i = omega arith in rw e h
+use Rattle.split.specs.Steps.{Positions}
 
 -- ---- one more at the end
 pub up-snoc : (a n : ℕ) → upFrom a (suc n) ≡ upFrom a n ++ ((a + n) ∷ [])
@@ -35,6 +32,9 @@ every-get P j zero l a h g = absurd (omega arith)
 every-get P j (suc k) [] a h g = absurd (omega arith)
 every-get P zero (suc k) (x ∷ l) a h g = a .0
 every-get P (suc j) (suc k) (x ∷ l) a h g = every-get P j k l (a .1) (omega arith) (omega arith)
+
+pub position-low : {l : List ℕ} {i k p : ℕ} → Positions l k → i < k → p ≡ getD l i 0 → p < 528
+position-low {l} {i} {k} o h e = rw e (every-get (λ p. p < 528) i k l (o .below) h (omega (arith, o .len, o .most)))
 
 pub every-kept : (P : ℕ → Type 0) (t : ℕ → Bool) (a n : ℕ) → Every P (keep t (upFrom a n)) → (p : ℕ) → a ≤ p → p < a + n → t p ≡ true → P p
 every-kept P t a zero al p h g e = absurd (omega arith)

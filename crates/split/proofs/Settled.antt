@@ -13,8 +13,8 @@ use Rattle.model.specs.Schedule.{favouring, level}
 use Rattle.model.proofs.Cases.{byEq, within-yes, within-below, within-above}
 use Rattle.model.proofs.Favouring.{settled-less, unsettled-most, favouring-more, favouring-same}
 use Rattle.model.proofs.Shares.{same-shares}
-use Rattle.split.specs.Steps.{Wide, walked, Listed, Walks, turned, otherHalf, bothWays, groupSettled, largerHalf, Turn, Settles, allSettled, SettledBy}
-use Rattle.split.proofs.Lists.{at-end}
+use Rattle.split.specs.Steps.{Wide, Odds, walked, Listed, Walks, turned, otherHalf, bothWays, groupSettled, largerHalf, Turn, Settles, allSettled, SettledBy}
+use Rattle.planes.proofs.Lists.{at-end}
 use Rattle.split.proofs.Turned.{turned-length}
 
 -- ---- whose turn it is
@@ -46,7 +46,7 @@ module _ (i o : List ℕ) {p half : ℕ} {c : List ℕ} (len : Wide c) (t : Turn
   unfolding groupSettled
   group-off z = record { len = len; turn = t; same = rw (ne-eqb (getD c p 0) 0 z) }
 
-  module _ (z : getD c p 0 ≡ 0) (p-lt : p < 256) (group : List ℕ) (size : Wide group) where
+  module _ (z : getD c p 0 ≡ 0) (p-lt : p < 528) (group : List ℕ) (size : Wide group) where
     at-first : take 1 (set group 0 p) ≡ p ∷ []
     at-first = take-suc-set group 0 p (omega arith)
 
@@ -159,7 +159,7 @@ module _ (i o : List ℕ) {p half : ℕ} {c : List ℕ} (len : Wide c) (t : Turn
         group-turned {l} {v} {d} f r g e = rw e (turned-settles v (rw f at r) g)
 
 -- ---- before the first group
-pub turn-start : (c : List ℕ) → c ≡ replicate 256 0 → Turn 1 c
+pub turn-start : (c : List ℕ) → c ≡ replicate 528 0 → Turn 1 c
 turn-start c e =
     record {
       low = omega arith;
@@ -167,7 +167,7 @@ turn-start c e =
       ahead = rw e;
     }
 
-pub settled-start : {i o odds c : List ℕ} → c ≡ replicate 256 0 → SettledBy i o odds 0 c c
+pub settled-start : {i o odds c : List ℕ} → c ≡ replicate 528 0 → SettledBy i o odds 0 c c
 settled-start e = record { len = rw e; same = refl }
 
 -- ---- one group more
@@ -175,10 +175,10 @@ all-snoc : (i o l : List ℕ) (p : ℕ) (c : List ℕ) → allSettled i o (l ++ 
 all-snoc i o [] p c = refl
 all-snoc i o (x ∷ l) p c = all-snoc i o l p (groupSettled i o x c)
 
-pub settled-on : {i o odds c₀ : List ℕ} {j : ℕ} {c d : List ℕ} {p k v : ℕ} → SettledBy i o odds j c₀ c → j < k → k ≤ 256
-    → Wide odds → p ≡ getD odds j 0 → Settles i o p c v d → SettledBy i o odds (j + 1) c₀ d
-settled-on {i} {o} {odds} {c₀} {j} {c} {d} {p} {k} {v} s a b w e f =
-    let h : j < length odds = omega arith in
+pub settled-on : {i o odds c₀ : List ℕ} {j : ℕ} {c d : List ℕ} {p k v : ℕ} → SettledBy i o odds j c₀ c → j < k → Odds odds k
+    → p ≡ getD odds j 0 → Settles i o p c v d → SettledBy i o odds (j + 1) c₀ d
+settled-on {i} {o} {odds} {c₀} {j} {c} {d} {p} {k} {v} s a b e f =
+    let h : j < length odds = omega (arith, b .positions .len, b .positions .most) in
     record { len = f .len; same = f .same ∙ rw (add-one, take-suc odds j 0 h, all-snoc i o (take j odds) (getD odds j 0) c₀, ← s .same, e) }
 
 pub settled-end : {i o odds c₀ : List ℕ} {j k : ℕ} {c : List ℕ} → SettledBy i o odds j c₀ c → j ≤ k → k ≤ j → SettledBy i o odds k c₀ c

@@ -12,8 +12,9 @@ use Rattle.model.specs.Words.{Every}
 use Rattle.model.proofs.Cases.{byBool, byEq, byLt}
 use Rattle.model.proofs.Partners.{every-map}
 use Rattle.model.proofs.Favouring.{settled-less}
-use Rattle.split.specs.Steps.{Wide, otherHalf, turned, Listed}
-use Rattle.split.proofs.Lists.{at-end, every-snoc}
+use Rattle.split.specs.Steps.{Wide, Positions, otherHalf, turned, Listed}
+use Rattle.planes.proofs.Lists.{at-end}
+use Rattle.split.proofs.Lists.{every-snoc}
 
 other-low : (x : ℕ) → otherHalf x ≢ 0
 other-low x = byBool (eqb x 1) (λ e. rw e (omega arith)) (λ e. rw e (omega arith))
@@ -52,6 +53,17 @@ turned-settled : (l c : List ℕ) (q : ℕ) → getD c q 0 ≢ 0 → getD (turne
 turned-settled [] c q s = s
 turned-settled (r ∷ l) c q s = turned-settled l (set c r (otherHalf (getD c r 0))) q (set-settled c r (otherHalf (getD c r 0)) q (other-low (getD c r 0)) s)
 
+-- what is settled is a position
+pub listed-positions : {n : ℕ} {group c : List ℕ} → Listed n group c → Positions group n
+listed-positions {n} {group} {c} g =
+    record {
+      len = g .size;
+      most = omega (arith, g .room);
+      below = every-map (λ q. getD c q 0 ≢ 0) (λ q. q < 528)
+          (λ q s. byLt q 528 (λ h. h) (λ h. let out : length c ≤ q = omega (arith, g .len) in absurd (s (List·getD-eq-default c 0 out))))
+          (take n group) (g .settled);
+    }
+
 -- ---- one more count settled and listed
 module _ {n : ℕ} {group c : List ℕ} (g : Listed n group c) (q : ℕ) where
   pub listed-not : getD c q 0 ≢ 0 → getD (turned (take n group) c) q 0 ≢ 0
@@ -64,8 +76,8 @@ module _ {n : ℕ} {group c : List ℕ} (g : Listed n group c) (q : ℕ) where
     pub listed-zero : getD (turned (take n group) c) q 0 ≡ 0
     listed-zero = turned-other (take n group) c q off ∙ z
 
-    module _ (q-lt : q < 256) where
-      pub listed-room : n < 256
+    module _ (q-lt : q < 528) where
+      pub listed-room : n < 528
       listed-room = let a = settled-less c q 1 (omega (arith, g .len)) z (omega arith) in omega (arith, g .room)
 
       more : take (n + 1) (set group n q) ≡ take n group ++ (q ∷ [])
@@ -99,10 +111,10 @@ pub record Turning (group : List ℕ) (i : ℕ) (c d : List ℕ) : Type 0 where
 pub turning-start : {group c : List ℕ} → Wide c → Turning group 0 c c
 turning-start w = record { len = w; same = refl }
 
-pub turning-on : {group c d : List ℕ} {i n q v : ℕ} → Turning group i c d → i < n → n ≤ 256 → Wide group → q ≡ getD group i 0
+pub turning-on : {group c d : List ℕ} {i n q v : ℕ} → Turning group i c d → i < n → Positions group n → q ≡ getD group i 0
     → v ≡ otherHalf (getD d q 0) → Turning group (i + 1) c (set d q v)
-turning-on {group} {c} {d} {i} {n} {q} {v} t a b w e f =
-    let l : i < length group = omega arith in
+turning-on {group} {c} {d} {i} {n} {q} {v} t a o e f =
+    let l : i < length group = omega (arith, o .len, o .most) in
     let more : take (i + 1) group ≡ take i group ++ (getD group i 0 ∷ []) = rw add-one (take-suc group i 0 l) in
     record {
       len = length-set d q v ∙ t .len;

@@ -8,7 +8,7 @@ use lib.ListN.{length, getD, set, take, length-set}
 use Rattle.model.specs.Schedule.{walk, favouring}
 use Rattle.model.proofs.Favouring.{settled-less, unsettled-most, favouring-more, favouring-same}
 use Rattle.model.proofs.Walks.{walk-on, walk-off}
-use Rattle.split.specs.Steps.{Wide, lookup, walked, WalkedBy, turned, Listed, Walks}
+use Rattle.split.specs.Steps.{Wide, Mates, lookup, walked, WalkedBy, turned, Listed, Walks}
 use Rattle.split.proofs.Turned.{turned-length, listed-not, listed-zero, listed-room, listed-on, listed-turned}
 
 walk-one : (go back : ℕ → ℕ) (p h q d : ℕ) (c : List ℕ) → q ≡ go p → q < length c → getD c q 0 ≡ 0 → h < 3
@@ -27,22 +27,22 @@ walk-end (suc k) go back p h q c e z = walk-off k go back p h c (rw e at z)
 -- the walk in c₀, whose start favours half, goes on from p in c
 pub record Goes (near far : List ℕ) (start half : ℕ) (c₀ : List ℕ) (p : ℕ) (c : List ℕ) : Type 0 where
   pub len : Wide c
-  pub place : p < 256
+  pub place : p < 528
   pub same : walked near far start half c₀ ≡ walk (favouring 0 c + (length c₀ - favouring 0 c₀)) (lookup near) (lookup far) p half c
 
-pub goes-start : (near far : List ℕ) (start half : ℕ) (c : List ℕ) → Wide c → start < 256 → Goes near far start half c start c
+pub goes-start : (near far : List ℕ) (start half : ℕ) (c : List ℕ) → Wide c → start < 528 → Goes near far start half c start c
 goes-start near far start half c l h =
     let e : favouring 0 c + (length c - favouring 0 c) ≡ length c = omega (arith, unsettled-most c) in
     record { len = l; place = h; same = rw e }
 
 module _ {near far : List ℕ} {start half : ℕ} {c₀ : List ℕ} {p : ℕ} {c : List ℕ} (g : Goes near far start half c₀ p c)
     (low : 1 ≤ half) (high : half ≤ 2)
-    {q : ℕ} (e : q ≡ lookup near p) (q-lt : q < 256) where
+    {q : ℕ} (e : q ≡ lookup near p) (q-lt : q < 528) where
   -- to q, which is settled
   pub goes-stop : getD c q 0 ≢ 0 → c ≡ walked near far start half c₀
   goes-stop z = sym (g .same ∙ walk-end (favouring 0 c + (length c₀ - favouring 0 c₀)) (lookup near) (lookup far) p half q c e z)
 
-  module _ (z : getD c q 0 ≡ 0) {r : ℕ} (f : r ≡ lookup far q) (r-lt : r < 256) where
+  module _ (z : getD c q 0 ≡ 0) {r : ℕ} (f : r ≡ lookup far q) (r-lt : r < 528) where
     once : walked near far start half c₀ ≡ walk (favouring 0 (set c q (3 - half)) + (length c₀ - favouring 0 c₀)) (lookup far) (lookup near) q (3 - half) (set c q (3 - half))
     once = g .same ∙ walk-one (lookup near) (lookup far) p half q (length c₀ - favouring 0 c₀) c e (omega (arith, g .len)) z (omega arith)
 
@@ -79,18 +79,18 @@ pub record Along (near far : List ℕ) (start half : ℕ) (c₀ : List ℕ) (p :
   pub own : favouring half c ≡ favouring half c₀ + steps / 2
   pub other : favouring (3 - half) c ≡ favouring (3 - half) c₀ + steps / 2
 
-along-start : (near far : List ℕ) (start half : ℕ) (c : List ℕ) (steps : ℕ) → steps ≡ 0 → Wide c → start < 256 → Along near far start half c start c steps
+along-start : (near far : List ℕ) (start half : ℕ) (c : List ℕ) (steps : ℕ) → steps ≡ 0 → Wide c → start < 528 → Along near far start half c start c steps
 along-start near far start half c steps e l h =
     record { goes = goes-start near far start half c l h; even = omega arith; own = omega arith; other = omega arith }
 
 module _ {near far : List ℕ} {start half : ℕ} {c₀ : List ℕ} {p : ℕ} {c : List ℕ} {steps : ℕ} (g : Along near far start half c₀ p c steps)
     (low : 1 ≤ half) (high : half ≤ 2)
-    {q : ℕ} (e : q ≡ lookup near p) (q-lt : q < 256) where
+    {q : ℕ} (e : q ≡ lookup near p) (q-lt : q < 528) where
   along-stop : getD c q 0 ≢ 0 → WalkedBy near far start half c₀ steps c
   along-stop z =
       record { same = goes-stop (g .goes) low high e q-lt z; own = g .own; other = omega (arith, g .other, g .even) }
 
-  module _ (z : getD c q 0 ≡ 0) {r : ℕ} (f : r ≡ lookup far q) (r-lt : r < 256) where
+  module _ (z : getD c q 0 ≡ 0) {r : ℕ} (f : r ≡ lookup far q) (r-lt : r < 528) where
     q-in : q < length c
     q-in = omega (arith, g .goes .len)
 
@@ -114,15 +114,19 @@ module _ {near far : List ℕ} {start half : ℕ} {c₀ : List ℕ} {p : ℕ} {c
 
 -- ---- the walk from a count that favours the first half, with its counts listed, and from one that favours the second
 pub record Walking (near far : List ℕ) (start count : ℕ) (listed favoured : List ℕ) (p n : ℕ) (group c : List ℕ) : Type 0 where
+  pub nears : Mates near
+  pub fars : Mates far
   pub list : Listed n group c
   pub more : count ≤ n
   pub first : Along near far start 1 favoured p c (n - count)
   pub second : Along near far start 2 (turned (take count listed) favoured) p (turned (take n group) c) (n - count)
 
-pub walking-start : (near far : List ℕ) {start count : ℕ} {group c : List ℕ} → start < 256 → Listed count group c
+pub walking-start : (near far : List ℕ) {start count : ℕ} {group c : List ℕ} → start < 528 → Mates near → Mates far → Listed count group c
     → Walking near far start count group c start count group c
-walking-start near far {start} {count} {group} {c} h g =
+walking-start near far {start} {count} {group} {c} h a b g =
     record {
+      nears = a;
+      fars = b;
       list = g;
       more = omega arith;
       first = along-start near far start 1 c (count - count) (omega arith) (g .len) h;
@@ -130,27 +134,33 @@ walking-start near far {start} {count} {group} {c} h g =
     }
 
 module _ {near far : List ℕ} {start count : ℕ} {listed favoured : List ℕ} {p n : ℕ} {group c : List ℕ}
-    (w : Walking near far start count listed favoured p n group c) {q : ℕ} (e : q ≡ lookup near p) (q-lt : q < 256) where
+    (w : Walking near far start count listed favoured p n group c) {q : ℕ} (e : q ≡ lookup near p) where
+  pub walking-at : q < 528
+  walking-at = rw e (w .nears .low p)
+
   pub walking-stop : getD c q 0 ≢ 0 → Walks near far start count listed favoured n group c
   walking-stop z =
       record {
         list = w .list;
         more = w .more;
-        first = along-stop (w .first) (omega arith) (omega arith) e q-lt z;
-        second = along-stop (w .second) (omega arith) (omega arith) e q-lt (listed-not (w .list) q z);
+        first = along-stop (w .first) (omega arith) (omega arith) e walking-at z;
+        second = along-stop (w .second) (omega arith) (omega arith) e walking-at (listed-not (w .list) q z);
       }
 
   module _ (z : getD c q 0 ≡ 0) where
-    pub walking-room : n < 256
-    walking-room = listed-room (w .list) q z q-lt
+    pub walking-room : n < 528
+    walking-room = listed-room (w .list) q z walking-at
 
     first-listed : Listed (n + 1) (set group n q) (set c q 2)
-    first-listed = listed-on (w .list) q z q-lt 2 (omega arith)
+    first-listed = listed-on (w .list) q z walking-at 2 (omega arith)
 
     first-turned : turned (take (n + 1) (set group n q)) (set c q 2) ≡ set (turned (take n group) c) q 1
-    first-turned = listed-turned (w .list) q z q-lt 2 1 refl
+    first-turned = listed-turned (w .list) q z walking-at 2 1 refl
 
-    module _ {r : ℕ} (f : r ≡ lookup far q) (r-lt : r < 256) where
+    module _ {r : ℕ} (f : r ≡ lookup far q) where
+      pub walking-at-2 : r < 528
+      walking-at-2 = rw f (w .fars .low q)
+
       pub walking-stop-2 : getD (set c q 2) r 0 ≢ 0 → Walks near far start count listed favoured (n + 1) (set group n (lookup near p)) (set c q 2)
       walking-stop-2 y =
           let s : n + 1 - count ≡ n - count + 1 = omega (arith, w .more) in
@@ -158,26 +168,28 @@ module _ {near far : List ℕ} {start count : ℕ} {listed favoured : List ℕ} 
           rw (sym e) (record {
             list = first-listed;
             more = omega (arith, w .more);
-            first = along-stop-2 (w .first) (omega arith) (omega arith) e q-lt z f r-lt (n + 1 - count) s y;
-            second = rw first-turned (along-stop-2 (w .second) (omega arith) (omega arith) e q-lt (listed-zero (w .list) q z) f r-lt (n + 1 - count) s (rw first-turned at y′));
+            first = along-stop-2 (w .first) (omega arith) (omega arith) e walking-at z f walking-at-2 (n + 1 - count) s y;
+            second = rw first-turned (along-stop-2 (w .second) (omega arith) (omega arith) e walking-at (listed-zero (w .list) q z) f walking-at-2 (n + 1 - count) s (rw first-turned at y′));
           })
 
       module _ (y : getD (set c q 2) r 0 ≡ 0) where
-        pub walking-room-2 : n + 1 < 256
-        walking-room-2 = listed-room first-listed r y r-lt
+        pub walking-room-2 : n + 1 < 528
+        walking-room-2 = listed-room first-listed r y walking-at-2
 
         pub walking-on : Walking near far start count listed favoured r (n + 1 + 1) (set (set group n (lookup near p)) (n + 1) (lookup far q)) (set (set c q 2) r 1)
         walking-on =
             let s : n + 1 + 1 - count ≡ n - count + 2 = omega (arith, w .more) in
             let y′ = listed-zero first-listed r y in
             let t : turned (take (n + 1 + 1) (set (set group n q) (n + 1) r)) (set (set c q 2) r 1) ≡ set (set (turned (take n group) c) q 1) r 2 =
-            listed-turned first-listed r y r-lt 1 2 refl ∙ ap (λ (d : List ℕ). set d r 2) first-turned in
+            listed-turned first-listed r y walking-at-2 1 2 refl ∙ ap (λ (d : List ℕ). set d r 2) first-turned in
             rw (sym e, sym f) (record {
-              list = listed-on first-listed r y r-lt 1 (omega arith);
+              nears = w .nears;
+              fars = w .fars;
+              list = listed-on first-listed r y walking-at-2 1 (omega arith);
               more = omega (arith, w .more);
-              first = along-on (w .first) (omega arith) (omega arith) e q-lt z f r-lt (n + 1 + 1 - count) s y;
-              second = rw t (along-on (w .second) (omega arith) (omega arith) e q-lt (listed-zero (w .list) q z) f r-lt (n + 1 + 1 - count) s (rw first-turned at y′));
+              first = along-on (w .first) (omega arith) (omega arith) e walking-at z f walking-at-2 (n + 1 + 1 - count) s y;
+              second = rw t (along-on (w .second) (omega arith) (omega arith) e walking-at (listed-zero (w .list) q z) f walking-at-2 (n + 1 + 1 - count) s (rw first-turned at y′));
             })
 
         pub walking-less : favouring 0 (set (set c q 2) r 1) < favouring 0 c
-        walking-less = goes-less (w .first .goes) (omega arith) (omega arith) e q-lt z f r-lt y
+        walking-less = goes-less (w .first .goes) (omega arith) (omega arith) e walking-at z f walking-at-2 y

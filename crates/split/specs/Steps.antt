@@ -1,18 +1,20 @@
 -- The steps of a split, as functions of the lists that they are lent.
-use Prim.Native.Nat.{ℕ, _+_, _-_, _/_, _%_, _≤_, _<_}
+use Prim.Native.Nat.{ℕ, suc, _+_, _-_, _/_, _%_, _≤_, _<_}
 use mathlib.Core.Path.{_≡_}
 use mathlib.Core.Logic.{_≢_}
-use mathlib.Core.List.{List, [], _∷_, _++_}
+use mathlib.Core.List.{List, [], _∷_}
 use lib.Dec.{eqb}
-use lib.ListN.{length, getD, set, take, drop}
-use Rattle.model.specs.Words.{if, keep, upFrom, Every}
-use Rattle.model.specs.Rules.{Side, inputs, outputs, portOf, odd}
-use Rattle.model.specs.Schedule.{partnerIn, walk, favouring, level, halfBy, halfOf}
+use lib.ListN.{length, getD, set, take}
+use Rattle.model.specs.Words.{if, bit, keep, Every}
+use Rattle.model.specs.Rules.{Side, inputs, outputs, portOf}
+use Rattle.model.specs.Schedule.{partnerIn, walk, favouring, level, favours}
+use Rattle.model.proofs.Partners.{Rising}
+use Rattle.planes.specs.Planes.{digitAt, counts, Mask}
 
 -- ---- positions
--- A list has room for the positions of the largest matrix.
+-- A list has room for all positions.
 abbrev pub Wide : List ℕ → Type 0
-Wide l = length l ≡ 256
+Wide l = length l ≡ 528
 
 -- What a table has for a position.
 abbrev pub lookup : List ℕ → ℕ → ℕ
@@ -25,23 +27,30 @@ tabled ins outs outputs = lookup outs
 
 -- Two tables have ports below 16 for the first n positions.
 pub record Sides (n : ℕ) (ins outs : List ℕ) : Type 0 where
-  pub most : n ≤ 256
+  pub most : n ≤ 528
   pub low : (s : Side) (p : ℕ) → p < n → tabled ins outs s p < 16
 
 -- Two tables have the ports of the first n positions of a matrix.
 pub record Tables (ports n : ℕ) (ins outs : List ℕ) : Type 0 where
   pub few : ports ≤ 16
-  pub most : n ≤ 256
+  pub most : n ≤ 528
   pub low : (s : Side) (p : ℕ) → p < n → portOf ports s p < ports
   pub has : (s : Side) (p : ℕ) → p < n → tabled ins outs s p ≡ portOf ports s p
 
--- The positions of the odd counts among the first n, rising.
-abbrev pub oddsBelow : ℕ → List ℕ → List ℕ
-oddsBelow n m = keep (odd m) (upFrom 0 n)
+-- The first k of a list are positions; and they rise.
+pub record Positions (list : List ℕ) (k : ℕ) : Type 0 where
+  pub len : Wide list
+  pub most : k ≤ 528
+  pub below : Every (λ p. p < 528) (take k list)
 
--- A list that was lent, with those positions at its front and a 0 behind them, as far as it has room; the rest is as it was.
-unfoldable pub gathered : ℕ → List ℕ → List ℕ → List ℕ
-gathered n m lent = take (length lent) (oddsBelow n m ++ (0 ∷ drop (length (oddsBelow n m) + 1) lent))
+pub record Odds (odds : List ℕ) (k : ℕ) : Type 0 where
+  pub positions : Positions odds k
+  pub rising : Rising 0 (take k odds)
+
+-- A table has a position for each position.
+pub record Mates (mates : List ℕ) : Type 0 where
+  pub len : Wide mates
+  pub low : (p : ℕ) → lookup mates p < 528
 
 -- ---- partners
 -- The port that a table has for a position, as one of 16.
@@ -58,7 +67,7 @@ mateAmong table l p = partnerIn (thoseAt table (portIn table p) l) p
 
 -- The mates have for each of the first k of a list its partner among them.
 pub record Linked (table odds : List ℕ) (k : ℕ) (mates : List ℕ) : Type 0 where
-  pub len : Wide mates
+  pub mates-low : Mates mates
   pub same : Every (λ p. lookup mates p ≡ mateAmong table (take k odds) p) (take k odds)
 
 -- ---- groups
@@ -84,7 +93,7 @@ turned (q ∷ l) c = turned l (set c q (otherHalf (getD c q 0)))
 pub record Listed (n : ℕ) (group c : List ℕ) : Type 0 where
   pub size : Wide group
   pub len : Wide c
-  pub room : n + favouring 0 c ≤ 256
+  pub room : n + favouring 0 c ≤ 528
   pub settled : Every (λ q. getD c q 0 ≢ 0) (take n group)
 
 -- A walk from a count that favours the first half lists what it settles: c is what is left with n counts listed; and with
@@ -130,12 +139,15 @@ pub record SettledBy (i o odds : List ℕ) (k : ℕ) (c d : List ℕ) : Type 0 w
   pub len : Wide d
   pub same : d ≡ allSettled i o (take k odds) c
 
--- ---- halves
--- A list that was lent, with half h of the first n counts at its front, where each favours the half that is given; the
--- rest is as it was.
-unfoldable pub halvedBy : ℕ → ℕ → List ℕ → List ℕ → List ℕ → List ℕ
-halvedBy h n counts favoured lent = halfBy h (take n counts) (take n favoured) ++ drop n lent
+-- ---- the split
+-- Four lists, whatever they have, with room for what a split lists in them.
+pub record Scratch (odds i o group : List ℕ) : Type 0 where
+  pub listed : Wide odds
+  pub at-inputs : Mates i
+  pub at-outputs : Mates o
+  pub grouped : Wide group
 
--- The same by the rules, over the ports that two tables have.
-unfoldable pub halved : ℕ → ℕ → List ℕ → List ℕ → List ℕ → List ℕ → List ℕ
-halved h n counts ins outs lent = halfOf (tabled ins outs) h (take n counts) ++ drop n lent
+-- A mask has the odd counts that favour half h by the rules, over the ports that two tables have, however many planes are read.
+pub record Favours (h n : ℕ) (planes ins outs mask : List ℕ) : Type 0 where
+  pub odds : Mask n planes mask
+  pub has : (m p : ℕ) → p < n → digitAt mask p ≡ bit (eqb (getD (favours (tabled ins outs) (counts (suc m) planes n)) p 0) h)

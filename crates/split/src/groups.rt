@@ -1,9 +1,9 @@
 // Groups: who is joined by partnership favours the two halves in turn. A count has 0 until it is settled.
-use widths::byte;
+use widths::position;
 ghost use mathlib.Core.Path.{_≡_};
-ghost use Prim.Native.Nat.{_%_, _<_, _≤_};
+ghost use Prim.Native.Nat.{_<_};
 ghost use lib.ListN.{take, replicate};
-ghost use Rattle.split.specs.Steps.{Wide, otherHalf, turned, Listed, Walks, largerHalf, Turn, Settles, SettledBy};
+ghost use Rattle.split.specs.Steps.{Wide, Positions, Odds, Mates, otherHalf, turned, Listed, Walks, largerHalf, Turn, Settles, SettledBy};
 
 // The half that a count does not favour.
 fn other_half(half: u8) -> u8
@@ -16,20 +16,20 @@ fn other_half(half: u8) -> u8
 // count is its own partner, so a walk stops at a settled count and at nothing else.
 fn walk(
     start: usize,
-    near: &[u8; 256],
-    far: &[u8; 256],
+    near: &[u16; 528],
+    far: &[u16; 528],
     count: usize,
-    group: &mut [u8; 256],
-    favoured: &mut [u8; 256],
+    group: &mut [u16; 528],
+    favoured: &mut [u8; 528],
 ) -> usize
-    requires { ⌜ (start < 256) × Listed count (now group) (now favoured) ⌝ }
+    requires { ⌜ (start < 528) × Mates (now near) × Mates (now far) × Listed count (now group) (now favoured) ⌝ }
     ensures { λ r. ⌜ Walks (now (near .entry)) (now (far .entry)) start count (now (group .entry)) (now (favoured .entry)) r (now (group .exit)) (now (favoured .exit)) ⌝ }
 {
     let mut n = count;
     let mut p = start;
     loop {
         let second = near[p];
-        let q = byte(second);
+        let q = position(second);
         if favoured[q] != 0 {
             return n;
         }
@@ -37,7 +37,7 @@ fn walk(
         group[n] = second;
         n += 1;
         let first = far[q];
-        p = byte(first);
+        p = position(first);
         if favoured[p] != 0 {
             return n;
         }
@@ -48,13 +48,13 @@ fn walk(
 }
 
 // Turns the counts of a list round: each favours the half that it did not.
-fn turn_round(group: &[u8; 256], n: usize, favoured: &mut [u8; 256])
-    requires { ⌜ (n ≤ 256) × Wide (now group) × Wide (now favoured) ⌝ }
+fn turn_round(group: &[u16; 528], n: usize, favoured: &mut [u8; 528])
+    requires { ⌜ Positions (now group) n × Wide (now favoured) ⌝ }
     ensures { λ _. ⌜ Wide (now (favoured .exit)) × (now (favoured .exit) ≡ turned (take n (now (group .entry))) (now (favoured .entry))) ⌝ }
 {
     let mut i: usize = 0;
     while i < n {
-        let q = byte(group[i]);
+        let q = position(group[i]);
         favoured[q] = other_half(favoured[q]);
         i += 1;
     }
@@ -73,19 +73,19 @@ fn larger_half(count: usize) -> u8
 fn settle_group(
     p: usize,
     turn: u8,
-    in_mates: &[u8; 256],
-    out_mates: &[u8; 256],
-    group: &mut [u8; 256],
-    favoured: &mut [u8; 256],
+    in_mates: &[u16; 528],
+    out_mates: &[u16; 528],
+    group: &mut [u16; 528],
+    favoured: &mut [u8; 528],
 ) -> u8
-    requires { ⌜ (p < 256) × Wide (now group) × Wide (now favoured) × Turn turn (now favoured) ⌝ }
+    requires { ⌜ (p < 528) × Mates (now «in_mates») × Mates (now «out_mates») × Wide (now group) × Wide (now favoured) × Turn turn (now favoured) ⌝ }
     ensures { λ r. ⌜ Wide (now (group .exit)) × Settles (now («in_mates» .entry)) (now («out_mates» .entry)) p (now (favoured .entry)) r (now (favoured .exit)) ⌝ }
 {
     if favoured[p] != 0 {
         return turn;
     }
     favoured[p] = 1;
-    group[0] = p as u8;
+    group[0] = p as u16;
     let by_inputs = walk(p, in_mates, out_mates, 1, group, favoured);
     let n = walk(p, out_mates, in_mates, by_inputs, group, favoured);
     if n % 2 == 0 {
@@ -100,21 +100,21 @@ fn settle_group(
 
 // Only the odd counts are scanned; the first larger share goes to the first half.
 pub(crate) fn settle(
-    odds: &[u8; 256],
+    odds: &[u16; 528],
     k: usize,
-    in_mates: &[u8; 256],
-    out_mates: &[u8; 256],
-    favoured: &mut [u8; 256],
+    in_mates: &[u16; 528],
+    out_mates: &[u16; 528],
+    group: &mut [u16; 528],
+    favoured: &mut [u8; 528],
 )
-    requires { ⌜ (k ≤ 256) × Wide (now odds) × (now favoured ≡ replicate 256 0) ⌝ }
-    ensures { λ _. ⌜ SettledBy (now («in_mates» .entry)) (now («out_mates» .entry)) (now (odds .entry)) k (now (favoured .entry)) (now (favoured .exit)) ⌝ }
+    requires { ⌜ Odds (now odds) k × Mates (now «in_mates») × Mates (now «out_mates») × Wide (now group) × (now favoured ≡ replicate 528 0) ⌝ }
+    ensures { λ _. ⌜ Wide (now (group .exit)) × SettledBy (now («in_mates» .entry)) (now («out_mates» .entry)) (now (odds .entry)) k (now (favoured .entry)) (now (favoured .exit)) ⌝ }
 {
-    let mut group = [0u8; 256];
     let mut turn: u8 = 1;
     let mut i: usize = 0;
     while i < k {
-        let p = byte(odds[i]);
-        turn = settle_group(p, turn, in_mates, out_mates, &mut group, favoured);
+        let p = position(odds[i]);
+        turn = settle_group(p, turn, in_mates, out_mates, group, favoured);
         i += 1;
     }
 }

@@ -1,39 +1,40 @@
-// The split: a block's matrix is shared between its two halves.
+// The split: which half of a block each odd count favours, by the rules, over planes of counts.
 mod groups;
-mod halves;
 mod partners;
-pub mod positions;
 
 use groups::settle;
-use halves::halve;
 use partners::link;
-use positions::gather;
+use planes::gather::gather;
+use planes::mark::mark;
 ghost use mathlib.Core.Path.{_≡_};
 ghost use lib.ListN.{length};
-ghost use Rattle.split.specs.Steps.{Wide, Sides, oddsBelow, halved};
+ghost use Rattle.planes.specs.Planes.{Ends, oddsIn};
+ghost use Rattle.split.specs.Steps.{Sides, Scratch, Favours};
 
-// The split knows of ports by the tables alone. Its answer is how many counts were odd, and so settled.
+// The split knows of ports by the tables alone. Its answer is how many counts were odd, and so settled; the mask has those that
+// favour the first half. The lists are lent, for clearing them in every block would take longer than filling them.
 pub fn split(
-    counts: &[u16; 256],
+    planes: &[u64; 99],
     n: usize,
-    ins: &[u8; 256],
-    outs: &[u8; 256],
-    first: &mut [u16; 256],
-    second: &mut [u16; 256],
+    ins: &[u8; 528],
+    outs: &[u8; 528],
+    odds: &mut [u16; 528],
+    in_mates: &mut [u16; 528],
+    out_mates: &mut [u16; 528],
+    group: &mut [u16; 528],
+    mask: &mut [u64; 9],
 ) -> usize
-    requires { ⌜ Sides n (now ins) (now outs) × Wide (now counts) × Wide (now first) × Wide (now second) ⌝ }
-    ensures { λ r. ⌜ (r ≡ length (oddsBelow n (now (counts .entry))))
-        × (now (first .exit) ≡ halved 1 n (now (counts .entry)) (now (ins .entry)) (now (outs .entry)) (now (first .entry)))
-        × (now (second .exit) ≡ halved 2 n (now (counts .entry)) (now (ins .entry)) (now (outs .entry)) (now (second .entry))) ⌝ }
+    requires { ⌜ Ends n (now planes) × Sides n (now ins) (now outs) × (length (now mask) ≡ 9)
+        × Scratch (now odds) (now «in_mates») (now «out_mates») (now group) ⌝ }
+    ensures { λ r. ⌜ (r ≡ length (oddsIn n (now (planes .entry))))
+        × Favours 1 n (now (planes .entry)) (now (ins .entry)) (now (outs .entry)) (now (mask .exit))
+        × Scratch (now (odds .exit)) (now («in_mates» .exit)) (now («out_mates» .exit)) (now (group .exit)) ⌝ }
 {
-    let mut odds = [0u8; 256];
-    let mut in_mates = [0u8; 256];
-    let mut out_mates = [0u8; 256];
-    let mut favoured = [0u8; 256];
-    let k = gather(counts, n, &mut odds);
-    link(&odds, k, ins, &mut in_mates);
-    link(&odds, k, outs, &mut out_mates);
-    settle(&odds, k, &in_mates, &out_mates, &mut favoured);
-    halve(counts, n, &favoured, first, second);
+    let mut favoured = [0u8; 528];
+    let k = gather(planes, n, odds);
+    link(odds, k, ins, in_mates);
+    link(odds, k, outs, out_mates);
+    settle(odds, k, in_mates, out_mates, group, &mut favoured);
+    mark(planes, n, &favoured, mask);
     k
 }

@@ -1,4 +1,4 @@
-// Bytes and counts at the width of a number.
+// Bytes, counts and positions at the width of a number.
 ghost use mathlib.Core.Path.{_≡_};
 ghost use Prim.Native.Nat.{_<_, _≤_};
 
@@ -7,6 +7,13 @@ pub fn byte(x: u8) -> usize
     ensures { λ r. ⌜ (r ≡ x) × (r < 256) ⌝ }
 {
     x as usize
+}
+
+// A position as a number.
+pub fn position(p: u16) -> usize
+    ensures { λ r. ⌜ (r ≡ p) × (r ≤ 65535) ⌝ }
+{
+    p as usize
 }
 
 // A count of cells, or an entry of a frame, as a number.

@@ -1,5 +1,6 @@
 use borrow.Author.Needs.{needs}
 use native.Mathlib.Omega.{arith}
+use Rattle.split.proofs.Turned.{listed-positions}
 use Rattle.split.proofs.Settled.{group-off, group-start, group-even, group-right, group-turned}
 use Rattle.split.proofs.groups.settle_group.Statement.{statement}
 use Rattle.split.proofs.groups.settle_group.Tie as tie
@@ -21,7 +22,7 @@ settle-group-spec =
     let found = first .before .before .before in
     let start = found .before .before in (
       second .walk2 .ensures .list .size,
-      group-even _ _ (start .pre .2) (start .pre .3) (found .if1 .left) (start .pre .0) (start .args .group .now) (start .pre .1) (first .walk .ensures) (second .walk2 .ensures) (omega (arith, c .if2 .taken)),
+      group-even _ _ (start .pre .4) (start .pre .5) (found .if1 .left) (start .pre .0) (start .args .group .now) (start .pre .3) (first .walk .ensures) (second .walk2 .ensures) (omega (arith, c .if2 .taken)),
     ))
     (λ c κs. search needs)
     (λ c κs. search needs)
@@ -32,10 +33,10 @@ settle-group-spec =
     let found = first .before .before .before in
     let start = found .before .before in (
       second .walk2 .ensures .list .size,
-      group-right _ _ (start .pre .2) (start .pre .3) (found .if1 .left) (start .pre .0) (start .args .group .now) (start .pre .1) (first .walk .ensures) (second .walk2 .ensures) (odd .if2 .left)
+      group-right _ _ (start .pre .4) (start .pre .5) (found .if1 .left) (start .pre .0) (start .args .group .now) (start .pre .3) (first .walk .ensures) (second .walk2 .ensures) (odd .if2 .left)
           (c .before .before .larger-half .ensures) (c .before .if3 .taken) (c .other-half .ensures),
     ))
-    (λ c κs. search needs)
+    (λ c κs. let list = c .before .before .before .before .before .walk2 .ensures .list in (listed-positions list, list .len))
     (λ c κs. search needs)
     (λ c.
     let turned = c .before in
@@ -46,6 +47,6 @@ settle-group-spec =
     let found = first .before .before .before in
     let start = found .before .before in (
       second .walk2 .ensures .list .size,
-      group-turned _ _ (start .pre .2) (start .pre .3) (found .if1 .left) (start .pre .0) (start .args .group .now) (start .pre .1) (first .walk .ensures) (second .walk2 .ensures) (odd .if2 .left)
+      group-turned _ _ (start .pre .4) (start .pre .5) (found .if1 .left) (start .pre .0) (start .args .group .now) (start .pre .3) (first .walk .ensures) (second .walk2 .ensures) (odd .if2 .left)
           (wrong .before .larger-half .ensures) (wrong .if3 .left) (c .other-half2 .ensures) (turned .turn-round .ensures .1),
     )))

@@ -1,6 +1,7 @@
 use Prim.Native.Nat.{_≤_, _-_}
 use borrow.Author.Needs.{needs}
 use native.Mathlib.Omega.{arith}
+use Rattle.split.proofs.Lists.{position-low}
 use Rattle.split.proofs.Turned.{Turning, turning-start, turning-on, turning-end}
 use Rattle.split.proofs.groups.turn_round.Statement.{statement}
 use Rattle.split.proofs.groups.turn_round.Tie as tie
@@ -17,12 +18,13 @@ turn-round-spec =
     (tie.spec
     Inv-loop
     μ-loop
-    (λ c. (omega arith, turning-start (c .pre .2)))
+    (λ c. (omega arith, turning-start (c .pre .1)))
+    (λ c. search needs)
     (λ c. search needs)
     (λ c κs. search needs)
-    (λ c. search needs)
+    (λ c. search (needs, position-low))
     (λ c κs. search needs)
-    (λ c. search needs)
+    (λ c. search (needs, position-low))
     (λ c. search needs)
     (λ c. search needs)
     (λ c. (omega arith, search (needs, turning-on)))

@@ -1,6 +1,6 @@
 use borrow.Author.Needs.{needs}
 use Rattle.model.specs.Schedule.{favouring}
-use Rattle.split.proofs.Walked.{Walking, walking-start, walking-stop, walking-room, walking-stop-2, walking-room-2, walking-on, walking-less}
+use Rattle.split.proofs.Walked.{Walking, walking-start, walking-at, walking-stop, walking-room, walking-at-2, walking-stop-2, walking-room-2, walking-on, walking-less}
 use Rattle.split.proofs.groups.walk.Statement.{statement}
 use Rattle.split.proofs.groups.walk.Tie as tie
 
@@ -16,19 +16,23 @@ walk-spec =
     (tie.spec
     Inv-loop
     μ-loop
-    (λ c. walking-start _ _ (c .pre .0) (c .pre .1))
+    (λ c. walking-start _ _ (c .pre .0) (c .pre .1) (c .pre .2) (c .pre .3))
+    (λ c. search needs)
     (λ c. search needs)
     (λ c κs. search needs)
-    (λ c. search needs)
+    (λ c. search (needs, walking-at))
     (λ c. search (needs, walking-stop))
-    (λ c. search needs)
+    (λ c. search (needs, walking-at))
     (λ c. search (needs, walking-room))
     (λ c. search (needs, walking-room))
-    (λ c. search needs)
+    (λ c. search (needs, walking-room))
+    (λ c. search (needs, walking-at))
+    (λ c. search (needs, walking-at))
     (λ c κs. search needs)
-    (λ c. search needs)
+    (λ c. search (needs, walking-at-2))
     (λ c. search (needs, walking-stop-2))
-    (λ c. search needs)
+    (λ c. search (needs, walking-at-2))
+    (λ c. search (needs, walking-room-2))
     (λ c. search (needs, walking-room-2))
     (λ c. search (needs, walking-room-2))
     (λ c. search (needs, walking-less))

@@ -4,7 +4,7 @@ use mathlib.Core.Bool.{false}
 use borrow.Author.Needs.{needs}
 use native.Mathlib.Omega.{arith}
 use lib.ListN.{getD-replicate}
-use Rattle.split.proofs.Linked.{Links, links-start, links-on, links-end}
+use Rattle.split.proofs.Linked.{Links, links-start, own-low, other-low, links-on, links-end}
 use Rattle.split.proofs.partners.link.Statement.{statement}
 use Rattle.split.proofs.partners.link.Tie as tie
 
@@ -20,16 +20,21 @@ link-spec =
     (tie.spec
     Inv-loop
     μ-loop
-    (λ c. (omega arith, links-start _ _ _ (c .pre .2) _ _ refl refl (λ x h. getD-replicate 16 x false false h)))
-    (λ c. search needs)
-    (λ c κs. search needs)
-    (λ c. search needs)
-    (λ c κs. search needs)
+    (λ c. (omega arith, links-start _ _ _ (c .pre .1) _ _ refl refl (λ x h. getD-replicate 16 x 0 0 h) (λ x h. getD-replicate 16 x false false h)))
     (λ c. search needs)
     (λ c. search needs)
     (λ c κs. search needs)
+    (λ c. search (needs, own-low))
     (λ c κs. search needs)
     (λ c. search needs)
+    (λ c. search needs)
+    (λ c. search needs)
+    (λ c κs. search needs)
+    (λ c κs. search needs)
+    (λ c. search (needs, own-low))
+    (λ c. search (needs, own-low))
+    (λ c. search (needs, other-low))
+    (λ c. search (needs, other-low))
     (λ c. search needs)
     (λ c. search needs)
     (λ c. search needs)

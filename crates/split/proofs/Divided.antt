@@ -1,0 +1,141 @@
+-- The mask that the steps leave, and the halves that it gives.
+use Prim.Native.Nat.{ℕ, suc, zero, _+_, _-_, _*_, _/_, _%_, _^_, _≤_, _<_}
+use mathlib.Core.Path.{_≡_, refl, sym, ap, ap₂, _∙_}
+use mathlib.Core.Logic.{_≢_}
+use mathlib.Core.List.{List}
+use mathlib.Core.Bool.{true, false}
+use native.Mathlib.Omega.{arith}
+use native.Mathlib.Nat.{pow-suc, mul-comm}
+use lib.Dec.{eqb}
+use lib.ListN.{length, getD, take, replicate}
+use lib.Seq.{getD-take, length-take-le}
+use borrow.Author.Tests.{eqb-true, eqb-false}
+use Rattle.model.specs.Words.{bit, keep, upFrom, Every}
+use Rattle.model.specs.Rules.{odd}
+use Rattle.model.specs.Schedule.{favours, halfBy, halfOf}
+use Rattle.model.proofs.Cases.{byBool, byEq, byLt, is-yes, is-no}
+use Rattle.model.proofs.Partners.{every-map, keep-every, keep-rising}
+use Rattle.model.proofs.Settled.{favours-law}
+use Rattle.model.proofs.Splits.{half-at, half-length}
+use Rattle.planes.specs.Planes.{digitAt, countAt, counts, oddAt, oddsIn, spanOf, wordsOf, Ends, Block, Mask}
+use Rattle.planes.specs.Steps.{Gathered, Marked, Others, Halved}
+use Rattle.planes.proofs.Lists.{keep-most}
+use Rattle.planes.proofs.Counts.{counts-length, counts-at, counts-are, count-odd, digit-le, odd-is, odds-are}
+use Rattle.split.specs.Steps.{Sides, Odds, tabled, Linked, SettledBy, Favours}
+use Rattle.split.proofs.Favoured.{favoured-is}
+
+-- ---- the list of odd counts
+pub odds-listed : {n k : ℕ} {planes odds : List ℕ} → Gathered n planes odds k → n ≤ 528 → Odds odds k
+odds-listed {n} {k} {planes} {odds} g few =
+    record {
+      positions = record {
+        len = g .len;
+        most = omega (arith, g .number, keep-most (oddAt planes) 0 n);
+        below = rw (g .same) (every-map (λ p. (oddAt planes p ≡ true) × (p < n)) (λ p. p < 528) (λ p a. let b = a .1 in omega arith)
+            (oddsIn n planes) (keep-every (oddAt planes) n 0 n (omega arith)));
+      };
+      rising = rw (g .same) (keep-rising (oddAt planes) 0 n);
+    }
+
+-- ---- the mask
+-- one of two halves is favoured by an odd count, and none by an even one
+record Either (d f : ℕ) : Type 0 where
+  on : d ≡ 1 → (1 ≤ f) × (f ≤ 2)
+  off : d ≡ 0 → f ≡ 0
+
+either : (f m n : ℕ) (planes ins outs : List ℕ) (p : ℕ) → p < n → f ≡ getD (favours (tabled ins outs) (counts (suc m) planes n)) p 0 → Either (digitAt planes p) f
+either f m n planes ins outs p h e =
+    let law = favours-law (tabled ins outs) (counts (suc m) planes n) in
+    let o = odd-is m planes n p h in
+    record {
+      on = λ d. let low = law .low p (sym o ∙ ap (λ (x : ℕ). eqb x 1) d) in let high = law .high p in (omega arith, omega arith);
+      off = λ d. e ∙ law .evens p (sym o ∙ ap (λ (x : ℕ). eqb x 1) d);
+    }
+
+module _ {n k : ℕ} {planes ins outs odds i o c mask : List ℕ} (s : Sides n ins outs) (g : Gathered n planes odds k)
+    (li : Linked ins odds k i) (lo : Linked outs odds k o) (st : SettledBy i o odds k (replicate 528 0) c) (mk : Marked n planes c mask) where
+  favoured-at : (m p : ℕ) → p < n → getD c p 0 ≡ getD (favours (tabled ins outs) (counts (suc m) planes n)) p 0
+  favoured-at m p h =
+      sym (getD-take n c p 0 h)
+      ∙ ap (λ (l : List ℕ). getD l p 0) (favoured-is (counts (suc m) planes n) s (counts-length (suc m) planes n) (g .same ∙ odds-are m n planes) li lo st)
+
+  pub favours-first : Favours 1 n planes ins outs mask
+  favours-first =
+      record {
+        odds = record {
+          len = mk .len;
+          only = λ p h.
+              byEq (digitAt planes p) 0
+              (λ e. omega (arith, mk .none p h e))
+              (λ e. omega (arith, digit-le planes p, digit-le mask p));
+        };
+        has = λ m p h. here m p h;
+      }
+    where
+      here : (m p : ℕ) → p < n → digitAt mask p ≡ bit (eqb (getD (favours (tabled ins outs) (counts (suc m) planes n)) p 0) 1)
+      here m p h =
+          let f = getD (favours (tabled ins outs) (counts (suc m) planes n)) p 0 in
+          let same = favoured-at m p h in
+          let law = either f m n planes ins outs p h refl in
+          byEq (digitAt planes p) 1
+          (λ e.
+          let b = law .on e in
+          let has = mk .has p (omega arith) e in
+          byEq f 1 (λ y. omega (arith, is-yes f 1 y)) (λ y. omega (arith, is-no f 1 y)))
+          (λ e.
+          let z : digitAt planes p ≡ 0 = omega (arith, digit-le planes p) in
+          let none = mk .none p (omega arith) z in
+          let even = law .off z in
+          omega (arith, is-no f 1 (omega arith)))
+
+pub favours-second : {n : ℕ} {planes ins outs old mask : List ℕ} → Favours 1 n planes ins outs old → Others n planes old mask → Favours 2 n planes ins outs mask
+favours-second {n} {planes} {ins} {outs} {old} {mask} v w =
+    record {
+      odds = record { len = w .len; only = λ p h. omega (arith, w .has p h) };
+      has = λ m p h. here m p h;
+    }
+  where
+    here : (m p : ℕ) → p < n → digitAt mask p ≡ bit (eqb (getD (favours (tabled ins outs) (counts (suc m) planes n)) p 0) 2)
+    here m p h =
+        let f = getD (favours (tabled ins outs) (counts (suc m) planes n)) p 0 in
+        let law = either f m n planes ins outs p h refl in
+        let other = w .has p (omega arith) in
+        let first = v .has m p h in
+        let only = v .odds .only p (omega arith) in
+        byEq (digitAt planes p) 1
+        (λ e.
+        let b = law .on e in
+        byEq f 1
+        (λ y. omega (arith, is-yes f 1 y, is-no f 2 (omega arith)))
+        (λ y. omega (arith, is-no f 1 y, is-yes f 2 (omega arith))))
+        (λ e.
+        let z : digitAt planes p ≡ 0 = omega (arith, digit-le planes p) in
+        let even = law .off z in
+        omega (arith, is-no f 2 (omega arith)))
+
+-- ---- the halves
+module _ {h m n : ℕ} {planes ins outs mask half : List ℕ} (v : Favours h n planes ins outs mask) (w : Halved m n planes mask half) where
+  -- half h of the counts, by the rules
+  pub half-is : h ≢ 0 → counts m half n ≡ halfOf (tabled ins outs) h (counts (suc m) planes n)
+  half-is some =
+      let c : List ℕ = counts (suc m) planes n in
+      let f = favours (tabled ins outs) c in
+      let l : length f ≡ length c = favours-law (tabled ins outs) c .len in
+      let size : length (halfBy h c f) ≡ n = half-length h c f l ∙ counts-length (suc m) planes n in
+      ap (counts m half) (sym size)
+      ∙ counts-are m half (halfBy h c f) (λ p k.
+      w .each p (omega arith)
+      ∙ ap₂ (λ (x y : ℕ). x / 2 + y) (sym (counts-at (suc m) planes n p (omega arith))) (v .has m p (omega arith))
+      ∙ sym (half-at h c f p some l))
+
+  -- they are those of a block of half as many slots
+  pub half-block : Block m n planes → 1 ≤ m → Block (m - 1) n half
+  half-block b some =
+      let up : suc (m - 1) ≡ m = omega arith in
+      let twice : 2 ^ m ≡ 2 * 2 ^ (m - 1) = ap (λ (x : ℕ). 2 ^ x) (sym up) ∙ pow-suc 2 (m - 1) ∙ mul-comm (2 ^ (m - 1)) 2 in
+      record {
+        len = w .len;
+        few = b .few;
+        most = λ p k. rw up (omega (arith, b .most p k, w .each p (omega arith), v .odds .only p (omega arith), count-odd m planes p));
+        past = λ p a k. rw up (omega (arith, b .past p a k, w .each p k, v .odds .only p k, count-odd m planes p));
+      }
