@@ -24,6 +24,10 @@ each-at f a zero p h = absurd (omega arith)
 each-at f a (suc n) zero h = ap f (omega arith)
 each-at f a (suc n) (suc p) h = each-at f (suc a) n p (omega arith) ∙ ap f (omega arith)
 
+pub each-same : (f g : ℕ → ℕ) (a n : ℕ) → ((p : ℕ) → p < a + n → f p ≡ g p) → each f a n ≡ each g a n
+each-same f g a zero e = refl
+each-same f g a (suc n) e = ap₂ (λ (x : ℕ) (l : List ℕ). x ∷ l) (e a (omega arith)) (each-same f g (suc a) n (λ p h. e p (omega arith)))
+
 pub each-is : (f : ℕ → ℕ) (a : ℕ) (l : List ℕ) → ((p : ℕ) → p < length l → f (a + p) ≡ getD l p 0) → each f a (length l) ≡ l
 each-is f a [] e = refl
 each-is f a (x ∷ l) e =
@@ -59,6 +63,11 @@ count-parts m planes p = omega (arith, binary-up m (digitIn planes p), lowest pl
 pub count-odd : (m : ℕ) (planes : List ℕ) (p : ℕ) → countAt (suc m) planes p % 2 ≡ digitAt planes p
 count-odd m planes p = omega (arith, count-parts m planes p, digit-le planes p)
 
+-- one plane has the counts themselves
+pub count-one : (planes : List ℕ) (p : ℕ) → countAt 1 planes p ≡ digitAt planes p
+unfolding binary
+count-one planes p = count-parts 0 planes p ∙ omega arith
+
 pub odd-is : (m : ℕ) (planes : List ℕ) (n p : ℕ) → p < n → oddAt planes p ≡ odd (counts (suc m) planes n) p
 odd-is m planes n p h =
     ap (λ (x : ℕ). eqb x 1) (sym (count-odd m planes p) ∙ ap (λ (x : ℕ). x % 2) (sym (counts-at (suc m) planes n p h)))
@@ -70,7 +79,6 @@ odds-are m n planes = keep-same (oddAt planes) (odd (counts (suc m) planes n)) 0
 pub block-ends : {m n : ℕ} {planes : List ℕ} → Block m n planes → Ends n planes
 block-ends {m} {n} {planes} b =
     record {
-      len = b .len;
       few = b .few;
       past = λ p l h. omega (arith, count-odd m planes p, b .past p l h);
     }

@@ -4,18 +4,19 @@ use mathlib.Core.Path.{_≡_, refl, sym, ap, _∙_}
 use mathlib.Core.Logic.{_≢_}
 use mathlib.Core.List.{List}
 use native.Mathlib.Omega.{arith}
-use native.Mathlib.Nat.{mul-one, pow-le-pow-right, zero-lt-suc}
+use native.Mathlib.Nat.{mul-one, mul-comm, pow-suc, pow-le-pow-right, zero-lt-suc}
 use native.Mathlib.Numerals.{add-one}
 use lib.Bits.{bitAnd, bitXor}
 use lib.ListN.{length, getD, set, length-set}
 use lib.Seq.{getD-set-same, getD-set-other}
 use Rattle.model.proofs.Cases.{byEq, byLt}
 use Rattle.planes.specs.Digits.{digit, binary}
-use Rattle.planes.specs.Planes.{digitIn, digitAt, countAt, wordsOf, spanOf, Block, Mask}
+use Rattle.planes.specs.Planes.{digitIn, digitAt, countAt, counts, halves, wordsOf, spanOf, Block, Mask}
 use Rattle.planes.specs.Steps.{Grown, Halved}
 use Rattle.planes.proofs.Lists.{at-end}
 use Rattle.planes.proofs.Digits.{digit-most, digit-sum, twice-pow, binary-suc, binary-same, scaled}
-use Rattle.planes.proofs.Counts.{digit-le, count-parts}
+use Rattle.planes.proofs.Counts.{each-same, digit-le, count-parts, count-odd, count-one}
+use Rattle.planes.proofs.Marked.{word-here, word-other}
 
 -- ---- one word
 -- what the planes above the lowest have at a position
@@ -95,11 +96,11 @@ rippling-end {planes} {old} {half} {w} {extra} {b} {m} {carry} g a z =
     }
 
 -- ---- all words
-pub record Halving (m n : ℕ) (planes mask : List ℕ) (w : ℕ) (half : List ℕ) : Type 0 where
-  pub len : length half ≡ 99
+pub record Halving (size m n : ℕ) (planes mask : List ℕ) (w : ℕ) (half : List ℕ) : Type 0 where
+  pub len : length half ≡ size
   pub done : (p : ℕ) → p < w * 64 → p < spanOf n → countAt m half p ≡ countAt (suc m) planes p / 2 + digitAt mask p
 
-pub halving-start : {m n : ℕ} {planes mask half : List ℕ} → length half ≡ 99 → Halving m n planes mask 0 half
+pub halving-start : {size m n : ℕ} {planes mask half : List ℕ} → length half ≡ size → Halving size m n planes mask 0 half
 halving-start l = record { len = l; done = λ p h. absurd (omega arith) }
 
 module _ {m n : ℕ} {planes mask : List ℕ} (b : Block m n planes) (k : Mask n planes mask) (some : 1 ≤ m) where
@@ -113,8 +114,8 @@ module _ {m n : ℕ} {planes mask : List ℕ} (b : Block m n planes) (k : Mask n
       (λ l. omega (arith, b .most p l, digit-le planes p))
       (λ l. omega (arith, b .past p l h, digit-le planes p))
 
-  pub halving-on : {w words : ℕ} {half next : List ℕ} → Halving m n planes mask w half → w < words → words ≡ wordsOf n → words ≤ 9
-      → Grown planes w (getD mask w 0) m half next → Halving m n planes mask (w + 1) next
+  pub halving-on : {w words : ℕ} {half next : List ℕ} → Halving 99 m n planes mask w half → w < words → words ≡ wordsOf n → words ≤ 9
+      → Grown planes w (getD mask w 0) m half next → Halving 99 m n planes mask (w + 1) next
   halving-on {w} {words} {half} {next} g h v few r =
       record {
         len = r .len;
@@ -131,6 +132,57 @@ module _ {m n : ℕ} {planes mask : List ℕ} (b : Block m n planes) (k : Mask n
           let sum = rw f at (r .sum p e) in
           omega (arith, sum room, count-parts m planes p, digit-le planes p)
 
-pub halving-end : {m n : ℕ} {planes mask half : List ℕ} {w words : ℕ} → Halving m n planes mask w half → words ≡ wordsOf n → w ≤ words → words ≤ w
+-- ---- the words of a block of two slots
+upper-one : (planes : List ℕ) (p w : ℕ) → p / 64 ≡ w → upper 1 planes p ≡ digit (getD planes (w + 9) 0) (p % 64)
+unfolding binary digitIn
+upper-one planes p w e =
+    let at : 1 * 9 + p / 64 ≡ w + 9 = omega arith in
+    omega (arith, ap (λ (x : ℕ). digit (getD planes x 0) (p % 64)) at)
+
+pub two-on : {n : ℕ} {planes mask cells : List ℕ} {w words : ℕ} → Halving 9 1 n planes mask w cells → Block 1 n planes → Mask n planes mask
+    → w < words → words ≤ 9 → Halving 9 1 n planes mask (w + 1) (set cells w (bitXor (getD planes (w + 9) 0) (getD mask w 0)))
+two-on {n} {planes} {mask} {cells} {w} {words} g b k h few =
+    record {
+      len = length-set cells w v ∙ g .len;
+      done = λ p l s.
+          byEq (p / 64) w
+          (λ e. here p e s)
+          (λ z. count-one (set cells w v) p ∙ word-other cells w v (g .len) (omega arith) p z ∙ sym (count-one cells p) ∙ g .done p (omega arith) s);
+    }
+  where
+    v : ℕ
+    v = bitXor (getD planes (w + 9) 0) (getD mask w 0)
+
+    here : (p : ℕ) → p / 64 ≡ w → p < spanOf n → countAt 1 (set cells w v) p ≡ countAt 2 planes p / 2 + digitAt mask p
+    here p e s =
+        let room = half-room b k (omega arith) p s in
+        let mask-is : digitAt mask p ≡ digit (getD mask w 0) (p % 64) = ap (λ (x : ℕ). digit (getD mask x 0) (p % 64)) e in
+        omega (
+          arith,
+          count-one (set cells w v) p,
+          word-here cells w v (g .len) (omega arith) p e,
+          upper-one planes p w e,
+          digit-sum (getD planes (w + 9) 0) (getD mask w 0) (p % 64),
+          count-parts 1 planes p,
+          digit-le planes p,
+        )
+
+-- ---- the half
+pub halved-counts : {m n : ℕ} {planes mask half : List ℕ} → Halved m n planes mask half → counts m half n ≡ halves m planes mask n
+unfolding counts halves
+halved-counts {m} {n} {planes} {mask} {half} w = each-same (countAt m half) (λ p. countAt (suc m) planes p / 2 + digitAt mask p) 0 n (λ p h. w .each p (omega arith))
+
+-- its counts are those of a block of half as many slots
+pub halved-block : {m n : ℕ} {planes mask half : List ℕ} → Halved m n planes mask half → Block m n planes → Mask n planes mask → 1 ≤ m → Block (m - 1) n half
+halved-block {m} {n} {planes} {mask} {half} w b k some =
+    let up : suc (m - 1) ≡ m = omega arith in
+    let twice : 2 ^ m ≡ 2 * 2 ^ (m - 1) = ap (λ (x : ℕ). 2 ^ x) (sym up) ∙ pow-suc 2 (m - 1) ∙ mul-comm (2 ^ (m - 1)) 2 in
+    record {
+      few = b .few;
+      most = λ p h. rw up (omega (arith, b .most p h, w .each p (omega arith), k .only p (omega arith), count-odd m planes p));
+      past = λ p a h. rw up (omega (arith, b .past p a h, w .each p h, k .only p h, count-odd m planes p));
+    }
+
+pub halving-end : {size m n : ℕ} {planes mask half : List ℕ} {w words : ℕ} → Halving size m n planes mask w half → words ≡ wordsOf n → w ≤ words → words ≤ w
     → Halved m n planes mask half
-halving-end g v a b = record { len = g .len; each = λ p h. g .done p (omega arith) h }
+halving-end g v a b = record { each = λ p h. g .done p (omega arith) h }

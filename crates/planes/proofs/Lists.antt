@@ -1,10 +1,10 @@
--- The end of a loop, and what is kept of numbers that rise.
+-- The end of a loop, what is kept of numbers that rise, and zeros.
 use Prim.Native.Nat.{ℕ, suc, zero, _+_, _≤_, _<_}
 use mathlib.Core.Path.{_≡_, refl, sym, ap, _∙_}
 use mathlib.Core.List.{List, [], _∷_, _++_}
 use mathlib.Core.Bool.{Bool, false}
 use native.Mathlib.Omega.{arith}
-use lib.ListN.{length}
+use lib.ListN.{length, getD, replicate}
 use Rattle.model.specs.Words.{upFrom, keep}
 use Rattle.model.proofs.Cases.{byBool}
 
@@ -36,3 +36,8 @@ keep-none t a (suc n) h = rw (h a (omega arith) (omega arith)) (keep-none t (suc
 pub keep-most : (t : ℕ → Bool) (a n : ℕ) → length (keep t (upFrom a n)) ≤ n
 keep-most t a zero = omega arith
 keep-most t a (suc n) = let h = keep-most t (suc a) n in byBool (t a) (λ e. rw e (omega arith)) (λ e. rw e (omega arith))
+
+pub zeros-at : (n j : ℕ) → getD (replicate {A = ℕ} n 0) j 0 ≡ 0
+zeros-at zero j = refl
+zeros-at (suc n) zero = refl
+zeros-at (suc n) (suc j) = zeros-at n j

@@ -75,10 +75,10 @@ picking-end {left = left} p e = record { has = λ i a. p .done i a (ap (λ (z : 
 
 -- ---- one word of a mask
 module _ (mask : List ℕ) (w v : ℕ) (l : length mask ≡ 9) (h : w < 9) where
-  word-here : (p : ℕ) → p / 64 ≡ w → digitAt (set mask w v) p ≡ digit v (p % 64)
+  pub word-here : (p : ℕ) → p / 64 ≡ w → digitAt (set mask w v) p ≡ digit v (p % 64)
   word-here p e = rw e (ap (λ (z : ℕ). digit z (p % 64)) (getD-set-same mask w v 0 (omega arith)))
 
-  word-other : (p : ℕ) → p / 64 ≢ w → digitAt (set mask w v) p ≡ digitAt mask p
+  pub word-other : (p : ℕ) → p / 64 ≢ w → digitAt (set mask w v) p ≡ digitAt mask p
   word-other p n = ap (λ (z : ℕ). digit z (p % 64)) (getD-set-other mask w (p / 64) v 0 n)
 
 pub record Marking (planes favoured : List ℕ) (w : ℕ) (mask : List ℕ) : Type 0 where
@@ -150,3 +150,6 @@ turning-on {n} {planes} {old} {mask} {w} {words} t m h k =
 pub turning-end : {n : ℕ} {planes old mask : List ℕ} {w words : ℕ} → Turning n planes old w mask → words ≡ wordsOf n → w ≤ words → words ≤ w
     → Others n planes old mask
 turning-end t v a b = record { len = t .len; has = λ p h. t .done p (omega arith) h }
+
+pub others-mask : {n : ℕ} {planes old mask : List ℕ} → Others n planes old mask → Mask n planes mask
+others-mask o = record { len = o .len; only = λ p h. omega (arith, o .has p h) }

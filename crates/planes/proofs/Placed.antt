@@ -77,7 +77,7 @@ module _ (planes : List ℕ) (w : ℕ) where
 
 -- behind the first n none is odd
 module _ {n : ℕ} {planes : List ℕ} (e : Ends n planes) where
-  odds-past : (k : ℕ) → n ≤ k → k ≤ spanOf n → oddsIn k planes ≡ oddsIn n planes
+  pub odds-past : (k : ℕ) → n ≤ k → k ≤ spanOf n → oddsIn k planes ≡ oddsIn n planes
   odds-past k l h =
       let more : k ≡ n + (k - n) = omega arith in
       let z : 0 + n ≡ n = omega arith in

@@ -5,7 +5,7 @@ use mathlib.Core.Logic.{_≢_}
 use mathlib.Core.List.{List}
 use native.Mathlib.Omega.{arith}
 use lib.Dec.{eqb}
-use lib.ListN.{length, getD, set, length-set, getD-replicate, replicate, length-replicate}
+use lib.ListN.{length, getD, set, length-set, replicate, length-replicate}
 use lib.Seq.{getD-set-same, getD-set-other}
 use borrow.Author.Tests.{eq-eqb, ne-eqb}
 use Rattle.model.specs.Words.{if}
@@ -13,7 +13,7 @@ use Rattle.model.proofs.Cases.{byEq}
 use Rattle.planes.specs.Digits.{digit, binary}
 use Rattle.planes.specs.Planes.{digitIn, countAt, counts}
 use Rattle.planes.specs.Steps.{PutAt, Blank, Stored, Loaded}
-use Rattle.planes.proofs.Lists.{at-end}
+use Rattle.planes.proofs.Lists.{at-end, zeros-at}
 use Rattle.planes.proofs.Digits.{digit-none, if-same, if-other, binary-same, binary-none, binary-digits}
 use Rattle.planes.proofs.Counts.{counts-are}
 
@@ -72,13 +72,8 @@ pub record Loading (matrix : List ℕ) (k p : ℕ) (planes : List ℕ) : Type 0 
   pub has : (q b : ℕ) → q < p → q < 576 → b < k → digitIn planes q b ≡ digit (getD matrix q 0) b
   pub none : (q b : ℕ) → p ≤ q → q < 576 → b < k → digitIn planes q b ≡ 0
 
-pub blank : {planes : List ℕ} → planes ≡ replicate 99 0 → Blank planes
-blank {planes} e = record { len = ap length e ∙ length-replicate {A = ℕ} 99 0; none = λ j. ap (λ (l : List ℕ). getD l j 0) e ∙ zeros 99 j }
-  where
-    zeros : (n j : ℕ) → getD (replicate {A = ℕ} n 0) j 0 ≡ 0
-    zeros zero j = refl
-    zeros (suc n) zero = refl
-    zeros (suc n) (suc j) = zeros n j
+pub blank : Blank (replicate 99 0)
+blank = record { len = length-replicate {A = ℕ} 99 0; none = zeros-at 99 }
 
 pub loading-start : {matrix planes : List ℕ} {k : ℕ} → Blank planes → Loading matrix k 0 planes
 unfolding digitIn

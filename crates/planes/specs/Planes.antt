@@ -29,6 +29,10 @@ each f a (suc n) = f a ∷ each f (suc a) n
 unfoldable pub counts : ℕ → List ℕ → ℕ → List ℕ
 counts k planes n = each (countAt k planes) 0 n
 
+-- Half of each of the first n counts, and one cell more where a mask has it.
+unfoldable pub halves : ℕ → List ℕ → List ℕ → ℕ → List ℕ
+halves m planes mask n = each (λ p. countAt (suc m) planes p / 2 + digitAt mask p) 0 n
+
 -- Whether the count at a position is odd, and which of the first n are, rising.
 abbrev pub oddAt : List ℕ → ℕ → Bool
 oddAt planes p = eqb (digitAt planes p) 1
@@ -45,13 +49,11 @@ spanOf n = wordsOf n * 64
 
 -- The lowest plane has nothing behind the first n positions.
 pub record Ends (n : ℕ) (planes : List ℕ) : Type 0 where
-  pub len : length planes ≡ 99
   pub few : n ≤ 528
   pub past : (p : ℕ) → n ≤ p → p < spanOf n → digitAt planes p ≡ 0
 
 -- The counts of a block of 2 ^ m slots: none has more cells, and there is nothing behind the first n.
 pub record Block (m n : ℕ) (planes : List ℕ) : Type 0 where
-  pub len : length planes ≡ 99
   pub few : n ≤ 528
   pub most : (p : ℕ) → p < n → countAt (suc m) planes p ≤ 2 ^ m
   pub past : (p : ℕ) → n ≤ p → p < spanOf n → countAt (suc m) planes p ≡ 0

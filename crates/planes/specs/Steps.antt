@@ -71,5 +71,4 @@ pub record Grown (planes : List ℕ) (w extra m : ℕ) (old half : List ℕ) : T
 
 -- Half of each count, and one cell more where the mask has it.
 pub record Halved (m n : ℕ) (planes mask half : List ℕ) : Type 0 where
-  pub len : length half ≡ 99
   pub each : (p : ℕ) → p < spanOf n → countAt m half p ≡ countAt (suc m) planes p / 2 + digitAt mask p

@@ -8,7 +8,7 @@ ghost use Rattle.planes.specs.Steps.{Grown, Halved};
 
 // One word of every plane: the planes above the lowest, with one word added.
 fn ripple(planes: &[u64; 99], m: usize, w: usize, extra: u64, half: &mut [u64; 99])
-    requires { ⌜ (m ≤ 10) × (w < 9) × (length (now planes) ≡ 99) × (length (now half) ≡ 99) ⌝ }
+    requires { ⌜ (m ≤ 10) × (w < 9) × (length (now half) ≡ 99) ⌝ }
     ensures { λ _. ⌜ Grown (now (planes .entry)) w extra m (now (half .entry)) (now (half .exit)) ⌝ }
 {
     let mut carry = extra;
@@ -25,12 +25,25 @@ fn ripple(planes: &[u64; 99], m: usize, w: usize, extra: u64, half: &mut [u64; 9
 // The mask has the odd counts that favour the half.
 pub fn halve(planes: &[u64; 99], m: usize, n: usize, mask: &[u64; 9], half: &mut [u64; 99])
     requires { ⌜ (1 ≤ m) × (m ≤ 10) × Block m n (now planes) × Mask n (now planes) (now mask) × (length (now half) ≡ 99) ⌝ }
-    ensures { λ _. ⌜ Halved m n (now (planes .entry)) (now (mask .entry)) (now (half .exit)) ⌝ }
+    ensures { λ _. ⌜ (length (now (half .exit)) ≡ 99) × Halved m n (now (planes .entry)) (now (mask .entry)) (now (half .exit)) ⌝ }
 {
     let words = words_of(n);
     let mut w: usize = 0;
     while w < words {
         ripple(planes, m, w, mask[w], half);
+        w += 1;
+    }
+}
+
+// A block of two slots has two planes, and its halves have one: nothing is carried.
+pub fn halve_two(planes: &[u64; 99], n: usize, mask: &[u64; 9], cells: &mut [u64; 9])
+    requires { ⌜ Block 1 n (now planes) × Mask n (now planes) (now mask) × (length (now cells) ≡ 9) ⌝ }
+    ensures { λ _. ⌜ (length (now (cells .exit)) ≡ 9) × Halved 1 n (now (planes .entry)) (now (mask .entry)) (now (cells .exit)) ⌝ }
+{
+    let words = words_of(n);
+    let mut w: usize = 0;
+    while w < words {
+        cells[w] = planes[w + 9] ^ mask[w];
         w += 1;
     }
 }

@@ -4,4 +4,4 @@ pub mod gather;
 pub mod halve;
 pub mod load;
 pub mod mark;
-mod words;
+pub mod words;

@@ -4,7 +4,7 @@ ghost use Prim.Native.Nat.{_≤_};
 ghost use Rattle.planes.specs.Planes.{wordsOf};
 
 // The words that have the first n positions.
-pub(crate) fn words_of(n: usize) -> usize
+pub fn words_of(n: usize) -> usize
     requires { ⌜ n ≤ 528 ⌝ }
     ensures { λ r. ⌜ (r ≡ wordsOf n) × (r ≤ 9) ⌝ }
 {

@@ -3,4 +3,5 @@ pub mod Tabled
 pub mod Written
 pub mod Framed
 pub mod Summed
+pub mod Filled
 pub mod Built

@@ -1,96 +1,149 @@
--- One more byte cleared, one more cell written, and the slot that comes of it.
-use Prim.Native.Nat.{ℕ, suc, zero, _+_, _/_, _%_, _≤_, _<_}
+-- One more byte cleared, one more cell written, one more word of them, and the slot that comes of it.
+use Prim.Native.Nat.{ℕ, suc, zero, _+_, _*_, _/_, _%_, _^_, _≤_, _<_}
 use mathlib.Core.Path.{_≡_, refl, sym, ap, _∙_}
+use mathlib.Core.Logic.{_≢_}
 use mathlib.Core.List.{List, [], _∷_, _++_, append-nil}
-use mathlib.Core.Bool.{Bool, true}
+use mathlib.Core.Bool.{Bool}
 use native.Mathlib.Omega.{arith}
-use native.Mathlib.Numerals.{add-one}
 use mir.Syntax.{w8}
 use mir.Val.{Fits}
-use lib.ListN.{length, getD, set, take, drop, replicate, length-set}
-use lib.Seq.{take-suc, drop-length, length-take-le}
+use lib.Count.{trailingZeros}
+use lib.ListN.{length, getD, set, drop, replicate, length-set, length-replicate}
+use lib.Seq.{drop-length}
 use borrow.Author.Fill.{fill-more}
-use Rattle.model.specs.Words.{upFrom, keep}
+use Rattle.model.specs.Words.{upFrom, keep, Every}
 use Rattle.model.specs.Rules.{inputs, outputs, odd}
 use Rattle.model.specs.Schedule.{put, slotOf}
 use Rattle.model.proofs.Cases.{byBool}
-use Rattle.model.proofs.Partners.{every-map, keep-every}
-use Rattle.split.specs.Steps.{Wide, lookup, Tables, oddsBelow}
+use Rattle.model.proofs.Partners.{every-map}
+use Rattle.planes.specs.Digits.{places}
+use Rattle.planes.specs.Planes.{counts, oddsIn, wordsOf, Ends}
+use Rattle.planes.proofs.Lowest.{rest, places-none, next-place, next-zeros, next-fits}
+use Rattle.planes.proofs.Placed.{word-below, words-odds, odds-past}
+use Rattle.planes.proofs.Counts.{counts-length, odds-are}
+use Rattle.split.specs.Steps.{lookup, Tables}
 use Rattle.schedule.specs.Steps.{Placed, putBy, PutBy}
-use Rattle.split.proofs.Lists.{at-end, every-get}
-use Rattle.split.proofs.Gathered.{Gathered, odds-take}
 
 -- ---- clear
-pub record Cleared (s₀ : List ℕ) (i : ℕ) (s : List ℕ) : Type 0 where
-  pub most : i ≤ length s₀
-  pub len : length s ≡ length s₀
+pub record Cleared (ports : ℕ) (s₀ : List ℕ) (i : ℕ) (s : List ℕ) : Type 0 where
+  pub most : i ≤ ports
+  pub len : length s ≡ ports
   pub same : s ≡ replicate i 0 ++ drop i s₀
 
-pub cleared-on : {s₀ s : List ℕ} {i : ℕ} → Cleared s₀ i s → i < length s → Cleared s₀ (i + 1) (set s i 0)
-cleared-on {s₀} {s} {i} b h =
-    let l = b .len in
-    let h₀ : i < length s₀ = omega arith in
-    record { most = omega arith; len = length-set s i 0 ∙ l; same = ap (λ (t : List ℕ). set t i 0) (b .same) ∙ fill-more i 0 s₀ h₀ }
+pub cleared-start : {ports : ℕ} {s : List ℕ} → length s ≡ ports → Cleared ports s 0 s
+cleared-start e = record { most = omega arith; len = e; same = refl }
 
-pub cleared-end : {s₀ s : List ℕ} {i : ℕ} → Cleared s₀ i s → length s ≤ i → s ≡ replicate (length s₀) 0
-cleared-end {s₀} {s} {i} b h =
-    let l = b .len in
+pub cleared-on : {ports : ℕ} {s₀ s : List ℕ} {i : ℕ} → Cleared ports s₀ i s → i < ports → length s₀ ≡ ports → Cleared ports s₀ (i + 1) (set s i 0)
+cleared-on {ports} {s₀} {s} {i} b h e =
+    record { most = omega arith; len = length-set s i 0 ∙ b .len; same = ap (λ (t : List ℕ). set t i 0) (b .same) ∙ fill-more i 0 s₀ (omega arith) }
+
+pub cleared-end : {ports : ℕ} {s₀ s : List ℕ} {i : ℕ} → Cleared ports s₀ i s → ports ≤ i → length s₀ ≡ ports → s ≡ replicate ports 0
+cleared-end {ports} {s₀} {s} {i} b h l =
     let g = b .most in
     let e : i ≡ length s₀ = omega arith in
-    b .same ∙ rw (e, drop-length s₀) (append-nil (replicate (length s₀) 0))
+    b .same ∙ rw (e, drop-length s₀) (append-nil (replicate (length s₀) 0)) ∙ ap (λ (j : ℕ). replicate j 0) l
 
 -- ---- cells
-put-snoc : (ins outs l : List ℕ) (p : ℕ) (s : List ℕ)
-    → putBy ins outs (l ++ (p ∷ [])) s ≡ set (putBy ins outs l s) (lookup ins p) (lookup outs p + 1)
-put-snoc ins outs [] p s = refl
-put-snoc ins outs (x ∷ l) p s = put-snoc ins outs l p (set s (lookup ins x) (lookup outs x + 1))
+put-append : (ins outs l k s : List ℕ) → putBy ins outs (l ++ k) s ≡ putBy ins outs k (putBy ins outs l s)
+put-append ins outs [] k s = refl
+put-append ins outs (x ∷ l) k s = put-append ins outs l k (set s (lookup ins x) (lookup outs x + 1))
 
-pub put-on : {ins outs odds s t : List ℕ} {j p a k : ℕ} → PutBy ins outs odds j s t → j < k → k ≤ 256 → Wide odds
-    → p ≡ getD odds j 0 → a ≡ lookup ins p → PutBy ins outs odds (j + 1) s (set t a (lookup outs p + 1))
-put-on {ins} {outs} {odds} {s} {t} {j} {p} {a} {k} b x y z e f =
-    let h : j < length odds = omega arith in
-    record {
-      len = length-set t a (lookup outs p + 1) ∙ b .len;
-      same = rw (add-one j, take-suc odds j 0 h, put-snoc ins outs (take j odds) (getD odds j 0) s, sym (b .same), f, e);
-    }
+-- the digits of a word that are left, and the slot that comes of writing them
+pub record Putting (ins outs : List ℕ) (base x : ℕ) (s : List ℕ) (left : ℕ) (t : List ℕ) : Type 0 where
+  pub len : length t ≡ length s
+  pub fits : left < 2 ^ 64
+  pub placed : Placed ins outs (length s) (places base 64 left)
+  pub same : putBy ins outs (places base 64 left) t ≡ putBy ins outs (places base 64 x) s
 
-pub put-end : {ins outs odds s t : List ℕ} {j k : ℕ} → PutBy ins outs odds j s t → j ≤ k → k ≤ j → PutBy ins outs odds k s t
-put-end {ins} {outs} {odds} {s} {t} = at-end (λ j. PutBy ins outs odds j s t)
+pub putting-start : {ins outs s : List ℕ} {base x : ℕ} → Placed ins outs (length s) (places base 64 x) → x < 2 ^ 64 → Putting ins outs base x s x s
+putting-start p f = record { len = refl; fits = f; placed = p; same = refl }
 
-module _ {ins outs odds : List ℕ} {j k p ports : ℕ} (l : Placed ins outs ports odds k) (h : j < k) (w : k ≤ 256)
-    (wo : Wide odds) (e : p ≡ getD odds j 0) where
-  placed : (lookup ins p < ports) × (lookup outs p < 16)
-  placed = rw e (every-get (λ p. (lookup ins p < ports) × (lookup outs p < 16)) j k odds (l .each) h (omega arith))
+module _ {ins outs s t : List ℕ} {base x left : ℕ} (g : Putting ins outs base x s left t) (some : left ≢ 0) where
+  abbrev at : ℕ
+  at = base + trailingZeros 64 left
 
-  pub cell-lt : {s t : List ℕ} {a x : ℕ} → PutBy ins outs odds x s t → length s ≡ ports → a ≡ lookup ins p → a < length t
-  cell-lt b d f = let g = placed in let y = b .len in omega arith
+  first : places base 64 left ≡ at ∷ places base 64 (rest left)
+  first = next-place (g .fits) some base
 
-  pub cell-fits : (x : ℕ) → x ≤ 1 → Fits w8 (lookup outs p + x)
-  cell-fits x y = let g = placed in omega arith
+  placed-now : Every (λ p. (p < 528) × (lookup ins p < length s) × (lookup outs p < 16)) (at ∷ places base 64 (rest left))
+  placed-now = rw first at (g .placed .each)
+
+  pub putting-zeros : trailingZeros 64 left < 64
+  putting-zeros = next-zeros (g .fits) some
+
+  pub putting-low : {p : ℕ} → p ≡ at → p < 528
+  putting-low e = rw e (placed-now .0 .0)
+
+  pub putting-lt : {p a : ℕ} → p ≡ at → a ≡ lookup ins p → a < length t
+  putting-lt {p} {a} e f =
+      let l = placed-now .0 .1 in
+      omega (arith, g .len, ap (lookup ins) e)
+
+  pub putting-fits : {p : ℕ} → p ≡ at → (d : ℕ) → d ≤ 1 → Fits w8 (lookup outs p + d)
+  putting-fits {p} e d h =
+      let l = placed-now .0 .2 in
+      omega (arith, ap (lookup outs) e)
+
+  pub putting-on : {p a : ℕ} → p ≡ at → a ≡ lookup ins p → Putting ins outs base x s (rest left) (set t a (lookup outs p + 1))
+  putting-on {p} {a} e f =
+      record {
+        len = length-set t a (lookup outs p + 1) ∙ g .len;
+        fits = next-fits (g .fits) some;
+        placed = record { each = placed-now .1 };
+        same = rw (f, e) (sym (ap (λ (l : List ℕ). putBy ins outs l t) first) ∙ g .same);
+      }
+
+pub putting-end : {ins outs s t : List ℕ} {base x left : ℕ} → Putting ins outs base x s left t → left ≡ 0 → PutBy ins outs (places base 64 x) s t
+putting-end {ins} {outs} {s} {t} {base} {x} {left} g e =
+    let none : places base 64 left ≡ [] = ap (places base 64) e ∙ places-none base 64 in
+    record { len = g .len; same = sym (ap (λ (l : List ℕ). putBy ins outs l t) none) ∙ g .same }
+
+-- ---- words
+pub record Writing (ins outs planes : List ℕ) (ports w : ℕ) (t : List ℕ) : Type 0 where
+  pub len : length t ≡ ports
+  pub same : t ≡ putBy ins outs (oddsIn (w * 64) planes) (replicate ports 0)
+
+pub writing-start : {ins outs planes s : List ℕ} {ports : ℕ} → s ≡ replicate ports 0 → Writing ins outs planes ports 0 s
+writing-start {ports = ports} e = record { len = ap length e ∙ length-replicate {A = ℕ} ports 0; same = e }
+
+module _ {ports : ℕ} {ins outs planes t : List ℕ} {w : ℕ} (g : Writing ins outs planes ports w t) where
+  pub writing-placed : {n words : ℕ} → Tables ports n ins outs → Ends n planes → w < words → words ≡ wordsOf n → Placed ins outs (length t) (places (w * 64) 64 (getD planes w 0))
+  writing-placed {n} k e h v =
+      let few = e .few in
+      record {
+        each = rw (g .len) (every-map (λ p. p < n) (λ p. (p < 528) × (lookup ins p < ports) × (lookup outs p < 16))
+            (λ p l. (omega arith, rw (k .has inputs p l) (k .low inputs p l), rw (k .has outputs p l) (omega (arith, k .low outputs p l, k .few))))
+            (places (w * 64) 64 (getD planes w 0)) (word-below e w (omega arith)));
+      }
+
+  pub writing-on : {r : List ℕ} → PutBy ins outs (places (w * 64) 64 (getD planes w 0)) t r → Writing ins outs planes ports (w + 1) r
+  writing-on {r} p =
+      record {
+        len = p .len ∙ g .len;
+        same = p .same
+            ∙ ap (putBy ins outs (places (w * 64) 64 (getD planes w 0))) (g .same)
+            ∙ sym (put-append ins outs (oddsIn (w * 64) planes) (places (w * 64) 64 (getD planes w 0)) (replicate ports 0))
+            ∙ ap (λ (l : List ℕ). putBy ins outs l (replicate ports 0)) (sym (words-odds planes w));
+      }
 
 -- ---- the slot
-module _ {ports n : ℕ} {ins outs : List ℕ} (t : Tables ports n ins outs) where
-  put-is : (od : ℕ → Bool) (a k : ℕ) (s : List ℕ) → a + k ≤ n → putBy ins outs (keep od (upFrom a k)) s ≡ put ports (keep od (upFrom a k)) s
-  put-is od a zero s h = refl
-  put-is od a (suc k) s h =
-      byBool (od a)
-      (λ e. rw e (ap (λ (x : ℕ). putBy ins outs (keep od (upFrom (suc a) k)) (set s x (lookup outs a + 1))) (t .has inputs a (omega arith))
-      ∙ ap (λ (x : ℕ). putBy ins outs (keep od (upFrom (suc a) k)) (set s (a / ports) (x + 1))) (t .has outputs a (omega arith))
-      ∙ put-is od (suc a) k (set s (a / ports) (a % ports + 1)) (omega arith)))
-      (λ e. rw e (put-is od (suc a) k s (omega arith)))
+put-is : {ports n : ℕ} {ins outs : List ℕ} → Tables ports n ins outs → (t : ℕ → Bool) (a k : ℕ) (s : List ℕ) → a + k ≤ n
+    → putBy ins outs (keep t (upFrom a k)) s ≡ put ports (keep t (upFrom a k)) s
+put-is b t a zero s h = refl
+put-is {ports} {n} {ins} {outs} b t a (suc k) s h =
+    byBool (t a)
+    (λ e. rw e (ap (λ (x : ℕ). putBy ins outs (keep t (upFrom (suc a) k)) (set s x (lookup outs a + 1))) (b .has inputs a (omega arith))
+    ∙ ap (λ (x : ℕ). putBy ins outs (keep t (upFrom (suc a) k)) (set s (a / ports) (x + 1))) (b .has outputs a (omega arith))
+    ∙ put-is b t (suc a) k (set s (a / ports) (a % ports + 1)) (omega arith)))
+    (λ e. rw e (put-is b t (suc a) k s (omega arith)))
 
-  pub slot-is : {k : ℕ} {m odds s r : List ℕ} → Wide m → Gathered m n odds k → s ≡ replicate ports 0
-      → PutBy ins outs odds k s r → r ≡ slotOf ports (take n m)
-  unfolding slotOf
-  slot-is {k} {m} {odds} {s} {r} w g z b =
-      let len : length (take n m) ≡ n = length-take-le n m (omega (arith, t .most)) in
-      b .same ∙ rw (g .same, odds-take n m, z) (put-is (odd (take n m)) 0 n (replicate ports 0) (omega arith)
-      ∙ ap (λ (j : ℕ). put ports (keep (odd (take n m)) (upFrom 0 j)) (replicate ports 0)) (sym len))
-
-  pub all-placed : {k j : ℕ} {m odds : List ℕ} → Gathered m n odds k → j ≡ ports → Placed ins outs j odds k
-  all-placed {k} {j} {m} {odds} g e =
-      record {
-        each = rw (g .same, e) (every-map (λ p. (odd m p ≡ true) × (p < n)) (λ p. (lookup ins p < ports) × (lookup outs p < 16))
-            (λ p h. (rw (t .has inputs p (h .1)) (t .low inputs p (h .1)), rw (t .has outputs p (h .1)) (omega (arith, t .low outputs p (h .1), t .few))))
-            (oddsBelow n m) (keep-every (odd m) n 0 n (omega arith)));
-      }
+pub writing-end : {ports n : ℕ} {ins outs planes t : List ℕ} {w words : ℕ} → Writing ins outs planes ports w t → w ≤ words → words ≤ w → words ≡ wordsOf n
+    → Tables ports n ins outs → Ends n planes → t ≡ slotOf ports (counts 1 planes n)
+unfolding slotOf
+writing-end {ports} {n} {ins} {outs} {planes} {t} {w} {words} g a b v k e =
+    let c : List ℕ = counts 1 planes n in
+    let len : length c ≡ n = counts-length 1 planes n in
+    g .same
+    ∙ ap (λ (l : List ℕ). putBy ins outs l (replicate ports 0)) (odds-past e (w * 64) (omega arith) (omega arith) ∙ odds-are 0 n planes)
+    ∙ put-is k (odd c) 0 n (replicate ports 0) (omega arith)
+    ∙ ap (λ (j : ℕ). put ports (keep (odd c) (upFrom 0 j)) (replicate ports 0)) (sym len)

@@ -2,7 +2,7 @@
 use Prim.Native.Nat.{ℕ, _+_, _<_}
 use mathlib.Core.Path.{_≡_}
 use mathlib.Core.List.{List, [], _∷_}
-use lib.ListN.{length, set, take}
+use lib.ListN.{length, set}
 use Rattle.model.specs.Words.{Every}
 use Rattle.split.specs.Steps.{lookup}
 
@@ -11,11 +11,11 @@ abbrev pub putBy : List ℕ → List ℕ → List ℕ → List ℕ → List ℕ
 putBy ins outs [] slot = slot
 putBy ins outs (p ∷ l) slot = putBy ins outs l (set slot (lookup ins p) (lookup outs p + 1))
 
--- The first k of a list are positions at the inputs of a slot, and their outputs are below 16.
-pub record Placed (ins outs : List ℕ) (ports : ℕ) (odds : List ℕ) (k : ℕ) : Type 0 where
-  pub each : Every (λ p. (lookup ins p < ports) × (lookup outs p < 16)) (take k odds)
+-- A list has positions at the inputs of a slot, and their outputs are below 16.
+pub record Placed (ins outs : List ℕ) (ports : ℕ) (list : List ℕ) : Type 0 where
+  pub each : Every (λ p. (p < 528) × (lookup ins p < ports) × (lookup outs p < 16)) list
 
--- The slot was s, and with the cells of the first k of a list written it is t.
-pub record PutBy (ins outs odds : List ℕ) (k : ℕ) (s t : List ℕ) : Type 0 where
+-- The slot was s, and with the cells of a list written it is t.
+pub record PutBy (ins outs list s t : List ℕ) : Type 0 where
   pub len : length t ≡ length s
-  pub same : t ≡ putBy ins outs (take k odds) s
+  pub same : t ≡ putBy ins outs list s

@@ -4,64 +4,132 @@ mod slots;
 
 use admission::bad_length;
 use admission::bad_slots;
+use admission::levels_of;
 use admission::loads_of;
 use admission::outside;
 use admission::overload;
 use model::Answer;
 use model::Built;
 use model::Refusal;
+use planes::halve::halve;
+use planes::load::load;
+use planes::mark::others;
+use split::split;
 ghost use mathlib.Core.Path.{_≡_};
-ghost use Prim.Native.Nat.{_*_, _<_};
-ghost use lib.ListN.{length, take};
+ghost use Prim.Native.Nat.{suc, _*_, _^_, _≤_};
+ghost use lib.ListN.{length};
 ghost use Rattle.model.specs.Refusals.{levels};
 ghost use Rattle.model.specs.Schedule.{frameOf, settled};
 ghost use Rattle.model.specs.Build.{outcome, built, left};
-ghost use Rattle.split.specs.Steps.{Wide, Tables};
+ghost use Rattle.planes.specs.Planes.{counts, Block};
+ghost use Rattle.split.specs.Steps.{Tables, Scratch};
 ghost use Rattle.schedule.specs.Fill.{Fillable};
 
-// The length of the block in slots falls by half with each call. The answer is how many odd counts were settled, here and in the
-// blocks within.
+// A block of 2^m slots, and of at least two. The answer is how many odd counts were settled, here and in the blocks within.
 fn block(
-    counts: &[u16; 256],
+    planes: &[u64; 99],
+    m: usize,
     n: usize,
     ports: usize,
-    slots: usize,
-    ins: &[u8; 256],
-    outs: &[u8; 256],
+    ins: &[u8; 528],
+    outs: &[u8; 528],
+    odds: &mut [u16; 528],
+    in_mates: &mut [u16; 528],
+    out_mates: &mut [u16; 528],
+    group: &mut [u16; 528],
     frame: &mut [u8],
 ) -> usize
-    requires { ⌜ Tables ports n (now ins) (now outs) × Wide (now counts) × (levels slots < 11) × (length (now frame) ≡ slots * ports) ⌝ }
-    ensures { λ r. ⌜ (r ≡ settled (levels slots) (take n (now (counts .entry))))
-        × (now (frame .exit) ≡ frameOf ports (levels slots) (take n (now (counts .entry)))) ⌝ }
+    requires { ⌜ (1 ≤ m) × (m ≤ 10) × Tables ports n (now ins) (now outs) × Block m n (now planes)
+        × Scratch (now odds) (now «in_mates») (now «out_mates») (now group) × (length (now frame) ≡ 2 ^ m * ports) ⌝ }
+    ensures { λ r. ⌜ (r ≡ settled m (counts (suc m) (now (planes .entry)) n))
+        × (now (frame .exit) ≡ frameOf ports m (counts (suc m) (now (planes .entry)) n))
+        × Scratch (now (odds .exit)) (now («in_mates» .exit)) (now («out_mates» .exit)) (now (group .exit)) ⌝ }
 {
-    if slots == 1 {
-        slots::write(counts, n, ins, outs, frame);
-        0
+    let mut mask = [0u64; 9];
+    let here = split(
+        planes,
+        n,
+        ins,
+        outs,
+        odds,
+        in_mates,
+        out_mates,
+        group,
+        &mut mask,
+    );
+    if m == 1 {
+        slots::write_two(planes, n, ports, &mut mask, ins, outs, frame);
+        here
     } else {
-        let mut first = [0u16; 256];
-        let mut second = [0u16; 256];
-        let here = split::split(counts, n, ins, outs, &mut first, &mut second);
-        let half = slots / 2;
-        let mid = half * ports;
-        let front = block(&first, n, ports, half, ins, outs, &mut frame[..mid]);
-        let back = block(&second, n, ports, half, ins, outs, &mut frame[mid..]);
+        let mut half = [0u64; 99];
+        let mid = frame.len() / 2;
+        halve(planes, m, n, &mask, &mut half);
+        let front = block(
+            &half,
+            m - 1,
+            n,
+            ports,
+            ins,
+            outs,
+            odds,
+            in_mates,
+            out_mates,
+            group,
+            &mut frame[..mid],
+        );
+        others(planes, n, &mut mask);
+        halve(planes, m, n, &mask, &mut half);
+        let back = block(
+            &half,
+            m - 1,
+            n,
+            ports,
+            ins,
+            outs,
+            odds,
+            in_mates,
+            out_mates,
+            group,
+            &mut frame[mid..],
+        );
         here + front + back
     }
 }
 
-// Loads are not looked at: the rules give bytes for any counts, and Build turns an overload away before.
+// A load that fits has room in the planes: no count is above slots.
 fn fill(ports: usize, slots: usize, matrix: &[u16], frame: &mut [u8]) -> usize
     requires { ⌜ Fillable ports slots (now matrix) (now frame) ⌝ }
     ensures { λ r. ⌜ (r ≡ settled (levels slots) (now (matrix .entry)))
         × (now (frame .exit) ≡ frameOf ports (levels slots) (now (matrix .entry))) ⌝ }
 {
+    let m = levels_of(slots);
     let n = matrix.len();
-    let mut counts = [0u16; 256];
-    let mut ins = [0u8; 256];
-    let mut outs = [0u8; 256];
-    positions::copy(matrix, &mut counts);
+    let mut planes = [0u64; 99];
+    let mut ins = [0u8; 528];
+    let mut outs = [0u8; 528];
+    load(matrix, m + 1, &mut planes);
     positions::tabulate(ports, n, &mut ins, &mut outs);
-    block(&counts, n, ports, slots, &ins, &outs, frame)
+    if m == 0 {
+        slots::write(&planes, n, ports, &ins, &outs, frame);
+        return 0;
+    }
+    let mut odds = [0u16; 528];
+    let mut in_mates = [0u16; 528];
+    let mut out_mates = [0u16; 528];
+    let mut group = [0u16; 528];
+    block(
+        &planes,
+        m,
+        n,
+        ports,
+        &ins,
+        &outs,
+        &mut odds,
+        &mut in_mates,
+        &mut out_mates,
+        &mut group,
+        frame,
+    )
 }
 
 // Build: refusals 1 to 6 are tried in their order, and nothing is written until all have passed.

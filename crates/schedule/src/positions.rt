@@ -1,11 +1,10 @@
 // Positions of a matrix, with their ports in two tables.
 ghost use mathlib.Core.Path.{_≡_};
 ghost use Prim.Native.Nat.{_*_, _≤_};
-ghost use lib.ListN.{length, take};
 ghost use Rattle.split.specs.Steps.{Wide, Tables};
 
 // The ports of the positions are divided out once, for all blocks.
-pub(crate) fn tabulate(ports: usize, n: usize, ins: &mut [u8; 256], outs: &mut [u8; 256])
+pub(crate) fn tabulate(ports: usize, n: usize, ins: &mut [u8; 528], outs: &mut [u8; 528])
     requires { ⌜ (1 ≤ ports) × (ports ≤ 16) × (n ≡ ports * ports) × (n ≤ 256) × Wide (now ins) × Wide (now outs) ⌝ }
     ensures { λ _. ⌜ Tables ports n (now (ins .exit)) (now (outs .exit)) ⌝ }
 {
@@ -13,18 +12,6 @@ pub(crate) fn tabulate(ports: usize, n: usize, ins: &mut [u8; 256], outs: &mut [
     while p < n {
         ins[p] = (p / ports) as u8;
         outs[p] = (p % ports) as u8;
-        p += 1;
-    }
-}
-
-// The matrix takes the form that its halves have.
-pub(crate) fn copy(matrix: &[u16], counts: &mut [u16; 256])
-    requires { ⌜ (length (now matrix) ≤ 256) × Wide (now counts) ⌝ }
-    ensures { λ _. ⌜ Wide (now (counts .exit)) × (take (length (now (matrix .entry))) (now (counts .exit)) ≡ now (matrix .entry)) ⌝ }
-{
-    let mut p: usize = 0;
-    while p < matrix.len() {
-        counts[p] = matrix[p];
         p += 1;
     }
 }

@@ -1,13 +1,12 @@
--- The mask that the steps leave, and the halves that it gives.
-use Prim.Native.Nat.{ℕ, suc, zero, _+_, _-_, _*_, _/_, _%_, _^_, _≤_, _<_}
+-- What the steps are lent, the mask that they leave, and the halves that it gives.
+use Prim.Native.Nat.{ℕ, suc, _+_, _-_, _*_, _/_, _%_, _≤_, _<_}
 use mathlib.Core.Path.{_≡_, refl, sym, ap, ap₂, _∙_}
 use mathlib.Core.Logic.{_≢_}
 use mathlib.Core.List.{List}
 use mathlib.Core.Bool.{true, false}
 use native.Mathlib.Omega.{arith}
-use native.Mathlib.Nat.{pow-suc, mul-comm}
 use lib.Dec.{eqb}
-use lib.ListN.{length, getD, take, replicate}
+use lib.ListN.{length, getD, take, replicate, length-replicate}
 use lib.Seq.{getD-take, length-take-le}
 use borrow.Author.Tests.{eqb-true, eqb-false}
 use Rattle.model.specs.Words.{bit, keep, upFrom, Every}
@@ -17,12 +16,20 @@ use Rattle.model.proofs.Cases.{byBool, byEq, byLt, is-yes, is-no}
 use Rattle.model.proofs.Partners.{every-map, keep-every, keep-rising}
 use Rattle.model.proofs.Settled.{favours-law}
 use Rattle.model.proofs.Splits.{half-at, half-length}
-use Rattle.planes.specs.Planes.{digitAt, countAt, counts, oddAt, oddsIn, spanOf, wordsOf, Ends, Block, Mask}
-use Rattle.planes.specs.Steps.{Gathered, Marked, Others, Halved}
-use Rattle.planes.proofs.Lists.{keep-most}
-use Rattle.planes.proofs.Counts.{counts-length, counts-at, counts-are, count-odd, digit-le, odd-is, odds-are}
-use Rattle.split.specs.Steps.{Sides, Odds, tabled, Linked, SettledBy, Favours}
+use Rattle.planes.specs.Planes.{digitAt, countAt, each, counts, halves, oddAt, oddsIn}
+use Rattle.planes.specs.Steps.{Gathered, Marked, Others}
+use Rattle.planes.proofs.Lists.{keep-most, zeros-at}
+use Rattle.planes.proofs.Counts.{each-is, counts-length, counts-at, digit-le, odd-is, odds-are}
+use Rattle.planes.proofs.Marked.{others-mask}
+use Rattle.split.specs.Steps.{Sides, Odds, Mates, Scratch, tabled, Linked, SettledBy, Favours}
 use Rattle.split.proofs.Favoured.{favoured-is}
+
+-- ---- lists that nothing is in yet
+blank-mates : Mates (replicate 528 0)
+blank-mates = record { len = length-replicate {A = ℕ} 528 0; low = λ p. omega (arith, zeros-at 528 p) }
+
+pub blank-scratch : Scratch (replicate 528 0) (replicate 528 0) (replicate 528 0) (replicate 528 0)
+blank-scratch = record { listed = length-replicate {A = ℕ} 528 0; at-inputs = blank-mates; at-outputs = blank-mates; grouped = length-replicate {A = ℕ} 528 0 }
 
 -- ---- the list of odd counts
 pub odds-listed : {n k : ℕ} {planes odds : List ℕ} → Gathered n planes odds k → n ≤ 528 → Odds odds k
@@ -91,7 +98,7 @@ module _ {n k : ℕ} {planes ins outs odds i o c mask : List ℕ} (s : Sides n i
 pub favours-second : {n : ℕ} {planes ins outs old mask : List ℕ} → Favours 1 n planes ins outs old → Others n planes old mask → Favours 2 n planes ins outs mask
 favours-second {n} {planes} {ins} {outs} {old} {mask} v w =
     record {
-      odds = record { len = w .len; only = λ p h. omega (arith, w .has p h) };
+      odds = others-mask w;
       has = λ m p h. here m p h;
     }
   where
@@ -114,28 +121,17 @@ favours-second {n} {planes} {ins} {outs} {old} {mask} v w =
         omega (arith, is-no f 2 (omega arith)))
 
 -- ---- the halves
-module _ {h m n : ℕ} {planes ins outs mask half : List ℕ} (v : Favours h n planes ins outs mask) (w : Halved m n planes mask half) where
-  -- half h of the counts, by the rules
-  pub half-is : h ≢ 0 → counts m half n ≡ halfOf (tabled ins outs) h (counts (suc m) planes n)
-  half-is some =
-      let c : List ℕ = counts (suc m) planes n in
-      let f = favours (tabled ins outs) c in
-      let l : length f ≡ length c = favours-law (tabled ins outs) c .len in
-      let size : length (halfBy h c f) ≡ n = half-length h c f l ∙ counts-length (suc m) planes n in
-      ap (counts m half) (sym size)
-      ∙ counts-are m half (halfBy h c f) (λ p k.
-      w .each p (omega arith)
-      ∙ ap₂ (λ (x y : ℕ). x / 2 + y) (sym (counts-at (suc m) planes n p (omega arith))) (v .has m p (omega arith))
-      ∙ sym (half-at h c f p some l))
-
-  -- they are those of a block of half as many slots
-  pub half-block : Block m n planes → 1 ≤ m → Block (m - 1) n half
-  half-block b some =
-      let up : suc (m - 1) ≡ m = omega arith in
-      let twice : 2 ^ m ≡ 2 * 2 ^ (m - 1) = ap (λ (x : ℕ). 2 ^ x) (sym up) ∙ pow-suc 2 (m - 1) ∙ mul-comm (2 ^ (m - 1)) 2 in
-      record {
-        len = w .len;
-        few = b .few;
-        most = λ p k. rw up (omega (arith, b .most p k, w .each p (omega arith), v .odds .only p (omega arith), count-odd m planes p));
-        past = λ p a k. rw up (omega (arith, b .past p a k, w .each p k, v .odds .only p k, count-odd m planes p));
-      }
+-- what a mask gives is half h of the counts, by the rules
+pub half-is : {h n : ℕ} {planes ins outs mask : List ℕ} → Favours h n planes ins outs mask → h ≢ 0 → (m : ℕ)
+    → halves m planes mask n ≡ halfOf (tabled ins outs) h (counts (suc m) planes n)
+unfolding halves
+half-is {h} {n} {planes} {ins} {outs} {mask} v some m =
+    let c : List ℕ = counts (suc m) planes n in
+    let f = favours (tabled ins outs) c in
+    let l : length f ≡ length c = favours-law (tabled ins outs) c .len in
+    let size : length (halfBy h c f) ≡ n = half-length h c f l ∙ counts-length (suc m) planes n in
+    let half : ℕ → ℕ = λ p. countAt (suc m) planes p / 2 + digitAt mask p in
+    ap (each half 0) (sym size)
+    ∙ each-is half 0 (halfBy h c f) (λ p k.
+    let at : 0 + p ≡ p = omega arith in
+    rw at (ap₂ (λ (x y : ℕ). x / 2 + y) (sym (counts-at (suc m) planes n p (omega arith))) (v .has m p (omega arith)) ∙ sym (half-at h c f p some l)))

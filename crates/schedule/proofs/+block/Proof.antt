@@ -1,81 +1,224 @@
-use Prim.Native.Nat.{ℕ, _<_}
+use Prim.Native.Nat.{ℕ, suc, _<_}
+use mathlib.Core.Path.{refl}
 use borrow.Author.Needs.{needs}
 use native.Mathlib.Omega.{arith}
 use borrow.Fn.Kinds.{In}
 use borrow.Fn.PlainCycle.{Measures, is, falls, and}
-use Rattle.split.proofs.Favoured.{half-wide}
+use Rattle.planes.specs.Planes.{counts}
+use Rattle.planes.proofs.Counts.{block-ends}
+use Rattle.planes.proofs.Marked.{others-mask}
+use Rattle.planes.proofs.Halved.{halved-block}
+use Rattle.split.proofs.Divided.{favours-second}
 use Rattle.schedule.proofs.Tabled.{sides-of}
-use Rattle.schedule.proofs.Framed.{slot-tables, frame-one, half-less, half-power, mid-le, mid-fits, still-le, front-is, back-is, written}
-use Rattle.schedule.proofs.Summed.{none-settled, here-low, half-low, summed}
+use Rattle.schedule.proofs.Framed.{block-two, length-two, frame-two, mid-length, front-is, still-room, back-room, half-counts, written, written-size}
+use Rattle.schedule.proofs.Summed.{settled-two, here-low, half-low, summed}
 use Rattle.schedule.proofs.block.Reads as block
 use Rattle.schedule.proofs.block.Kinds as block-kinds
 use Rattle.schedule.proofs.+block.Lts-block as block-lts
+use Rattle.planes.proofs.halve.halve.Reads as halve-reads
+use Rattle.planes.proofs.mark.others.Reads as others-reads
+use Rattle.schedule.proofs.slots.write_two.Reads as write-two-reads
 use Rattle.split.proofs.split.Reads as split-reads
-use Rattle.schedule.proofs.slots.write.Reads as write-reads
 use Rattle.schedule.proofs.+block.{statement}
 use Rattle.schedule.proofs.+block.Tie.{close}
 
--- the slots of the block
-abbrev μ-block : Measures 4 block-kinds.ps ℕ
-μ-block κs a = a .1 .1 .1 .0
+-- the m of the block's 2 ^ m slots
+abbrev μ-block : Measures 8 block-kinds.ps ℕ
+μ-block κs a = a .1 .0
 
-abbrev block-at : ℕ → In 4 block-kinds.ps
-block-at t = and 4 block-kinds.ps (is 4 block-kinds.ps μ-block t) block.Pre
+abbrev block-at : ℕ → In 8 block-kinds.ps
+block-at t = and 8 block-kinds.ps (is 8 block-kinds.ps μ-block t) block.Pre
 
-abbrev block-below : ℕ → In 4 block-kinds.ps
-block-below t = and 4 block-kinds.ps (falls 4 block-kinds.ps _<_ μ-block t) block.Pre
+abbrev block-below : ℕ → In 8 block-kinds.ps
+block-below t = and 8 block-kinds.ps (falls 8 block-kinds.ps _<_ μ-block t) block.Pre
 
 pub +block-spec : {M : Type 1} → statement M
 +block-spec = close μ-block λ t. block-lts.spec (
-  write-reads.Asked,
-  write-reads.Learnt,
   split-reads.Asked,
   split-reads.Learnt,
+  write-two-reads.Asked,
+  write-two-reads.Learnt,
+  halve-reads.Asked,
+  halve-reads.Learnt,
   block-below t,
   block.Post,
+  others-reads.Asked,
+  others-reads.Learnt,
 )
     (block-at t)
     block.Post
-    (λ c κs. search (needs, slot-tables))
-    (λ c κs. search (needs, sides-of))
-    (λ c. search (needs, mid-fits))
-    (λ c. search (needs, mid-le))
-    (λ c. search (needs, front-is))
-    (λ c κs. (search (needs, half-less), search (needs, half-power, front-is, half-wide)))
-    (λ c. search (needs, still-le))
-    (λ c. search (needs, still-le))
+    (λ c κs.
+    let pre = c .before .before .before .before .before .before .pre .1 in (block-ends (pre .3), sides-of (pre .2), refl, pre .4))
+    (λ c κs.
+    let two = c .before .before in
+    let split = two .before in
+    let pre = split .before .before .before .before .before .before .before .pre .1 in
+    (pre .2, block-two (two .if1 .taken) (pre .3), split .split .ensures .1, length-two _ (two .if1 .taken) (pre .5)))
+    (λ c κs.
+    let split = c .before .before .before in
+    let pre = split .before .before .before .before .before .before .before .pre .1 in
+    (pre .0, pre .1, pre .3, split .split .ensures .1 .odds, refl))
     (λ c. search needs)
-    (λ c κs. (search (needs, half-less), search (needs, half-power, back-is, half-wide)))
-    (λ c.
-    let front = c .before .before .before .before .before .before .before in
-    let split = front .before .before .before in
-    let start = split .before .before .before .before .before in
+    (λ c. search needs)
+    (λ c. search (needs, mid-length))
+    (λ c κs.
+    let halve = c .before .before .before .before .before .before in
+    let more = halve .before .before .before in
+    let split = more .before in
+    let start = split .before .before .before .before .before .before .before in
     let pre = start .pre .1 in
-    let h = here-low _ _ _ _ (start .args .counts .now) _ (pre .0) (split .split .ensures .0) in
-    let f = half-low _ (start .args .slots) _ _ _ _ _ (pre .0) (search needs) (pre .2) (front .block .ensures .0) in
-    omega (arith, pre .0 .most))
+    let some = pre .0 in
+    let most = pre .1 in
+    let many = more .if1 .left in
+    let at = start .pre .0 in (
+      omega arith,
+      (
+        omega arith,
+        omega arith,
+        pre .2,
+        halved-block (halve .halve .ensures .1) (pre .3) (split .split .ensures .1 .odds) (pre .0),
+        split .split .ensures .2,
+        front-is _ _ (start .args .frame .now) (omega arith) (pre .5),
+      ),
+    ))
+    (λ c κs.
+    let front = c .before .before .before in
+    let halve = front .before .before .before .before .before .before .before in
+    let more = halve .before .before .before in
+    let split = more .before in
+    let start = split .before .before .before .before .before .before .before in
+    let pre = start .pre .1 in
+    (block-ends (pre .3), split .split .ensures .1 .odds))
+    (λ c κs.
+    let others = c .before .before in
+    let front = others .before .before .before .before in
+    let halve = front .before .before .before .before .before .before .before in
+    let more = halve .before .before .before in
+    let split = more .before in
+    let start = split .before .before .before .before .before .before .before in
+    let pre = start .pre .1 in
+    (pre .0, pre .1, pre .3, others-mask (others .others .ensures), halve .halve .ensures .0))
+    (λ c.
+    let halve2 = c .before in
+    let others = halve2 .before .before .before in
+    let front = others .before .before .before .before in
+    let halve = front .before .before .before .before .before .before .before in
+    let more = halve .before .before .before in
+    let split = more .before in
+    let start = split .before .before .before .before .before .before .before in
+    let pre = start .pre .1 in
+    pre .0)
+    (λ c.
+    let halve2 = c .before .before .before .before .before in
+    let others = halve2 .before .before .before in
+    let front = others .before .before .before .before in
+    let halve = front .before .before .before .before .before .before .before in
+    let more = halve .before .before .before in
+    let split = more .before in
+    let start = split .before .before .before .before .before .before .before in
+    let pre = start .pre .1 in
+    let some = pre .0 in
+    still-room _ _ (start .args .frame .now) (omega arith) (pre .5) _ _ (front .block .ensures .1))
+    (λ c.
+    let halve2 = c .before .before .before .before .before in
+    let others = halve2 .before .before .before in
+    let front = others .before .before .before .before in
+    let halve = front .before .before .before .before .before .before .before in
+    let more = halve .before .before .before in
+    let split = more .before in
+    let start = split .before .before .before .before .before .before .before in
+    let pre = start .pre .1 in
+    let some = pre .0 in
+    still-room _ _ (start .args .frame .now) (omega arith) (pre .5) _ _ (front .block .ensures .1))
+    (λ c. search needs)
+    (λ c κs.
+    let halve2 = c .before .before .before .before .before .before in
+    let others = halve2 .before .before .before in
+    let front = others .before .before .before .before in
+    let halve = front .before .before .before .before .before .before .before in
+    let more = halve .before .before .before in
+    let split = more .before in
+    let start = split .before .before .before .before .before .before .before in
+    let pre = start .pre .1 in
+    let some = pre .0 in
+    let most = pre .1 in
+    let many = more .if1 .left in
+    let at = start .pre .0 in (
+      omega arith,
+      (
+        omega arith,
+        omega arith,
+        pre .2,
+        halved-block (halve2 .halve2 .ensures .1) (pre .3) (others-mask (others .others .ensures)) (pre .0),
+        front .block .ensures .2,
+        back-room _ _ (start .args .frame .now) (omega arith) (pre .5) _ _ (front .block .ensures .1),
+      ),
+    ))
     (λ c.
     let back = c .before .before in
-    let front = back .before .before .before .before .before in
-    let split = front .before .before .before in
-    let start = split .before .before .before .before .before in
+    let halve2 = back .before .before .before .before .before .before .before in
+    let others = halve2 .before .before .before in
+    let front = others .before .before .before .before in
+    let halve = front .before .before .before .before .before .before .before in
+    let more = halve .before .before .before in
+    let split = more .before in
+    let start = split .before .before .before .before .before .before .before in
     let pre = start .pre .1 in
-    let h = here-low _ _ _ _ (start .args .counts .now) _ (pre .0) (split .split .ensures .0) in
-    let f = half-low _ (start .args .slots) _ _ _ _ _ (pre .0) (search needs) (pre .2) (front .block .ensures .0) in
-    let g = half-low _ (start .args .slots) _ _ _ _ _ (pre .0) (search needs) (pre .2) (back .block2 .ensures .0) in
-    omega (arith, pre .0 .most))
-    (λ c. search needs)
-    (λ c. (search (needs, none-settled), search (needs, frame-one)))
-    (λ c. search needs)
+    let h = here-low _ _ (start .args .planes .now) (pre .3 .few) (split .split .ensures .0) in
+    let f = half-low (start .args .m) _ _ _ _ (pre .1) (pre .3 .few) (front .block .ensures .0) in
+    omega arith)
     (λ c.
     let back = c .before .before in
-    let front = back .before .before .before .before .before in
-    let split = front .before .before .before in
-    let start = split .before .before .before .before .before in
+    let halve2 = back .before .before .before .before .before .before .before in
+    let others = halve2 .before .before .before in
+    let front = others .before .before .before .before in
+    let halve = front .before .before .before .before .before .before .before in
+    let more = halve .before .before .before in
+    let split = more .before in
+    let start = split .before .before .before .before .before .before .before in
     let pre = start .pre .1 in
-    let parts = split .split .ensures in
+    let h = here-low _ _ (start .args .planes .now) (pre .3 .few) (split .split .ensures .0) in
+    let f = half-low (start .args .m) _ _ _ _ (pre .1) (pre .3 .few) (front .block .ensures .0) in
+    let g = half-low (start .args .m) _ _ _ _ (pre .1) (pre .3 .few) (back .block2 .ensures .0) in
+    omega arith)
+    (λ c. search needs)
+    (λ c.
+    let write = c .before .before in
+    let two = write .before .before .before in
+    let split = two .before in
+    (settled-two _ _ _ _ (two .if1 .taken) (split .split .ensures .0), frame-two _ _ _ _ _ (two .if1 .taken) (write .write-two .ensures), split .split .ensures .2))
+    (λ c.
+    let back = c .before .before in
+    let halve2 = back .before .before .before .before .before .before .before in
+    let others = halve2 .before .before .before in
+    let front = others .before .before .before .before in
+    let halve = front .before .before .before .before .before .before .before in
+    let more = halve .before .before .before in
+    let split = more .before in
+    let start = split .before .before .before .before .before .before .before in
+    let pre = start .pre .1 in
+    let some = pre .0 in
+    let first = half-counts (pre .2) (split .split .ensures .1) (omega arith) (halve .halve .ensures .1) (omega arith) in
+    let second = half-counts (pre .2) (favours-second (split .split .ensures .1) (others .others .ensures)) (omega arith) (halve2 .halve2 .ensures .1) (omega arith) in
+    let f = front .block .ensures in
+    let g = back .block2 .ensures in
+    written-size _ _ (start .args .frame .now) (omega arith) (pre .5) (counts (suc (start .args .m)) (start .args .planes .now) (start .args .n)) _ _ _ _ first second (f .1) (g .1))
+    (λ c.
+    let back = c .before .before in
+    let halve2 = back .before .before .before .before .before .before .before in
+    let others = halve2 .before .before .before in
+    let front = others .before .before .before .before in
+    let halve = front .before .before .before .before .before .before .before in
+    let more = halve .before .before .before in
+    let split = more .before in
+    let start = split .before .before .before .before .before .before .before in
+    let pre = start .pre .1 in
+    let some = pre .0 in
+    let first = half-counts (pre .2) (split .split .ensures .1) (omega arith) (halve .halve .ensures .1) (omega arith) in
+    let second = half-counts (pre .2) (favours-second (split .split .ensures .1) (others .others .ensures)) (omega arith) (halve2 .halve2 .ensures .1) (omega arith) in
     let f = front .block .ensures in
     let g = back .block2 .ensures in (
-      summed _ (start .args .slots) _ _ _ (start .args .counts .now) _ _ _ _ _ _ _ (pre .0) (search needs) (pre .2) (pre .1) (parts .0) (parts .1) (parts .2) (f .0) (g .0),
-      written _ (start .args .slots) _ (search needs) (pre .2) (pre .3) _ _ _ _ _ _ _ (pre .0) (pre .1) (parts .1) (parts .2) (f .1) (g .1),
+      summed _ _ _ _ _ _ _ _ _ (omega arith) (split .split .ensures .0) first second (f .0) (g .0),
+      written _ _ (start .args .frame .now) (omega arith) (pre .5) _ _ _ _ _ first second (f .1) (g .1),
+      g .2,
     ))

@@ -1,7 +1,7 @@
 use borrow.Author.Needs.{needs}
-use Rattle.schedule.specs.Fill.{Fillable}
+use Rattle.schedule.specs.Fill.{Sized}
 use Rattle.schedule.proofs.Built.{size-of, done}
-use Rattle.schedule.proofs.Built.{ports-refused, slots-refused, matrix-refused, frame-refused, load-refused, fillable, fills}
+use Rattle.schedule.proofs.Built.{ports-refused, slots-refused, matrix-refused, frame-refused, load-refused, sized, fillable, fills}
 use Rattle.schedule.proofs.build.Statement.{statement}
 use Rattle.schedule.proofs.build.Tie as tie
 
@@ -20,12 +20,12 @@ returns-4 c = done _ _ _ _ _ _ (search (needs, frame-refused))
 -- what the four tests let pass
 passed : (c : tie.Else4)
     → let a = c .before .before .before .before .before .before .before .before .before .before .args in
-    Fillable (a .ports) (a .slots) (a .matrix .now) (a .frame .now)
+    Sized (a .ports) (a .slots) (a .matrix .now) (a .frame .now)
 passed c =
     let third = c .before .before in
     let second = third .before .before in
     let first = second .before .before in
-    fillable _ _ _ _ (first .before .outside .ensures) (first .if1 .left) (second .before .bad-slots .ensures) (second .if2 .left)
+    sized _ _ _ _ (first .before .outside .ensures) (first .if1 .left) (second .before .bad-slots .ensures) (second .if2 .left)
     (third .before .bad-length .ensures) (third .if3 .left) (c .before .bad-length2 .ensures) (c .if4 .left)
 
 pub build-spec : {M : Type 1} → statement M
@@ -45,6 +45,9 @@ build-spec =
     (λ c. search needs)
     (λ c. done _ _ _ _ _ _ (search (needs, load-refused)))
     (λ c. search needs)
-    (λ c κs. passed (c .before .before .before .before .before .before .before .before))
+    (λ c κs.
+    let overload = c .before .before .before in
+    let loads = overload .before .before .before .before in
+    fillable (passed (loads .before)) (loads .loads-of .ensures) (overload .overload .result) (overload .overload .ensures) (search needs))
     (λ c. search needs)
     (λ c. done _ _ _ _ _ _ (search (needs, fills))))

@@ -6,7 +6,7 @@ use Rattle.planes.proofs.halve.halve.Statement.{statement}
 use Rattle.planes.proofs.halve.halve.Tie as tie
 
 abbrev Inv-loop : tie.InvT-loop
-Inv-loop planes m n mask half₀ words w₀ half w = (w ≤ words) × Halving m n planes mask w half
+Inv-loop planes m n mask half₀ words w₀ half w = (w ≤ words) × Halving 99 m n planes mask w half
 
 abbrev μ-loop : tie.MeasureT-loop
 μ-loop planes m n mask half₀ words w₀ half w = words - w
@@ -25,4 +25,4 @@ halve-spec =
     (λ c. search needs)
     (λ c. search needs)
     (λ c. (omega arith, search (needs, halving-on)))
-    (λ c. search (needs, halving-end)))
+    (λ c. (search needs, search (needs, halving-end))))

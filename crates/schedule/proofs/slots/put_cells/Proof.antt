@@ -1,17 +1,15 @@
-use Prim.Native.Nat.{_≤_, _-_}
-use mathlib.Core.Path.{refl}
 use borrow.Author.Needs.{needs}
 use native.Mathlib.Omega.{arith}
-use Rattle.schedule.specs.Steps.{PutBy}
-use Rattle.schedule.proofs.Written.{put-on, put-end, cell-fits, cell-lt}
+use Rattle.planes.proofs.Lowest.{rest-less}
+use Rattle.schedule.proofs.Written.{Putting, putting-start, putting-zeros, putting-low, putting-lt, putting-fits, putting-on, putting-end}
 use Rattle.schedule.proofs.slots.put_cells.Statement.{statement}
 use Rattle.schedule.proofs.slots.put_cells.Tie as tie
 
 abbrev Inv-loop : tie.InvT-loop
-Inv-loop odds k ins outs slot₀ i₀ slot i = (i ≤ k) × PutBy ins outs odds i slot₀ slot
+Inv-loop x base ins outs slot₀ rest₀ slot rest = Putting ins outs base x slot₀ rest slot
 
 abbrev μ-loop : tie.MeasureT-loop
-μ-loop odds k ins outs slot₀ i₀ slot i = k - i
+μ-loop x base ins outs slot₀ rest₀ slot rest = rest
 
 pub put-cells-spec : {M : Type 1} → statement M
 put-cells-spec =
@@ -19,16 +17,16 @@ put-cells-spec =
     (tie.spec
     Inv-loop
     μ-loop
-    (λ c. (omega arith, record { len = refl; same = refl }))
-    (λ c. search needs)
+    (λ c. search (needs, putting-start))
+    (λ c. omega (arith, putting-zeros (c .before .loop .inv) (c .loop-test .taken)))
+    (λ c. omega (arith, putting-zeros (c .before .loop .inv) (c .loop-test .taken)))
+    (λ c. search (needs, putting-low))
     (λ c κs. search needs)
+    (λ c. search (needs, putting-low))
+    (λ c. search (needs, putting-fits))
+    (λ c. search (needs, putting-lt))
     (λ c. search needs)
-    (λ c κs. search needs)
+    (λ c. search (needs, rest-less))
+    (λ c. search (needs, putting-on))
     (λ c. search needs)
-    (λ c. search (needs, cell-fits))
-    (λ c. search (needs, cell-lt))
-    (λ c. search needs)
-    (λ c. search needs)
-    (λ c. (omega arith, search (needs, put-on)))
-    (λ c. search needs)
-    (λ c. search (needs, put-end)))
+    (λ c. search (needs, putting-end)))

@@ -1,22 +1,31 @@
-use mathlib.Core.Path.{refl}
+use Prim.Native.Nat.{_≤_, _-_}
 use borrow.Author.Needs.{needs}
-use Rattle.split.proofs.Gathered.{Gathered, gathered-front}
-use Rattle.schedule.proofs.Written.{all-placed, slot-is}
+use native.Mathlib.Omega.{arith}
+use Rattle.schedule.proofs.Written.{Writing, writing-start, writing-placed, writing-on, writing-end}
 use Rattle.schedule.proofs.slots.write.Statement.{statement}
 use Rattle.schedule.proofs.slots.write.Tie as tie
 
--- what stands at the front of the list of odd counts
-front : (c : tie.After-gather)
-    → let start = c .before .before .before .before .before .before .before in
-    Gathered (start .args .counts .now) (start .args .n) (c .gather .last .1 .1 .0) (c .gather .result)
-front c = gathered-front _ _ _ _ _ (c .gather .ensures .0) (c .gather .ensures .1) refl (c .before .before .before .before .before .before .before .pre .0 .most)
+abbrev Inv-loop : tie.InvT-loop
+Inv-loop cells n ports ins outs slot₀ words w₀ slot w = (w ≤ words) × Writing ins outs cells ports w slot
+
+abbrev μ-loop : tie.MeasureT-loop
+μ-loop cells n ports ins outs slot₀ words w₀ slot w = words - w
 
 pub write-spec : {M : Type 1} → statement M
 write-spec =
     tie.close
     (tie.spec
+    Inv-loop
+    μ-loop
     (λ c κs. search needs)
     (λ c κs. search needs)
-    (λ c κs. let g = front (c .before .before) in search (needs, all-placed))
+    (λ c. (omega arith, search (needs, writing-start)))
     (λ c. search needs)
-    (λ c. let g = front (c .before .before .before .before .before) in search (needs, slot-is)))
+    (λ c. search needs)
+    (λ c. search needs)
+    (λ c κs. search (needs, writing-placed))
+    (λ c. search needs)
+    (λ c. search needs)
+    (λ c. (omega arith, search (needs, writing-on)))
+    (λ c. search needs)
+    (λ c. search (needs, writing-end)))
