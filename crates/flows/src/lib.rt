@@ -18,3 +18,12 @@ pub fn number_of(list: &[u16], f: usize, place: usize) -> usize
     let at = f * 3 + place;
     widths::count(list[at])
 }
+
+// The cells of flow f, as they stand in the list.
+pub fn cells_of(list: &[u16], f: usize) -> u16
+    requires { ⌜ f < flows (now list) ⌝ }
+    ensures { λ r. ⌜ r ≡ numberOf 2 (now (list .entry)) f ⌝ }
+{
+    let at = f * 3 + 2;
+    list[at]
+}

@@ -9,11 +9,13 @@ use lib.ListN.{length, getD, set, length-set, replicate, length-replicate}
 use lib.Seq.{getD-set-same, getD-set-other}
 use borrow.Author.Tests.{eq-eqb, ne-eqb}
 use Rattle.model.specs.Words.{if}
+use Rattle.model.specs.Flows.{flows, numberOf, countsOf}
 use Rattle.model.proofs.Cases.{byEq}
+use Rattle.model.proofs.Flows.{counts-length, counts-at}
 use Rattle.planes.specs.Digits.{digit, binary}
 use Rattle.planes.specs.Planes.{digitIn, countAt, counts}
 use Rattle.planes.specs.Steps.{PutAt, Blank, Stored, Loaded}
-use Rattle.planes.proofs.Lists.{at-end, zeros-at}
+use Rattle.planes.proofs.Lists.{zeros-at}
 use Rattle.planes.proofs.Digits.{digit-none, if-same, if-other, binary-same, binary-none, binary-digits}
 use Rattle.planes.proofs.Counts.{counts-are}
 
@@ -67,42 +69,56 @@ pub storing-end : {x b k p : ℕ} {old planes : List ℕ} → Storing x b p old 
 storing-end s g h = record { len = s .len; put = λ q a z y. s .put q a z (omega arith) }
 
 -- ---- one count
-pub record Loading (matrix : List ℕ) (k p : ℕ) (planes : List ℕ) : Type 0 where
+pub record Loading (list : List ℕ) (k n f : ℕ) (planes : List ℕ) : Type 0 where
+  pub all : n ≡ flows list
+  pub most : f ≤ n
   pub len : length planes ≡ 99
-  pub has : (q b : ℕ) → q < p → q < 576 → b < k → digitIn planes q b ≡ digit (getD matrix q 0) b
-  pub none : (q b : ℕ) → p ≤ q → q < 576 → b < k → digitIn planes q b ≡ 0
+  pub has : (q b : ℕ) → q < f → q < 576 → b < k → digitIn planes q b ≡ digit (numberOf 2 list q) b
+  pub none : (q b : ℕ) → f ≤ q → q < 576 → b < k → digitIn planes q b ≡ 0
 
 pub blank : Blank (replicate 99 0)
 blank = record { len = length-replicate {A = ℕ} 99 0; none = zeros-at 99 }
 
-pub loading-start : {matrix planes : List ℕ} {k : ℕ} → Blank planes → Loading matrix k 0 planes
+pub loading-start : {list planes : List ℕ} {k n : ℕ} → n ≡ flows list → Blank planes → Loading list k n 0 planes
 unfolding digitIn
-loading-start b =
+loading-start e b =
     record {
+      all = e;
+      most = omega arith;
       len = b .len;
       has = λ q a h g l. absurd (omega arith);
       none = λ q a h g l. ap (λ (z : ℕ). digit z (q % 64)) (b .none (a * 9 + q / 64)) ∙ digit-none (q % 64);
     }
 
-pub loading-on : {matrix old planes : List ℕ} {k p : ℕ} → Loading matrix k p old → Stored (getD matrix p 0) k p old planes → Loading matrix k (p + 1) planes
-loading-on {matrix} {old} {planes} {k} {p} g s =
+pub loading-in : {list planes : List ℕ} {k n f : ℕ} → Loading list k n f planes → f < n → f < flows list
+loading-in g h = omega (arith, g .all)
+
+pub loading-low : {list planes : List ℕ} {k n f : ℕ} → Loading list k n f planes → flows list ≤ 528 → f < n → f < 528
+loading-low g l h = omega (arith, g .all)
+
+pub loading-on : {list old planes : List ℕ} {k n f x : ℕ} → Loading list k n f old → f < n → x ≡ numberOf 2 list f → Stored x k f old planes → Loading list k n (f + 1) planes
+loading-on {list} {old} {planes} {k} {n} {f} {x} g here is s =
     record {
+      all = g .all;
+      most = omega arith;
       len = s .len;
       has = λ q b h z l.
-          byEq q p
-          (λ e. omega (arith, s .put q b z l, g .none q b (omega arith) z l, if-same q p (digit (getD matrix p 0) b) e, ap (λ (y : ℕ). digit (getD matrix y 0) b) e))
-          (λ n. omega (arith, s .put q b z l, g .has q b (omega arith) z l, if-other q p (digit (getD matrix p 0) b) n));
-      none = λ q b h z l. omega (arith, s .put q b z l, g .none q b (omega arith) z l, if-other q p (digit (getD matrix p 0) b) (omega arith));
+          byEq q f
+          (λ e. omega (arith, s .put q b z l, g .none q b (omega arith) z l, if-same q f (digit x b) e, ap (λ (y : ℕ). digit y b) is, ap (λ (y : ℕ). digit (numberOf 2 list y) b) e))
+          (λ n. omega (arith, s .put q b z l, g .has q b (omega arith) z l, if-other q f (digit x b) n));
+      none = λ q b h z l. omega (arith, s .put q b z l, g .none q b (omega arith) z l, if-other q f (digit x b) (omega arith));
     }
 
-pub loading-end : {matrix planes : List ℕ} {k p : ℕ} → Loading matrix k p planes → p ≤ length matrix → length matrix ≤ p → length matrix ≤ 528
-    → ((q : ℕ) → q < length matrix → getD matrix q 0 < 2 ^ k) → Loaded matrix k planes
+pub loading-end : {list planes : List ℕ} {k n f : ℕ} → Loading list k n f planes → n ≤ f → flows list ≤ 528
+    → ((q : ℕ) → q < flows list → numberOf 2 list q < 2 ^ k) → Loaded list k planes
 unfolding countAt
-loading-end {matrix} {planes} {k} {p} g a b c h =
-    let all = at-end (λ v. Loading matrix k v planes) g a b in
+loading-end {list} {planes} {k} {n} {f} g b c h =
+    let end : f ≡ flows list = omega (arith, g .all, g .most) in
     record {
       len = g .len;
-      same = counts-are k planes matrix (λ q z.
-          binary-same k (digitIn planes q) (digit (getD matrix q 0)) (λ d y. all .has q d z (omega arith) y) ∙ binary-digits k (getD matrix q 0) (h q z));
-      past = λ q z y. binary-none k (digitIn planes q) (λ d x. all .none q d z y x);
+      same = ap (counts k planes) (sym (counts-length list)) ∙ counts-are k planes (countsOf list) (λ q z.
+          let y : q < flows list = omega (arith, counts-length list) in
+          binary-same k (digitIn planes q) (digit (numberOf 2 list q)) (λ d w. g .has q d (omega arith) (omega arith) w)
+          ∙ binary-digits k (numberOf 2 list q) (h q y) ∙ sym (counts-at list q y));
+      past = λ q z y. binary-none k (digitIn planes q) (λ d x. g .none q d (omega arith) y x);
     }

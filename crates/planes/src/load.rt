@@ -1,9 +1,12 @@
-// The counts of a matrix into planes.
+// The counts of a list into planes.
 use crate::digit::digit_of;
 use crate::digit::put_digit;
+use flows::cells_of;
+use flows::flows_of;
 ghost use Prim.Native.Nat.{ℕ, _^_, _<_, _≤_};
 ghost use mathlib.Core.Path.{_≡_};
-ghost use lib.ListN.{length, getD};
+ghost use lib.ListN.{length};
+ghost use Rattle.model.specs.Flows.{flows, numberOf};
 ghost use Rattle.planes.specs.Steps.{Blank, Stored, Loaded};
 
 // One count, by its k lowest digits.
@@ -21,14 +24,16 @@ fn store(count: u16, k: usize, p: usize, planes: &mut [u64; 99])
     }
 }
 
-pub fn load(matrix: &[u16], k: usize, planes: &mut [u64; 99])
-    requires { ⌜ (k ≤ 11) × (length (now matrix) ≤ 528) × Blank (now planes)
-        × ((p : ℕ) → p < length (now matrix) → getD (now matrix) p 0 < 2 ^ k) ⌝ }
-    ensures { λ _. ⌜ Loaded (now (matrix .entry)) k (now (planes .exit)) ⌝ }
+// The cells of every flow, at the position of its place in the list.
+pub fn load(list: &[u16], k: usize, planes: &mut [u64; 99])
+    requires { ⌜ (k ≤ 11) × (flows (now list) ≤ 528) × Blank (now planes)
+        × ((f : ℕ) → f < flows (now list) → numberOf 2 (now list) f < 2 ^ k) ⌝ }
+    ensures { λ _. ⌜ Loaded (now (list .entry)) k (now (planes .exit)) ⌝ }
 {
-    let mut p: usize = 0;
-    while p < matrix.len() {
-        store(matrix[p], k, p, planes);
-        p += 1;
+    let count = flows_of(list);
+    let mut f: usize = 0;
+    while f < count {
+        store(cells_of(list, f), k, f, planes);
+        f += 1;
     }
 }

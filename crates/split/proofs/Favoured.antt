@@ -1,6 +1,6 @@
 -- What the steps settle is what the definitions settle.
 use Prim.Native.Nat.{ℕ, suc, zero, _+_, _-_, _≤_, _<_}
-use mathlib.Core.Path.{_≡_, refl, sym, ap, ap₂, _∙_, subst, fun-ext}
+use mathlib.Core.Path.{_≡_, refl, sym, ap, ap₂, _∙_, subst}
 use mathlib.Core.Logic.{_≢_}
 use mathlib.Core.List.{List, [], _∷_}
 use mathlib.Core.Bool.{Bool, true, false}
@@ -10,18 +10,19 @@ use lib.ListN.{length, getD, set, take, drop, replicate, length-set, length-repl
 use lib.Seq.{length-take-le, getD-take, take-set-lt, drop-set-lt}
 use borrow.Author.Tests.{eq-eqb, ne-eqb}
 use Rattle.model.specs.Words.{both, upFrom, keep, Every}
-use Rattle.model.specs.Rules.{Side, inputs, outputs, portOf, odd, oddsAt}
-use Rattle.model.specs.Schedule.{partnerIn, partner, walk, groupOf, favouring, level, settleAt, settle, favours, halfBy, halfOf}
+use Rattle.model.specs.Flows.{inputs, outputs}
+use Rattle.model.specs.Rules.{odd, oddsAt}
+use Rattle.model.specs.Schedule.{partnerIn, partner, walk, groupOf, favouring, level, settleAt, settle, favours}
 use Rattle.model.proofs.Cases.{byBool, byEq, byLt}
 use Rattle.model.proofs.Partners.{odd-lt, every-map, keep-every}
 use Rattle.model.proofs.Kept.{keep-same, keep-keep}
 use Rattle.model.proofs.Favouring.{none-favour, settled-less, unsettled-most}
 use Rattle.model.proofs.Walks.{walk-on, walk-off, walk-length}
 use Rattle.model.proofs.Settled.{partner-pairing}
-use Rattle.split.specs.Steps.{lookup, tabled, Sides, Tables, portIn, thoseAt, mateAmong, Linked, walked, bothWays, groupSettled, allSettled, SettledBy}
+use Rattle.split.specs.Steps.{lookup, tabled, Sides, portIn, thoseAt, mateAmong, Linked, walked, bothWays, groupSettled, allSettled, SettledBy}
 use Rattle.split.proofs.Lists.{every-kept}
 use Rattle.split.proofs.Walked.{walk-end}
-use Rattle.split.proofs.Linked.{Mated, none-at}
+use Rattle.split.proofs.Linked.{Mated}
 
 -- ---- walks
 none-zero : (c : List ℕ) (q : ℕ) → favouring 0 c ≤ 0 → q < length c → getD c q 0 ≢ 0
@@ -216,27 +217,3 @@ favoured-is {n} {k} {ins} {outs} {odds} {i} {o} {c} m t len g li lo s =
     ap₂ (λ (j : ℕ) (d : List ℕ). take j d) (sym len) (s .same ∙ ap (λ (l : List ℕ). allSettled i o l z) g′)
     ∙ all-take m i o i′ o′ di do′ (length m) 0 z wz (zeros-blank (length m) 528)
     ∙ ap (settle i′ o′ m (upFrom 0 (length m))) (take-zeros (length m) 528 (omega (arith, t .most)))
-
--- ---- ports that are the same at each position of a matrix
-partner-same : (f g : ℕ → ℕ) (m : List ℕ) → ((p : ℕ) → p < length m → f p ≡ g p) → (p : ℕ) → partner f m p ≡ partner g m p
-partner-same f g m e p =
-    byLt p (length m)
-    (λ h. ap (λ (l : List ℕ). partnerIn l p)
-    (keep-same (λ q. both (odd m q) (eqb (f q) (f p))) (λ q. both (odd m q) (eqb (g q) (g p))) 0 (length m) (λ q k. rw (e q (omega arith), e p h))))
-    (λ h. none-at (oddsAt f m (f p)) p (below f (f p) h) ∙ sym (none-at (oddsAt g m (g p)) p (below g (g p) h)))
-  where
-    below : (f : ℕ → ℕ) (x : ℕ) → length m ≤ p → Every (λ q. q < p) (oddsAt f m x)
-    below f x h =
-        every-map (λ q. (both (odd m q) (eqb (f q) x) ≡ true) × (q < length m)) (λ q. q < p) (λ q k. let a = k .1 in omega arith) (oddsAt f m x)
-        (keep-every (λ q. both (odd m q) (eqb (f q) x)) (length m) 0 (length m) (omega arith))
-
-favours-same : (f g : Side → ℕ → ℕ) (m : List ℕ) → ((s : Side) (p : ℕ) → p < length m → f s p ≡ g s p) → favours f m ≡ favours g m
-unfolding favours
-favours-same f g m e =
-    ap₂ (λ (i o : ℕ → ℕ). settle i o m (upFrom 0 (length m)) (replicate (length m) 0))
-    (fun-ext (partner-same (f inputs) (g inputs) m (e inputs))) (fun-ext (partner-same (f outputs) (g outputs) m (e outputs)))
-
--- the halves that the tables of a matrix give are the matrix's
-pub half-tabled : (h : ℕ) {ports n : ℕ} {ins outs : List ℕ} (m : List ℕ) → Tables ports n ins outs → length m ≡ n → halfOf (tabled ins outs) h m ≡ halfOf (portOf ports) h m
-half-tabled h {ports} {n} {ins} {outs} m t len =
-    ap (halfBy h m) (favours-same (tabled ins outs) (portOf ports) m (λ s p l. t .has s p (omega arith)))

@@ -14,6 +14,7 @@ use borrow.Author.Tests.{eqb-true, eq-eqb, ne-eqb}
 use Rattle.model.specs.Words.{if, keep, Every}
 use Rattle.model.specs.Schedule.{partnerIn}
 use Rattle.model.proofs.Cases.{byBool, byEq, byLt}
+use Rattle.model.proofs.SamePorts.{none-at}
 use Rattle.model.proofs.Partners.{Rising, in-first, in-second, in-rest, rising-weaken, every-map}
 use Rattle.split.specs.Steps.{Odds, Mates, lookup, portIn, thoseAt, mateAmong, Linked}
 use Rattle.split.proofs.Lists.{keep-snoc, every-snoc, every-two, position-low}
@@ -47,12 +48,6 @@ single (a ∷ b ∷ l) = single l
 
 no-cons : (a : ℕ) (l : List ℕ) → a ∷ l ≡ [] → ⊥
 no-cons a l e = let z : _≡_ {A = ℕ} 0 1 = cc in omega arith
-
--- one that is above all has no partner
-pub none-at : (l : List ℕ) (p : ℕ) → Every (λ r. r < p) l → partnerIn l p ≡ p
-none-at [] p a = refl
-none-at (b ∷ []) p a = refl
-none-at (b ∷ d ∷ l) p a = in-rest b d l p (let x = a .0 in omega arith) (let x = a .1 .0 in omega arith) ∙ none-at l p (a .1 .1)
 
 -- none is single: p comes to be
 even-in : (l : List ℕ) (p q : ℕ) → single l ≡ [] → partnerIn (l ++ (p ∷ [])) q ≡ partnerIn l q

@@ -6,7 +6,7 @@ use mathlib.Core.List.{List, [], _∷_}
 use lib.Dec.{eqb}
 use lib.ListN.{length, getD, set, take}
 use Rattle.model.specs.Words.{if, bit, keep, Every}
-use Rattle.model.specs.Rules.{Side, inputs, outputs, portOf}
+use Rattle.model.specs.Flows.{Side, inputs, outputs}
 use Rattle.model.specs.Schedule.{partnerIn, walk, favouring, level, favours}
 use Rattle.model.proofs.Partners.{Rising}
 use Rattle.planes.specs.Planes.{digitAt, counts, Mask}
@@ -29,13 +29,6 @@ tabled ins outs outputs = lookup outs
 pub record Sides (n : ℕ) (ins outs : List ℕ) : Type 0 where
   pub most : n ≤ 528
   pub low : (s : Side) (p : ℕ) → p < n → tabled ins outs s p < 16
-
--- Two tables have the ports of the first n positions of a matrix.
-pub record Tables (ports n : ℕ) (ins outs : List ℕ) : Type 0 where
-  pub few : ports ≤ 16
-  pub most : n ≤ 528
-  pub low : (s : Side) (p : ℕ) → p < n → portOf ports s p < ports
-  pub has : (s : Side) (p : ℕ) → p < n → tabled ins outs s p ≡ portOf ports s p
 
 -- The first k of a list are positions; and they rise.
 pub record Positions (list : List ℕ) (k : ℕ) : Type 0 where

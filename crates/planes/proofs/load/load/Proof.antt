@@ -1,16 +1,14 @@
-use Prim.Native.Nat.{_≤_, _-_}
+use Prim.Native.Nat.{_-_}
 use borrow.Author.Needs.{needs}
-use native.Mathlib.Omega.{arith}
-use lib.ListN.{length}
-use Rattle.planes.proofs.Stored.{Loading, loading-start, loading-on, loading-end}
+use Rattle.planes.proofs.Stored.{Loading, loading-start, loading-in, loading-low, loading-on, loading-end}
 use Rattle.planes.proofs.load.load.Statement.{statement}
 use Rattle.planes.proofs.load.load.Tie as tie
 
 abbrev Inv-loop : tie.InvT-loop
-Inv-loop matrix k planes₀ p₀ planes p = (p ≤ length matrix) × Loading matrix k p planes
+Inv-loop list k planes₀ count f₀ planes f = Loading list k count f planes
 
 abbrev μ-loop : tie.MeasureT-loop
-μ-loop matrix k planes₀ p₀ planes p = length matrix - p
+μ-loop list k planes₀ count f₀ planes f = count - f
 
 pub load-spec : {M : Type 1} → statement M
 load-spec =
@@ -18,11 +16,11 @@ load-spec =
     (tie.spec
     Inv-loop
     μ-loop
-    (λ c. (omega arith, search (needs, loading-start)))
-    (λ c. search needs)
-    (λ c. search needs)
     (λ c κs. search needs)
+    (λ c. search (needs, loading-start))
+    (λ c κs. search (needs, loading-in))
+    (λ c κs. (search needs, search (needs, loading-low), search needs))
     (λ c. search needs)
     (λ c. search needs)
-    (λ c. (omega arith, search (needs, loading-on)))
+    (λ c. search (needs, loading-on))
     (λ c. search (needs, loading-end)))
