@@ -1,13 +1,22 @@
 // A list of flows: how many it has, and the numbers of each, by one stride.
 ghost use mathlib.Core.Path.{_≡_};
-ghost use Prim.Native.Nat.{_<_, _≤_};
+ghost use mathlib.Core.List.{[], _∷_};
+ghost use Prim.Native.Nat.{_*_, _<_, _≤_};
+ghost use lib.ListN.{length};
+ghost use lib.Seq.{sets};
 ghost use Rattle.model.specs.Flows.{stride, flows, numberOf};
+
+// The numbers of a flow: its input, its output, its cells.
+pub const STRIDE: usize = 3;
+
+// The numbers of the longest list, of 512 flows.
+pub const LIST_MOST: usize = 512 * STRIDE;
 
 // How many flows a list has.
 pub fn flows_of(list: &[u16]) -> usize
     ensures { λ r. ⌜ r ≡ flows (now (list .entry)) ⌝ }
 {
-    list.len() / 3
+    list.len() / STRIDE
 }
 
 // The number at a place among those of flow f, from 0: its input, its output, its cells.
@@ -15,7 +24,7 @@ pub fn number_of(list: &[u16], f: usize, place: usize) -> usize
     requires { ⌜ (f < flows (now list)) × (place < stride) ⌝ }
     ensures { λ r. ⌜ (r ≡ numberOf place (now (list .entry)) f) × (r ≤ 65535) ⌝ }
 {
-    let at = f * 3 + place;
+    let at = f * STRIDE + place;
     widths::count(list[at])
 }
 
@@ -24,6 +33,31 @@ pub fn cells_of(list: &[u16], f: usize) -> u16
     requires { ⌜ f < flows (now list) ⌝ }
     ensures { λ r. ⌜ r ≡ numberOf 2 (now (list .entry)) f ⌝ }
 {
-    let at = f * 3 + 2;
+    let at = f * STRIDE + 2;
     list[at]
+}
+
+// A number at the width of the list.
+fn narrow(x: usize) -> u16
+    requires { ⌜ x ≤ 65535 ⌝ }
+    ensures { λ r. ⌜ r ≡ x ⌝ }
+{
+    x as u16
+}
+
+// Puts a flow behind so many others.
+pub fn put_flow(
+    list: &mut [u16; LIST_MOST],
+    flows: usize,
+    input: usize,
+    output: usize,
+    cells: usize,
+)
+    requires { ⌜ (length (now list) ≡ 1536) × (flows < 512) × (input ≤ 65535) × (output ≤ 65535) × (cells ≤ 65535) ⌝ }
+    ensures { λ _. ⌜ now (list .exit) ≡ sets (now (list .entry)) (flows * stride) (input ∷ output ∷ cells ∷ []) ⌝ }
+{
+    let at = flows * STRIDE;
+    list[at] = narrow(input);
+    list[at + 1] = narrow(output);
+    list[at + 2] = narrow(cells);
 }

@@ -4,9 +4,8 @@ use mathlib.Core.Path.{_≡_, refl, sym, ap, subst, _∙_}
 use mathlib.Core.List.{List, [], _∷_, _++_}
 use mathlib.Core.Bool.{Bool, true, false, not}
 use native.Mathlib.Omega.{arith}
-use native.Mathlib.Numerals.{add-one}
 use lib.Dec.{eqb}
-use lib.ListN.{length, set, take, drop, replicate, length-drop, length-append, length-replicate, drop-of-length-le, take-append-drop}
+use lib.ListN.{length, take, drop, replicate, length-drop, length-append, length-replicate, drop-of-length-le, take-append-drop}
 use lib.Seq.{sets, length-sets, sets-eq, take-at, drop-at, drop-drop, length-take-le}
 use borrow.Author.Tests.{le-leb, lt-leb, not-true, not-false}
 use Rattle.model.specs.Words.{within}
@@ -134,12 +133,6 @@ drop-replicate : (n k : ℕ) (a : ℕ) → drop n (replicate k a) ≡ replicate 
 drop-replicate zero k a = let e : k ≡ k - 0 = omega arith in ap (λ z. replicate z a) e
 drop-replicate (suc n) zero a = let e : 0 ≡ 0 - suc n = omega arith in ap (λ z. replicate z a) e
 drop-replicate (suc n) (suc k) a = let e : k - n ≡ suc k - suc n = omega arith in drop-replicate n k a ∙ ap (λ z. replicate z a) e
-
--- the three numbers of a flow
-pub put-three : (list : List ℕ) (at i o m a b c : ℕ) → a ≡ i → b ≡ o → c ≡ m → set (set (set list at a) (at + 1) b) (at + 2) c ≡ sets list at (i ∷ o ∷ m ∷ [])
-put-three list at i o m a b c d e f =
-    let two : at + 2 ≡ suc (suc at) = omega arith in
-    rw (d, e, f, add-one at, two)
 
 pub reached-start : (ports slots at : ℕ) (s list : List ℕ) → Fresh ports slots list → at ≤ length s
     → Reached (readPairs ports slots 3 [] (lines (drop at s))) ports slots s list 0 at

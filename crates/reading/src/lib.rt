@@ -1,16 +1,13 @@
 // The reading of a sheet: what its lines ask for.
 ghost use mathlib.Core.Path.{_≡_};
-ghost use mathlib.Core.List.{[], _∷_};
-ghost use Prim.Native.Nat.{_*_, _≤_, _<_};
+ghost use mathlib.Core.List.{[]};
+ghost use Prim.Native.Nat.{_≤_, _<_};
 ghost use lib.ListN.{length, drop};
-ghost use lib.Seq.{sets};
-ghost use Rattle.model.specs.Flows.{stride};
 ghost use Rattle.model.specs.Sheet.{lines, readPorts, readPairs};
 ghost use Rattle.reading.specs.Reading.{starts, DigitAt, NumberOf, LineOf, FormOf, PortsOf, SlotsOf, PairOf, SheetOf, Fresh, listLeft};
+use flows::LIST_MOST;
+use flows::put_flow;
 use model::Refusal;
-
-// The numbers of the longest list, three to each of 512 flows.
-pub const LIST_MOST: usize = 1536;
 
 // A number at a place of the sheet, and the place behind it.
 enum NumberRead {
@@ -51,14 +48,6 @@ pub enum Reading {
         flows: usize,
     },
     Refused(Refusal),
-}
-
-// A number at the width of the list.
-fn narrow(x: usize) -> u16
-    requires { ⌜ x ≤ 65535 ⌝ }
-    ensures { λ r. ⌜ r ≡ x ⌝ }
-{
-    x as u16
 }
 
 // A word stands at a place of the sheet.
@@ -241,17 +230,6 @@ fn pair_line(sheet: &[u8], at: usize, ports: usize, flows: usize) -> Reading
         cells,
         next,
     }
-}
-
-// Puts a flow behind so many others.
-fn put_flow(list: &mut [u16; LIST_MOST], flows: usize, input: usize, output: usize, cells: usize)
-    requires { ⌜ (length (now list) ≡ 1536) × (flows < 512) × (input ≤ 65535) × (output ≤ 65535) × (cells ≤ 65535) ⌝ }
-    ensures { λ _. ⌜ now (list .exit) ≡ sets (now (list .entry)) (flows * stride) (input ∷ output ∷ cells ∷ []) ⌝ }
-{
-    let at = flows * 3;
-    list[at] = narrow(input);
-    list[at + 1] = narrow(output);
-    list[at + 2] = narrow(cells);
 }
 
 // The pair lines in turn, each one flow more of the list.

@@ -6,11 +6,12 @@ ghost use Rattle.model.specs.Flows.{stride};
 ghost use Rattle.model.specs.Sheet.{loads, overloaded, readSheet, response};
 ghost use Rattle.printing.specs.Printing.{Printed};
 ghost use Rattle.sheet.specs.Response.{Readable, bytesOf, Printable, Answered, Whole};
+use flows::LIST_MOST;
+use flows::STRIDE;
 use model::Built;
 use model::Refusal;
 use printing::put_frame;
 use printing::put_refusal;
-use reading::LIST_MOST;
 use reading::Reading;
 use reading::read_lines;
 
@@ -28,7 +29,7 @@ fn build_loads(ports: usize, slots: usize, flows: usize, list: &[u16], frame: &m
     requires { ⌜ Readable ports slots flows (now list) (now frame) ⌝ }
     ensures { λ r. ⌜ Answered (overloaded (loads ports slots (take (flows * stride) (now (list .entry))))) (now (frame .exit)) r ⌝ }
 {
-    let numbers = flows * 3;
+    let numbers = flows * STRIDE;
     let size = slots * ports;
     let built = schedule::build(ports, slots, &list[..numbers], &mut frame[..size]);
     let Built::Refused(refusal) = built else {

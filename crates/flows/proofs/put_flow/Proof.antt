@@ -1,7 +1,7 @@
-use Rattle.reading.proofs.Lines.{put-three}
+use Rattle.flows.proofs.Puts.{put-three}
 use borrow.Author.Needs.{needs}
-use Rattle.reading.proofs.put_flow.Statement.{statement}
-use Rattle.reading.proofs.put_flow.Tie as tie
+use Rattle.flows.proofs.put_flow.Statement.{statement}
+use Rattle.flows.proofs.put_flow.Tie as tie
 
 pub put-flow-spec : {M : Type 1} → statement M
 put-flow-spec =

@@ -1,0 +1,2 @@
+-- Laws of a list that is written.
+pub mod Puts

@@ -1,0 +1,14 @@
+-- A flow put into a list, number by number.
+use Prim.Native.Nat.{ℕ, suc, _+_}
+use mathlib.Core.Path.{_≡_}
+use mathlib.Core.List.{List, [], _∷_}
+use native.Mathlib.Omega.{arith}
+use native.Mathlib.Numerals.{add-one}
+use lib.ListN.{set}
+use lib.Seq.{sets}
+
+-- the three numbers of a flow
+pub put-three : (list : List ℕ) (at i o m a b c : ℕ) → a ≡ i → b ≡ o → c ≡ m → set (set (set list at a) (at + 1) b) (at + 2) c ≡ sets list at (i ∷ o ∷ m ∷ [])
+put-three list at i o m a b c d e f =
+    let two : at + 2 ≡ suc (suc at) = omega arith in
+    rw (d, e, f, add-one at, two)
