@@ -9,6 +9,7 @@ ghost use Rattle.model.specs.Flows.{flows};
 ghost use Rattle.model.specs.Refusals.{levels, portsWithin, bad-flow, lowestAbove, answered, admitted};
 ghost use Rattle.admission.specs.Lists.{ListAnswer, Taken};
 ghost use Rattle.admission.specs.Overloads.{valueAt, EveryLoad, decided};
+use flows::STRIDE;
 use flows::flows_of;
 use flows::number_of;
 use model::Answer;
@@ -96,7 +97,7 @@ pub fn check_list(ports: usize, slots: usize, list: &[u16]) -> Answer
     if bad_slots(slots) {
         return Answer::Refused(Refusal::Slots);
     }
-    if list.len() % 3 != 0 {
+    if list.len() % STRIDE != 0 {
         return Answer::Refused(Refusal::ListLength);
     }
     if 512 < flows_of(list) {
