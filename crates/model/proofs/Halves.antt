@@ -1,6 +1,6 @@
 -- Loads of halves: for each flow, input and output and for the total they sum to the whole and differ by at most 1, and what
 -- fits twice the slots splits into what fits them.
-use Prim.Native.Nat.{ℕ, _+_, _*_, _/_, _≤_}
+use Prim.Native.Nat.{ℕ, _+_, _*_, _/_, _≤_, _<_}
 use mathlib.Core.Path.{_≡_, refl, sym, ap, _∙_}
 use mathlib.Core.Logic.{_≢_}
 use mathlib.Core.List.{List, [], _∷_}
@@ -14,7 +14,7 @@ use Rattle.model.specs.Flows.{Side, inputs, outputs, Class, flow, input,
 use Rattle.model.specs.Rules.{odd, oddsAt, Partners, these, later, favoursFirst, Split}
 use Rattle.model.specs.Schedule.{favouring, favours, halfOf}
 use Rattle.model.proofs.Cases.{byBool, byLt}
-use Rattle.model.proofs.Sums.{sum-ext, sum-add, sum-zero, sum-one}
+use Rattle.model.proofs.Sums.{sum-ext, sum-add, sum-zero, sum-one, sum-has}
 use Rattle.model.proofs.Kept.{sumOver, kept-sum}
 use Rattle.model.proofs.Partners.{every-map, AtPort, odds-every}
 use Rattle.model.proofs.Favouring.{favouring-sum}
@@ -87,6 +87,13 @@ load-flow f port m =
     byLt f (length m)
     (λ h. sum-one (length m) f _ h (λ p l n. rw (ne-eqb p f n)) ∙ rw (eq-eqb f f refl))
     (λ h. sum-zero (length m) _ (λ p l. rw (ne-eqb p f (omega arith))) ∙ sym (List·getD-eq-default m 0 h))
+
+-- and no load is below the count of a flow of its class
+pub load-has : (c : Class) (port : Side → ℕ → ℕ) (m : List ℕ) (f : ℕ) → f < length m → isOf c port f ≡ true → getD m f 0 ≤ loadIn c port m
+unfolding loadIn
+load-has c port m f h e =
+    let here : if (isOf c port f) (getD m f 0) 0 ≡ getD m f 0 = rw e in
+    omega (arith, here, sum-has (length m) f (λ p. if (isOf c port p) (getD m p 0) 0) h)
 
 pub load-add : (c : Class) (port : Side → ℕ → ℕ) (m a b : List ℕ) → length a ≡ length m → length b ≡ length m
     → ((p : ℕ) → getD a p 0 + getD b p 0 ≡ getD m p 0) → loadIn c port a + loadIn c port b ≡ loadIn c port m

@@ -50,17 +50,18 @@ put-same f g n e [] slot al = refl
 put-same f g n e (p ∷ l) slot al =
     ap (λ (x : ℕ). put f l (set slot x (suc p))) (e p (al .0)) ∙ put-same f g n e l (set slot (g inputs p) (suc p)) (al .1)
 
-slot-same : (ports : ℕ) (f g : Side → ℕ → ℕ) (m : List ℕ) → ((s : Side) (p : ℕ) → p < length m → f s p ≡ g s p) → slotOf ports f m ≡ slotOf ports g m
+-- a slot is written by the inputs alone
+pub slot-same : (ports : ℕ) (f g : Side → ℕ → ℕ) (m : List ℕ) → ((p : ℕ) → p < length m → f inputs p ≡ g inputs p) → slotOf ports f m ≡ slotOf ports g m
 unfolding slotOf
 slot-same ports f g m e =
-    put-same f g (length m) (e inputs) (keep (odd m) (upFrom 0 (length m))) (replicate ports 0)
+    put-same f g (length m) e (keep (odd m) (upFrom 0 (length m))) (replicate ports 0)
     (every-map (λ p. (odd m p ≡ true) × (p < length m)) (λ p. p < length m) (λ p k. k .1) (keep (odd m) (upFrom 0 (length m)))
     (keep-every (odd m) (length m) 0 (length m) (omega arith)))
 
 pub frame-same : (ports : ℕ) (f g : Side → ℕ → ℕ) (k : ℕ) (m : List ℕ) → ((s : Side) (p : ℕ) → p < length m → f s p ≡ g s p)
     → frameOf ports f k m ≡ frameOf ports g k m
 unfolding frameOf
-frame-same ports f g zero m e = slot-same ports f g m e
+frame-same ports f g zero m e = slot-same ports f g m (e inputs)
 frame-same ports f g (suc k) m e =
     ap (λ (c : List ℕ). frameOf ports f k (halfBy 1 m c) ++ frameOf ports f k (halfBy 2 m c)) (favours-same f g m e)
     ∙ ap₂ _++_ (frame-same ports f g k (halfOf g 1 m) (half 1)) (frame-same ports f g k (halfOf g 2 m) (half 2))

@@ -1,70 +1,74 @@
--- The counts of a load that fits are those of a block, and what is made of them is made of the load.
-use Prim.Native.Nat.{ℕ, suc, _+_, _*_, _/_, _%_, _^_, _≤_, _<_}
+-- The counts of a load that fits are those of a block, and what is made of them is made of the list.
+use Prim.Native.Nat.{ℕ, suc, _+_, _*_, _^_, _≤_, _<_}
 use mathlib.Core.Path.{_≡_, refl, sym, ap, ap₂, _∙_}
 use mathlib.Core.List.{List}
 use native.Mathlib.Omega.{arith}
 use native.Mathlib.Numerals.{add-one}
-use native.Mathlib.Nat.{mul-le-mul, div-add-mod'}
-use lib.ListN.{length, getD, replicate, length-replicate}
-use Rattle.model.specs.Loads.{input, countOf, load, Fits}
-use Rattle.model.specs.Rules.{inputs, outputs}
+use lib.ListN.{length, getD}
+use borrow.Author.Tests.{eq-eqb}
+use Rattle.model.specs.Flows.{flows, numberOf, inputs, portOf, countsOf, input}
 use Rattle.model.specs.Refusals.{levels}
 use Rattle.model.specs.Schedule.{settled, frameOf}
-use Rattle.model.proofs.Levels.{pow-less, levels-power}
-use Rattle.model.proofs.Halves.{port-low}
-use Rattle.model.proofs.Sums.{sum-has}
+use Rattle.model.specs.Build.{frameFor}
+use Rattle.model.proofs.Levels.{pow-less, power-level}
+use Rattle.model.proofs.Flows.{counts-length, counts-at}
+use Rattle.model.proofs.Halves.{load-has}
+use Rattle.model.proofs.Demand2.{well-placed, Accepts}
+use Rattle.model.proofs.SamePorts.{frame-same}
 use Rattle.planes.specs.Planes.{countAt, counts, Block}
 use Rattle.planes.specs.Steps.{Loaded}
-use Rattle.planes.proofs.Counts.{counts-at}
-use Rattle.schedule.specs.Fill.{Sized, Fillable}
+use Rattle.planes.proofs.Counts as in-planes
+use Rattle.split.specs.Steps.{tabled}
+use Rattle.schedule.specs.Steps.{Tabled}
 
-pub square-most : {ports slots : ℕ} {matrix buffer : List ℕ} → Fillable ports slots matrix buffer → length matrix ≤ 256
-square-most f = omega (arith, f .sized .square, mul-le-mul (f .sized .high) (f .sized .high))
-
-module _ {ports slots : ℕ} {matrix buffer : List ℕ} (f : Fillable ports slots matrix buffer) where
-  -- a count is at most the load of its input
-  count-most : (p : ℕ) → p < length matrix → getD matrix p 0 ≤ slots
-  unfolding load
-  count-most p h =
-      let sq : p < ports * ports = omega (arith, f .sized .square) in
-      let i-lt = port-low inputs (f .sized .low) sq in
-      let o-lt = port-low outputs (f .sized .low) sq in
-      let has = sum-has ports (p % ports) (λ o. countOf ports matrix (p / ports) o) o-lt in
-      omega (arith, f .fits (p / ports) i-lt .0, has, ap (λ (x : ℕ). getD matrix x 0) (div-add-mod' p ports))
+module _ {ports slots : ℕ} {list buffer : List ℕ} (f : Accepts ports slots list buffer) where
+  -- the cells of a flow are at most the load of its input
+  cells-most : (q : ℕ) → q < flows list → numberOf 2 list q ≤ slots
+  cells-most q h =
+      let i-lt = well-placed (f .well) q h in
+      omega (arith, f .fits (portOf list inputs q) i-lt .0, load-has (input (portOf list inputs q)) (portOf list) (countsOf list) q (omega (arith, counts-length list)) (eq-eqb (portOf list inputs q) (portOf list inputs q) refl), counts-at list q h)
 
   power : slots ≡ 2 ^ levels slots
-  power = levels-power slots (omega (arith, f .sized .power))
+  power = f .well .power .is ∙ ap (λ (k : ℕ). 2 ^ k) (sym (power-level (f .well .power)))
 
-  pub count-room : (m : ℕ) → m ≡ levels slots → (p : ℕ) → p < length matrix → getD matrix p 0 < 2 ^ (m + 1)
-  count-room m e p h = omega (arith, count-most p h, power, ap (λ (k : ℕ). 2 ^ k) e, pow-less m (m + 1) (omega arith))
+  pub levels-low : levels slots ≤ 10
+  levels-low = omega (arith, power-level (f .well .power), f .well .power .most)
 
-  pub loaded-block : {m : ℕ} {planes : List ℕ} → m ≡ levels slots → Loaded matrix (m + 1) planes → Block m (length matrix) planes
-  loaded-block {m} {planes} e g =
+  pub cells-room : (m : ℕ) → m ≡ levels slots → (q : ℕ) → q < flows list → numberOf 2 list q < 2 ^ (m + 1)
+  cells-room m e q h = omega (arith, cells-most q h, power, ap (λ (k : ℕ). 2 ^ k) e, pow-less m (m + 1) (omega arith))
+
+  pub loaded-block : {m n : ℕ} {planes : List ℕ} → m ≡ levels slots → n ≡ flows list → Loaded list (m + 1) planes → Block m n planes
+  loaded-block {m} {n} {planes} e d g =
       let l = rw add-one at g in
+      let few = f .well .few in
       record {
-        few = omega (arith, square-most f);
+        few = omega arith;
         most = λ p h.
             omega (
               arith,
-              sym (counts-at (suc m) planes (length matrix) p h),
+              sym (in-planes.counts-at (suc m) planes (flows list) p (omega arith)),
               ap (λ (c : List ℕ). getD c p 0) (l .same),
-              count-most p h,
+              counts-at list p (omega arith),
+              cells-most p (omega arith),
               power,
               ap (λ (k : ℕ). 2 ^ k) e,
             );
-        past = λ p a h. l .past p a (omega (arith, square-most f));
+        past = λ p a h. l .past p (omega arith) (omega arith);
       }
 
   pub frame-size : {m : ℕ} → m ≡ levels slots → length buffer ≡ 2 ^ m * ports
-  frame-size e = f .sized .size ∙ ap (λ (x : ℕ). x * ports) (power ∙ ap (λ (k : ℕ). 2 ^ k) (sym e))
+  frame-size e = f .size ∙ ap (λ (x : ℕ). x * ports) (power ∙ ap (λ (k : ℕ). 2 ^ k) (sym e))
 
--- what the planes give is what the matrix gives
-module _ (ports slots : ℕ) {m : ℕ} {matrix planes : List ℕ} (e : m ≡ levels slots) (g : Loaded matrix (m + 1) planes) where
-  same-counts : counts (suc m) planes (length matrix) ≡ matrix
-  same-counts = (rw add-one at g) .same
+-- what the planes and the tables give is what the list gives
+module _ (ports slots : ℕ) {m n : ℕ} {list planes : List ℕ} (e : m ≡ levels slots) (d : n ≡ flows list) (g : Loaded list (m + 1) planes) where
+  same-counts : counts (suc m) planes n ≡ countsOf list
+  same-counts = ap (counts (suc m) planes) d ∙ (rw add-one at g) .same
 
-  pub all-settled : {r : ℕ} → r ≡ settled m (counts (suc m) planes (length matrix)) → r ≡ settled (levels slots) matrix
+  pub all-settled : {r : ℕ} → r ≡ settled m (counts (suc m) planes n) → r ≡ settled (levels slots) (countsOf list)
   all-settled f = f ∙ ap₂ settled e same-counts
 
-  pub all-filled : {bytes : List ℕ} → bytes ≡ frameOf ports m (counts (suc m) planes (length matrix)) → bytes ≡ frameOf ports (levels slots) matrix
-  all-filled f = f ∙ ap₂ (frameOf ports) e same-counts
+  pub all-filled : {ins outs entries : List ℕ} → Tabled list ins outs → entries ≡ frameOf ports (tabled ins outs) m (counts (suc m) planes n) → entries ≡ frameFor ports slots list
+  all-filled {ins} {outs} t f =
+      f
+      ∙ ap₂ (frameOf ports (tabled ins outs)) e same-counts
+      ∙ frame-same ports (tabled ins outs) (portOf list) (levels slots) (countsOf list) (λ s p h. t .has s p (omega (arith, counts-length list)))

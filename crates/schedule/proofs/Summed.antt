@@ -7,7 +7,8 @@ use native.Mathlib.Omega.{arith}
 use native.Mathlib.Nat.{mul-le-mul, pow-le-pow-right}
 use lib.ListN.{length, getD}
 use Rattle.model.specs.Words.{sumTo}
-use Rattle.model.specs.Rules.{portOf, odd}
+use Rattle.model.specs.Flows.{Side}
+use Rattle.model.specs.Rules.{odd}
 use Rattle.model.specs.Schedule.{halfOf, oddShares, settled}
 use Rattle.model.proofs.Cases.{byEq, is-yes, is-no}
 use Rattle.model.proofs.Sums.{sum-ext, sum-zero}
@@ -43,23 +44,23 @@ half-low m k n planes f v t e =
     let number : length (counts k planes n) ≤ 528 = omega (arith, counts-length k planes n) in
     omega (arith, settled-room (m - 1) (counts k planes n), mul-le-mul number size)
 
-pub summed : (ports m n : ℕ) (planes a b : List ℕ) (h f g : ℕ) → m ≢ 0 → h ≡ length (oddsIn n planes)
-    → a ≡ halfOf (portOf ports) 1 (counts (suc m) planes n) → b ≡ halfOf (portOf ports) 2 (counts (suc m) planes n)
+pub summed : (port : Side → ℕ → ℕ) (m n : ℕ) (planes a b : List ℕ) (h f g : ℕ) → m ≢ 0 → h ≡ length (oddsIn n planes)
+    → a ≡ halfOf port 1 (counts (suc m) planes n) → b ≡ halfOf port 2 (counts (suc m) planes n)
     → f ≡ settled (m - 1) a → g ≡ settled (m - 1) b → h + f + g ≡ settled m (counts (suc m) planes n)
-summed ports m n planes a b h f g some eh ha hb ef eg =
+summed port m n planes a b h f g some eh ha hb ef eg =
     let c : List ℕ = counts (suc m) planes n in
     let odds : ℕ → ℕ = λ p. getD c p 0 % 2 in
     let up : suc (m - 1) ≡ m = omega arith in
     let here : h ≡ sumTo (length c) odds = eh ∙ odds-number m n planes ∙ ap (λ j. sumTo j odds) (sym (counts-length (suc m) planes n)) in
-    let front : f ≡ settled (m - 1) (halfOf (portOf ports) 1 c) = ef ∙ ap (settled (m - 1)) ha in
-    let back : g ≡ settled (m - 1) (halfOf (portOf ports) 2 c) = eg ∙ ap (settled (m - 1)) hb in
-    let whole = settled-halves (portOf ports) (m - 1) c (halfOf (portOf ports) 1 c) (halfOf (portOf ports) 2 c) (split-is (portOf ports) c) in
+    let front : f ≡ settled (m - 1) (halfOf port 1 c) = ef ∙ ap (settled (m - 1)) ha in
+    let back : g ≡ settled (m - 1) (halfOf port 2 c) = eg ∙ ap (settled (m - 1)) hb in
+    let whole = settled-halves port (m - 1) c (halfOf port 1 c) (halfOf port 2 c) (split-is port c) in
     omega (arith, here, front, back, whole, ap (λ (j : ℕ). settled j c) up)
 
 -- a block of two slots has none within
 pub settled-two : (m n : ℕ) (planes : List ℕ) (h : ℕ) → m ≡ 1 → h ≡ length (oddsIn n planes) → h ≡ settled m (counts (suc m) planes n)
 settled-two m n planes h e eh =
     let c : List ℕ = counts (suc m) planes n in
-    let a : List ℕ = halfOf (portOf 1) 1 c in
-    let b : List ℕ = halfOf (portOf 1) 2 c in
-    omega (arith, summed 1 m n planes a b h 0 0 (omega arith) eh refl refl (none-settled (m - 1) a (omega arith)) (none-settled (m - 1) b (omega arith)))
+    let a : List ℕ = halfOf (λ s p. 0) 1 c in
+    let b : List ℕ = halfOf (λ s p. 0) 2 c in
+    omega (arith, summed (λ s p. 0) m n planes a b h 0 0 (omega arith) eh refl refl (none-settled (m - 1) a (omega arith)) (none-settled (m - 1) b (omega arith)))

@@ -1,28 +1,25 @@
--- One more byte cleared, one more cell written, one more word of them, and the slot that comes of it.
+-- One more entry cleared, one more cell written, one more word of them, and the slot that comes of it.
 use Prim.Native.Nat.{ℕ, suc, zero, _+_, _*_, _/_, _%_, _^_, _≤_, _<_}
 use mathlib.Core.Path.{_≡_, refl, sym, ap, _∙_}
 use mathlib.Core.Logic.{_≢_}
 use mathlib.Core.List.{List, [], _∷_, _++_, append-nil}
-use mathlib.Core.Bool.{Bool}
 use native.Mathlib.Omega.{arith}
-use mir.Syntax.{w8}
-use mir.Val.{Fits}
+use native.Mathlib.Numerals.{add-one}
 use lib.Count.{trailingZeros}
 use lib.ListN.{length, getD, set, drop, replicate, length-set, length-replicate}
 use lib.Seq.{drop-length}
 use borrow.Author.Fill.{fill-more}
 use Rattle.model.specs.Words.{upFrom, keep, Every}
-use Rattle.model.specs.Rules.{inputs, outputs, odd}
+use Rattle.model.specs.Rules.{odd}
 use Rattle.model.specs.Schedule.{put, slotOf}
-use Rattle.model.proofs.Cases.{byBool}
 use Rattle.model.proofs.Partners.{every-map}
 use Rattle.planes.specs.Digits.{places}
 use Rattle.planes.specs.Planes.{counts, oddsIn, wordsOf, Ends}
 use Rattle.planes.proofs.Lowest.{rest, places-none, next-place, next-zeros, next-fits}
 use Rattle.planes.proofs.Placed.{word-below, words-odds, odds-past}
 use Rattle.planes.proofs.Counts.{counts-length, odds-are}
-use Rattle.split.specs.Steps.{lookup, Tables}
-use Rattle.schedule.specs.Steps.{Placed, putBy, PutBy}
+use Rattle.split.specs.Steps.{lookup}
+use Rattle.schedule.specs.Steps.{Table, atInputs, Placed, PutBy}
 
 -- ---- clear
 pub record Cleared (ports : ℕ) (s₀ : List ℕ) (i : ℕ) (s : List ℕ) : Type 0 where
@@ -44,28 +41,28 @@ cleared-end {ports} {s₀} {s} {i} b h l =
     b .same ∙ rw (e, drop-length s₀) (append-nil (replicate (length s₀) 0)) ∙ ap (λ (j : ℕ). replicate j 0) l
 
 -- ---- cells
-put-append : (ins outs l k s : List ℕ) → putBy ins outs (l ++ k) s ≡ putBy ins outs k (putBy ins outs l s)
-put-append ins outs [] k s = refl
-put-append ins outs (x ∷ l) k s = put-append ins outs l k (set s (lookup ins x) (lookup outs x + 1))
+put-append : (ins l k s : List ℕ) → put (atInputs ins) (l ++ k) s ≡ put (atInputs ins) k (put (atInputs ins) l s)
+put-append ins [] k s = refl
+put-append ins (x ∷ l) k s = put-append ins l k (set s (lookup ins x) (suc x))
 
 -- the digits of a word that are left, and the slot that comes of writing them
-pub record Putting (ins outs : List ℕ) (base x : ℕ) (s : List ℕ) (left : ℕ) (t : List ℕ) : Type 0 where
+pub record Putting (ins : List ℕ) (base x : ℕ) (s : List ℕ) (left : ℕ) (t : List ℕ) : Type 0 where
   pub len : length t ≡ length s
   pub fits : left < 2 ^ 64
-  pub placed : Placed ins outs (length s) (places base 64 left)
-  pub same : putBy ins outs (places base 64 left) t ≡ putBy ins outs (places base 64 x) s
+  pub placed : Placed ins (length s) (places base 64 left)
+  pub same : put (atInputs ins) (places base 64 left) t ≡ put (atInputs ins) (places base 64 x) s
 
-pub putting-start : {ins outs s : List ℕ} {base x : ℕ} → Placed ins outs (length s) (places base 64 x) → x < 2 ^ 64 → Putting ins outs base x s x s
+pub putting-start : {ins s : List ℕ} {base x : ℕ} → Placed ins (length s) (places base 64 x) → x < 2 ^ 64 → Putting ins base x s x s
 putting-start p f = record { len = refl; fits = f; placed = p; same = refl }
 
-module _ {ins outs s t : List ℕ} {base x left : ℕ} (g : Putting ins outs base x s left t) (some : left ≢ 0) where
+module _ {ins s t : List ℕ} {base x left : ℕ} (g : Putting ins base x s left t) (some : left ≢ 0) where
   abbrev at : ℕ
   at = base + trailingZeros 64 left
 
   first : places base 64 left ≡ at ∷ places base 64 (rest left)
   first = next-place (g .fits) some base
 
-  placed-now : Every (λ p. (p < 528) × (lookup ins p < length s) × (lookup outs p < 16)) (at ∷ places base 64 (rest left))
+  placed-now : Every (λ p. (p < 528) × (lookup ins p < length s)) (at ∷ places base 64 (rest left))
   placed-now = rw first at (g .placed .each)
 
   pub putting-zeros : trailingZeros 64 left < 64
@@ -79,71 +76,55 @@ module _ {ins outs s t : List ℕ} {base x left : ℕ} (g : Putting ins outs bas
       let l = placed-now .0 .1 in
       omega (arith, g .len, ap (lookup ins) e)
 
-  pub putting-fits : {p : ℕ} → p ≡ at → (d : ℕ) → d ≤ 1 → Fits w8 (lookup outs p + d)
-  putting-fits {p} e d h =
-      let l = placed-now .0 .2 in
-      omega (arith, ap (lookup outs) e)
-
-  pub putting-on : {p a : ℕ} → p ≡ at → a ≡ lookup ins p → Putting ins outs base x s (rest left) (set t a (lookup outs p + 1))
+  pub putting-on : {p a : ℕ} → p ≡ at → a ≡ lookup ins p → Putting ins base x s (rest left) (set t a (p + 1))
   putting-on {p} {a} e f =
       record {
-        len = length-set t a (lookup outs p + 1) ∙ g .len;
+        len = length-set t a (p + 1) ∙ g .len;
         fits = next-fits (g .fits) some;
         placed = record { each = placed-now .1 };
-        same = rw (f, e) (sym (ap (λ (l : List ℕ). putBy ins outs l t) first) ∙ g .same);
+        same = rw (add-one, f, e) (sym (ap (λ (l : List ℕ). put (atInputs ins) l t) first) ∙ g .same);
       }
 
-pub putting-end : {ins outs s t : List ℕ} {base x left : ℕ} → Putting ins outs base x s left t → left ≡ 0 → PutBy ins outs (places base 64 x) s t
-putting-end {ins} {outs} {s} {t} {base} {x} {left} g e =
+pub putting-end : {ins s t : List ℕ} {base x left : ℕ} → Putting ins base x s left t → left ≡ 0 → PutBy ins (places base 64 x) s t
+putting-end {ins} {s} {t} {base} {x} {left} g e =
     let none : places base 64 left ≡ [] = ap (places base 64) e ∙ places-none base 64 in
-    record { len = g .len; same = sym (ap (λ (l : List ℕ). putBy ins outs l t) none) ∙ g .same }
+    record { len = g .len; same = sym (ap (λ (l : List ℕ). put (atInputs ins) l t) none) ∙ g .same }
 
 -- ---- words
-pub record Writing (ins outs planes : List ℕ) (ports w : ℕ) (t : List ℕ) : Type 0 where
+pub record Writing (ins planes : List ℕ) (ports w : ℕ) (t : List ℕ) : Type 0 where
   pub len : length t ≡ ports
-  pub same : t ≡ putBy ins outs (oddsIn (w * 64) planes) (replicate ports 0)
+  pub same : t ≡ put (atInputs ins) (oddsIn (w * 64) planes) (replicate ports 0)
 
-pub writing-start : {ins outs planes s : List ℕ} {ports : ℕ} → s ≡ replicate ports 0 → Writing ins outs planes ports 0 s
+pub writing-start : {ins planes s : List ℕ} {ports : ℕ} → s ≡ replicate ports 0 → Writing ins planes ports 0 s
 writing-start {ports = ports} e = record { len = ap length e ∙ length-replicate {A = ℕ} ports 0; same = e }
 
-module _ {ports : ℕ} {ins outs planes t : List ℕ} {w : ℕ} (g : Writing ins outs planes ports w t) where
-  pub writing-placed : {n words : ℕ} → Tables ports n ins outs → Ends n planes → w < words → words ≡ wordsOf n → Placed ins outs (length t) (places (w * 64) 64 (getD planes w 0))
+module _ {ports : ℕ} {ins planes t : List ℕ} {w : ℕ} (g : Writing ins planes ports w t) where
+  pub writing-placed : {n words : ℕ} → Table ports n ins → Ends n planes → w < words → words ≡ wordsOf n → Placed ins (length t) (places (w * 64) 64 (getD planes w 0))
   writing-placed {n} k e h v =
       let few = e .few in
       record {
-        each = rw (g .len) (every-map (λ p. p < n) (λ p. (p < 528) × (lookup ins p < ports) × (lookup outs p < 16))
-            (λ p l. (omega arith, rw (k .has inputs p l) (k .low inputs p l), rw (k .has outputs p l) (omega (arith, k .low outputs p l, k .few))))
+        each = rw (g .len) (every-map (λ p. p < n) (λ p. (p < 528) × (lookup ins p < ports))
+            (λ p l. (omega arith, k .low p l))
             (places (w * 64) 64 (getD planes w 0)) (word-below e w (omega arith)));
       }
 
-  pub writing-on : {r : List ℕ} → PutBy ins outs (places (w * 64) 64 (getD planes w 0)) t r → Writing ins outs planes ports (w + 1) r
+  pub writing-on : {r : List ℕ} → PutBy ins (places (w * 64) 64 (getD planes w 0)) t r → Writing ins planes ports (w + 1) r
   writing-on {r} p =
       record {
         len = p .len ∙ g .len;
         same = p .same
-            ∙ ap (putBy ins outs (places (w * 64) 64 (getD planes w 0))) (g .same)
-            ∙ sym (put-append ins outs (oddsIn (w * 64) planes) (places (w * 64) 64 (getD planes w 0)) (replicate ports 0))
-            ∙ ap (λ (l : List ℕ). putBy ins outs l (replicate ports 0)) (sym (words-odds planes w));
+            ∙ ap (put (atInputs ins) (places (w * 64) 64 (getD planes w 0))) (g .same)
+            ∙ sym (put-append ins (oddsIn (w * 64) planes) (places (w * 64) 64 (getD planes w 0)) (replicate ports 0))
+            ∙ ap (λ (l : List ℕ). put (atInputs ins) l (replicate ports 0)) (sym (words-odds planes w));
       }
 
 -- ---- the slot
-put-is : {ports n : ℕ} {ins outs : List ℕ} → Tables ports n ins outs → (t : ℕ → Bool) (a k : ℕ) (s : List ℕ) → a + k ≤ n
-    → putBy ins outs (keep t (upFrom a k)) s ≡ put ports (keep t (upFrom a k)) s
-put-is b t a zero s h = refl
-put-is {ports} {n} {ins} {outs} b t a (suc k) s h =
-    byBool (t a)
-    (λ e. rw e (ap (λ (x : ℕ). putBy ins outs (keep t (upFrom (suc a) k)) (set s x (lookup outs a + 1))) (b .has inputs a (omega arith))
-    ∙ ap (λ (x : ℕ). putBy ins outs (keep t (upFrom (suc a) k)) (set s (a / ports) (x + 1))) (b .has outputs a (omega arith))
-    ∙ put-is b t (suc a) k (set s (a / ports) (a % ports + 1)) (omega arith)))
-    (λ e. rw e (put-is b t (suc a) k s (omega arith)))
-
-pub writing-end : {ports n : ℕ} {ins outs planes t : List ℕ} {w words : ℕ} → Writing ins outs planes ports w t → w ≤ words → words ≤ w → words ≡ wordsOf n
-    → Tables ports n ins outs → Ends n planes → t ≡ slotOf ports (counts 1 planes n)
+pub writing-end : {ports n : ℕ} {ins planes t : List ℕ} {w words : ℕ} → Writing ins planes ports w t → w ≤ words → words ≤ w → words ≡ wordsOf n
+    → Ends n planes → t ≡ slotOf ports (atInputs ins) (counts 1 planes n)
 unfolding slotOf
-writing-end {ports} {n} {ins} {outs} {planes} {t} {w} {words} g a b v k e =
+writing-end {ports} {n} {ins} {planes} {t} {w} {words} g a b v e =
     let c : List ℕ = counts 1 planes n in
     let len : length c ≡ n = counts-length 1 planes n in
     g .same
-    ∙ ap (λ (l : List ℕ). putBy ins outs l (replicate ports 0)) (odds-past e (w * 64) (omega arith) (omega arith) ∙ odds-are 0 n planes)
-    ∙ put-is k (odd c) 0 n (replicate ports 0) (omega arith)
-    ∙ ap (λ (j : ℕ). put ports (keep (odd c) (upFrom 0 j)) (replicate ports 0)) (sym len)
+    ∙ ap (λ (l : List ℕ). put (atInputs ins) l (replicate ports 0)) (odds-past e (w * 64) (omega arith) (omega arith) ∙ odds-are 0 n planes)
+    ∙ ap (λ (j : ℕ). put (atInputs ins) (keep (odd c) (upFrom 0 j)) (replicate ports 0)) (sym len)

@@ -1,3 +1,2 @@
 -- What the functions of the crate do, in the words of the model.
 pub mod Steps
-pub mod Fill

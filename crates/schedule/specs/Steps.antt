@@ -1,21 +1,45 @@
--- The steps of a slot, as functions of the lists that they are lent.
-use Prim.Native.Nat.{ℕ, _+_, _<_}
+-- The steps of a frame, as functions of the lists that they are lent.
+use Prim.Native.Nat.{ℕ, _≤_, _<_}
 use mathlib.Core.Path.{_≡_}
-use mathlib.Core.List.{List, [], _∷_}
-use lib.ListN.{length, set}
+use mathlib.Core.List.{List, _++_}
+use lib.ListN.{length}
 use Rattle.model.specs.Words.{Every}
-use Rattle.split.specs.Steps.{lookup}
+use Rattle.model.specs.Flows.{Side, flows, portOf}
+use Rattle.model.specs.Schedule.{put, slotOf}
+use Rattle.planes.specs.Planes.{halves}
+use Rattle.planes.specs.Steps.{Others}
+use Rattle.split.specs.Steps.{lookup, tabled}
 
--- The output of each position of a list, numbered from 1, is written at its input.
-abbrev pub putBy : List ℕ → List ℕ → List ℕ → List ℕ → List ℕ
-putBy ins outs [] slot = slot
-putBy ins outs (p ∷ l) slot = putBy ins outs l (set slot (lookup ins p) (lookup outs p + 1))
+-- ---- ports
+-- A table has ports of a switch of so many for the first n positions.
+pub record Table (ports n : ℕ) (table : List ℕ) : Type 0 where
+  pub most : n ≤ 528
+  pub low : (p : ℕ) → p < n → lookup table p < ports
 
--- A list has positions at the inputs of a slot, and their outputs are below 16.
-pub record Placed (ins outs : List ℕ) (ports : ℕ) (list : List ℕ) : Type 0 where
-  pub each : Every (λ p. (p < 528) × (lookup ins p < ports) × (lookup outs p < 16)) list
+pub record Tables (ports n : ℕ) (ins outs : List ℕ) : Type 0 where
+  pub few : ports ≤ 16
+  pub at-inputs : Table ports n ins
+  pub at-outputs : Table ports n outs
 
--- The slot was s, and with the cells of a list written it is t.
-pub record PutBy (ins outs list s t : List ℕ) : Type 0 where
+-- Two tables have the ports of every flow of a list.
+pub record Tabled (list ins outs : List ℕ) : Type 0 where
+  pub has : (s : Side) (f : ℕ) → f < flows list → tabled ins outs s f ≡ portOf list s f
+
+-- ---- slots
+-- A slot is written by the inputs alone: the ports of one table stand for both sides.
+abbrev pub atInputs : List ℕ → Side → ℕ → ℕ
+atInputs ins s = lookup ins
+
+-- A list has positions at the inputs of a slot.
+pub record Placed (ins : List ℕ) (ports : ℕ) (list : List ℕ) : Type 0 where
+  pub each : Every (λ p. (p < 528) × (lookup ins p < ports)) list
+
+-- The slot was s, and with the numbers of a list written it is t.
+pub record PutBy (ins list s t : List ℕ) : Type 0 where
   pub len : length t ≡ length s
-  pub same : t ≡ putBy ins outs list s
+  pub same : t ≡ put (atInputs ins) list s
+
+-- A block of two slots, of the halves that a mask and then the mask of the other odd counts give.
+pub record TwoSlots (ports n : ℕ) (planes ins mask other entries : List ℕ) : Type 0 where
+  pub others : Others n planes mask other
+  pub same : entries ≡ slotOf ports (atInputs ins) (halves 1 planes mask n) ++ slotOf ports (atInputs ins) (halves 1 planes other n)

@@ -1,13 +1,13 @@
-// Recursively balanced scheduling: a block's matrix is split between its halves, down to single slots.
+// Recursively balanced scheduling: the counts of a block are split between its halves, down to single slots.
 mod positions;
 mod slots;
 
 use admission::bad_length;
-use admission::bad_slots;
+use admission::check_list;
 use admission::levels_of;
 use admission::loads_of;
-use admission::outside;
 use admission::overload;
+use flows::flows_of;
 use model::Answer;
 use model::Built;
 use model::Refusal;
@@ -18,14 +18,17 @@ use split::split;
 ghost use mathlib.Core.Path.{_≡_};
 ghost use Prim.Native.Nat.{suc, _*_, _^_, _≤_};
 ghost use lib.ListN.{length};
+ghost use Rattle.model.specs.Flows.{countsOf};
 ghost use Rattle.model.specs.Refusals.{levels};
 ghost use Rattle.model.specs.Schedule.{frameOf, settled};
-ghost use Rattle.model.specs.Build.{outcome, built, left};
+ghost use Rattle.model.specs.Build.{frameFor, outcome, built, left};
+ghost use Rattle.model.proofs.Demand2.{Accepts};
 ghost use Rattle.planes.specs.Planes.{counts, Block};
-ghost use Rattle.split.specs.Steps.{Tables, Scratch};
-ghost use Rattle.schedule.specs.Fill.{Fillable};
+ghost use Rattle.split.specs.Steps.{tabled, Scratch};
+ghost use Rattle.schedule.specs.Steps.{Tables};
 
-// A block of 2^m slots, and of at least two. The answer is how many odd counts were settled, here and in the blocks within.
+// A block of 2^m slots, at least two: its length falls by half with each call, and two slots are written as they are split. The
+// answer is how many odd counts were settled, here and in the blocks within.
 fn block(
     planes: &[u64; 99],
     m: usize,
@@ -37,12 +40,12 @@ fn block(
     in_mates: &mut [u16; 528],
     out_mates: &mut [u16; 528],
     group: &mut [u16; 528],
-    frame: &mut [u8],
+    frame: &mut [u16],
 ) -> usize
     requires { ⌜ (1 ≤ m) × (m ≤ 10) × Tables ports n (now ins) (now outs) × Block m n (now planes)
         × Scratch (now odds) (now «in_mates») (now «out_mates») (now group) × (length (now frame) ≡ 2 ^ m * ports) ⌝ }
     ensures { λ r. ⌜ (r ≡ settled m (counts (suc m) (now (planes .entry)) n))
-        × (now (frame .exit) ≡ frameOf ports m (counts (suc m) (now (planes .entry)) n))
+        × (now (frame .exit) ≡ frameOf ports (tabled (now (ins .entry)) (now (outs .entry))) m (counts (suc m) (now (planes .entry)) n))
         × Scratch (now (odds .exit)) (now («in_mates» .exit)) (now («out_mates» .exit)) (now (group .exit)) ⌝ }
 {
     let mut mask = [0u64; 9];
@@ -58,7 +61,7 @@ fn block(
         &mut mask,
     );
     if m == 1 {
-        slots::write_two(planes, n, ports, &mut mask, ins, outs, frame);
+        slots::write_two(planes, n, ports, &mut mask, ins, frame);
         here
     } else {
         let mut half = [0u64; 99];
@@ -97,20 +100,20 @@ fn block(
 }
 
 // A load that fits has room in the planes: no count is above slots.
-fn fill(ports: usize, slots: usize, matrix: &[u16], frame: &mut [u8]) -> usize
-    requires { ⌜ Fillable ports slots (now matrix) (now frame) ⌝ }
-    ensures { λ r. ⌜ (r ≡ settled (levels slots) (now (matrix .entry)))
-        × (now (frame .exit) ≡ frameOf ports (levels slots) (now (matrix .entry))) ⌝ }
+fn fill(ports: usize, slots: usize, list: &[u16], frame: &mut [u16]) -> usize
+    requires { ⌜ Accepts ports slots (now list) (now frame) ⌝ }
+    ensures { λ r. ⌜ (r ≡ settled (levels slots) (countsOf (now (list .entry))))
+        × (now (frame .exit) ≡ frameFor ports slots (now (list .entry))) ⌝ }
 {
     let m = levels_of(slots);
-    let n = matrix.len();
+    let n = flows_of(list);
     let mut planes = [0u64; 99];
     let mut ins = [0u8; 528];
     let mut outs = [0u8; 528];
-    load(matrix, m + 1, &mut planes);
-    positions::tabulate(ports, n, &mut ins, &mut outs);
+    load(list, m + 1, &mut planes);
+    positions::tabulate(list, &mut ins, &mut outs);
     if m == 0 {
-        slots::write(&planes, n, ports, &ins, &outs, frame);
+        slots::write(&planes, n, ports, &ins, frame);
         return 0;
     }
     let mut odds = [0u16; 528];
@@ -132,27 +135,21 @@ fn fill(ports: usize, slots: usize, matrix: &[u16], frame: &mut [u8]) -> usize
     )
 }
 
-// Build: refusals 1 to 6 are tried in their order, and nothing is written until all have passed.
-pub fn build(ports: usize, slots: usize, matrix: &[u16], frame: &mut [u8]) -> Built
-    ensures { λ r. ⌜ (outcome r ≡ built ports slots (now (matrix .entry)) (now (frame .entry)))
-        × (now (frame .exit) ≡ left ports slots (now (matrix .entry)) (now (frame .entry))) ⌝ }
+// Build: 1, 2, 3, 21, 22, 4, 5, 6, and nothing is written until all have passed.
+pub fn build(ports: usize, slots: usize, list: &[u16], frame: &mut [u16]) -> Built
+    ensures { λ r. ⌜ (outcome r ≡ built ports slots (now (list .entry)) (now (frame .entry)))
+        × (now (frame .exit) ≡ left ports slots (now (list .entry)) (now (frame .entry))) ⌝ }
 {
-    if outside(16, ports) {
-        return Built::Refused(Refusal::Ports);
-    }
-    if bad_slots(slots) {
-        return Built::Refused(Refusal::Slots);
-    }
-    if bad_length(matrix.len(), ports, ports) {
-        return Built::Refused(Refusal::MatrixLength);
+    if let Answer::Refused(refusal) = check_list(ports, slots, list) {
+        return Built::Refused(refusal);
     }
     if bad_length(frame.len(), slots, ports) {
         return Built::Refused(Refusal::FrameLength);
     }
-    let loads = loads_of(ports, matrix);
+    let loads = loads_of(ports, list);
     if let Answer::Refused(refusal) = overload(slots, &loads.inputs, &loads.outputs) {
         return Built::Refused(refusal);
     }
-    let settled = fill(ports, slots, matrix, frame);
+    let settled = fill(ports, slots, list, frame);
     Built::Accepted { settled }
 }

@@ -1,4 +1,4 @@
-use Prim.Native.Nat.{ℕ, suc, _<_}
+use Prim.Native.Nat.{ℕ, suc, _^_, _<_}
 use mathlib.Core.Path.{refl}
 use borrow.Author.Needs.{needs}
 use native.Mathlib.Omega.{arith}
@@ -10,7 +10,7 @@ use Rattle.planes.proofs.Marked.{others-mask}
 use Rattle.planes.proofs.Halved.{halved-block}
 use Rattle.split.proofs.Divided.{favours-second}
 use Rattle.schedule.proofs.Tabled.{sides-of}
-use Rattle.schedule.proofs.Framed.{block-two, length-two, frame-two, mid-length, front-is, still-room, back-room, half-counts, written, written-size}
+use Rattle.schedule.proofs.Framed.{shorter, block-two, length-two, frame-two, mid-length, mid-fits, front-is, still-room, back-room, half-counts, written, written-size}
 use Rattle.schedule.proofs.Summed.{settled-two, here-low, half-low, summed}
 use Rattle.schedule.proofs.block.Reads as block
 use Rattle.schedule.proofs.block.Kinds as block-kinds
@@ -22,9 +22,9 @@ use Rattle.split.proofs.split.Reads as split-reads
 use Rattle.schedule.proofs.+block.{statement}
 use Rattle.schedule.proofs.+block.Tie.{close}
 
--- the m of the block's 2 ^ m slots
+-- the slots of the block
 abbrev μ-block : Measures 8 block-kinds.ps ℕ
-μ-block κs a = a .1 .0
+μ-block κs a = 2 ^ (a .1 .0)
 
 abbrev block-at : ℕ → In 8 block-kinds.ps
 block-at t = and 8 block-kinds.ps (is 8 block-kinds.ps μ-block t) block.Pre
@@ -53,7 +53,7 @@ pub +block-spec : {M : Type 1} → statement M
     let two = c .before .before in
     let split = two .before in
     let pre = split .before .before .before .before .before .before .before .pre .1 in
-    (pre .2, block-two (two .if1 .taken) (pre .3), split .split .ensures .1, length-two _ (two .if1 .taken) (pre .5)))
+    (pre .2 .at-inputs, block-two (two .if1 .taken) (pre .3), split .split .ensures .1 .odds, length-two _ (two .if1 .taken) (pre .5)))
     (λ c κs.
     let split = c .before .before .before in
     let pre = split .before .before .before .before .before .before .before .pre .1 in
@@ -69,9 +69,8 @@ pub +block-spec : {M : Type 1} → statement M
     let pre = start .pre .1 in
     let some = pre .0 in
     let most = pre .1 in
-    let many = more .if1 .left in
-    let at = start .pre .0 in (
-      omega arith,
+    let many = more .if1 .left in (
+      shorter (start .args .m) t (pre .0) (start .pre .0),
       (
         omega arith,
         omega arith,
@@ -117,8 +116,7 @@ pub +block-spec : {M : Type 1} → statement M
     let split = more .before in
     let start = split .before .before .before .before .before .before .before in
     let pre = start .pre .1 in
-    let some = pre .0 in
-    still-room _ _ (start .args .frame .now) (omega arith) (pre .5) _ _ (front .block .ensures .1))
+    mid-fits (start .args .m) _ (start .args .frame .now) (pre .5) (pre .1) (pre .2 .few))
     (λ c.
     let halve2 = c .before .before .before .before .before in
     let others = halve2 .before .before .before in
@@ -129,7 +127,18 @@ pub +block-spec : {M : Type 1} → statement M
     let start = split .before .before .before .before .before .before .before in
     let pre = start .pre .1 in
     let some = pre .0 in
-    still-room _ _ (start .args .frame .now) (omega arith) (pre .5) _ _ (front .block .ensures .1))
+    still-room _ _ (start .args .frame .now) (omega arith) (pre .5) _ _ _ (front .block .ensures .1))
+    (λ c.
+    let halve2 = c .before .before .before .before .before in
+    let others = halve2 .before .before .before in
+    let front = others .before .before .before .before in
+    let halve = front .before .before .before .before .before .before .before in
+    let more = halve .before .before .before in
+    let split = more .before in
+    let start = split .before .before .before .before .before .before .before in
+    let pre = start .pre .1 in
+    let some = pre .0 in
+    still-room _ _ (start .args .frame .now) (omega arith) (pre .5) _ _ _ (front .block .ensures .1))
     (λ c. search needs)
     (λ c κs.
     let halve2 = c .before .before .before .before .before .before in
@@ -142,16 +151,15 @@ pub +block-spec : {M : Type 1} → statement M
     let pre = start .pre .1 in
     let some = pre .0 in
     let most = pre .1 in
-    let many = more .if1 .left in
-    let at = start .pre .0 in (
-      omega arith,
+    let many = more .if1 .left in (
+      shorter (start .args .m) t (pre .0) (start .pre .0),
       (
         omega arith,
         omega arith,
         pre .2,
         halved-block (halve2 .halve2 .ensures .1) (pre .3) (others-mask (others .others .ensures)) (pre .0),
         front .block .ensures .2,
-        back-room _ _ (start .args .frame .now) (omega arith) (pre .5) _ _ (front .block .ensures .1),
+        back-room _ _ (start .args .frame .now) (omega arith) (pre .5) _ _ _ (front .block .ensures .1),
       ),
     ))
     (λ c.
@@ -186,7 +194,7 @@ pub +block-spec : {M : Type 1} → statement M
     let write = c .before .before in
     let two = write .before .before .before in
     let split = two .before in
-    (settled-two _ _ _ _ (two .if1 .taken) (split .split .ensures .0), frame-two _ _ _ _ _ (two .if1 .taken) (write .write-two .ensures), split .split .ensures .2))
+    (settled-two _ _ _ _ (two .if1 .taken) (split .split .ensures .0), frame-two (two .if1 .taken) (split .split .ensures .1) (write .write-two .ensures), split .split .ensures .2))
     (λ c.
     let back = c .before .before in
     let halve2 = back .before .before .before .before .before .before .before in
@@ -198,11 +206,11 @@ pub +block-spec : {M : Type 1} → statement M
     let start = split .before .before .before .before .before .before .before in
     let pre = start .pre .1 in
     let some = pre .0 in
-    let first = half-counts (pre .2) (split .split .ensures .1) (omega arith) (halve .halve .ensures .1) (omega arith) in
-    let second = half-counts (pre .2) (favours-second (split .split .ensures .1) (others .others .ensures)) (omega arith) (halve2 .halve2 .ensures .1) (omega arith) in
+    let first = half-counts (split .split .ensures .1) (omega arith) (halve .halve .ensures .1) (omega arith) in
+    let second = half-counts (favours-second (split .split .ensures .1) (others .others .ensures)) (omega arith) (halve2 .halve2 .ensures .1) (omega arith) in
     let f = front .block .ensures in
     let g = back .block2 .ensures in
-    written-size _ _ (start .args .frame .now) (omega arith) (pre .5) (counts (suc (start .args .m)) (start .args .planes .now) (start .args .n)) _ _ _ _ first second (f .1) (g .1))
+    written-size _ _ (start .args .frame .now) (omega arith) (pre .5) _ (counts (suc (start .args .m)) (start .args .planes .now) (start .args .n)) _ _ _ _ first second (f .1) (g .1))
     (λ c.
     let back = c .before .before in
     let halve2 = back .before .before .before .before .before .before .before in
@@ -214,11 +222,11 @@ pub +block-spec : {M : Type 1} → statement M
     let start = split .before .before .before .before .before .before .before in
     let pre = start .pre .1 in
     let some = pre .0 in
-    let first = half-counts (pre .2) (split .split .ensures .1) (omega arith) (halve .halve .ensures .1) (omega arith) in
-    let second = half-counts (pre .2) (favours-second (split .split .ensures .1) (others .others .ensures)) (omega arith) (halve2 .halve2 .ensures .1) (omega arith) in
+    let first = half-counts (split .split .ensures .1) (omega arith) (halve .halve .ensures .1) (omega arith) in
+    let second = half-counts (favours-second (split .split .ensures .1) (others .others .ensures)) (omega arith) (halve2 .halve2 .ensures .1) (omega arith) in
     let f = front .block .ensures in
     let g = back .block2 .ensures in (
       summed _ _ _ _ _ _ _ _ _ (omega arith) (split .split .ensures .0) first second (f .0) (g .0),
-      written _ _ (start .args .frame .now) (omega arith) (pre .5) _ _ _ _ _ first second (f .1) (g .1),
+      written _ _ (start .args .frame .now) (omega arith) (pre .5) _ _ _ _ _ _ first second (f .1) (g .1),
       g .2,
     ))

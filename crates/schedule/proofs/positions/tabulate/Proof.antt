@@ -1,17 +1,15 @@
-use Prim.Native.Nat.{_≤_, _-_}
+use Prim.Native.Nat.{_-_}
 use borrow.Author.Needs.{needs}
 use native.Mathlib.Omega.{arith}
-use Rattle.model.specs.Rules.{inputs, outputs}
-use Rattle.model.proofs.Halves.{port-low}
-use Rattle.schedule.proofs.Tabled.{Tabled, tabled-on, tabled-end}
+use Rattle.schedule.proofs.Tabled.{Tabling, tabling-start, tabling-in, tabling-low, in-low, out-low, tabling-on, tabling-end}
 use Rattle.schedule.proofs.positions.tabulate.Statement.{statement}
 use Rattle.schedule.proofs.positions.tabulate.Tie as tie
 
 abbrev Inv-loop : tie.InvT-loop
-Inv-loop ports n ins₀ outs₀ p₀ ins outs p = (p ≤ n) × Tabled ports p ins outs
+Inv-loop list ins₀ outs₀ count f₀ ins outs f = Tabling list count f ins outs
 
 abbrev μ-loop : tie.MeasureT-loop
-μ-loop ports n ins₀ outs₀ p₀ ins outs p = n - p
+μ-loop list ins₀ outs₀ count f₀ ins outs f = count - f
 
 pub tabulate-spec : {M : Type 1} → statement M
 tabulate-spec =
@@ -19,14 +17,17 @@ tabulate-spec =
     (tie.spec
     Inv-loop
     μ-loop
-    (λ c. (omega arith, record { in-len = c .pre .4; out-len = c .pre .5; has = λ s q h. absurd (omega arith) }))
+    (λ c κs. search needs)
+    (λ c. search (needs, tabling-start))
+    (λ c κs. (search (needs, tabling-in), omega arith))
+    (λ c. let low = in-low (c .before .before .loop .inv) (c .before .loop-test .taken) (c .number-of .ensures .0) in omega arith)
+    (λ c. let low = in-low (c .before .before .loop .inv) (c .before .loop-test .taken) (c .number-of .ensures .0) in omega arith)
+    (λ c. search (needs, tabling-low))
+    (λ c κs. (search (needs, tabling-in), omega arith))
+    (λ c. let low = out-low (c .before .before .before .loop .inv) (c .before .before .loop-test .taken) (c .number-of2 .ensures .0) in omega arith)
+    (λ c. let low = out-low (c .before .before .before .loop .inv) (c .before .before .loop-test .taken) (c .number-of2 .ensures .0) in omega arith)
+    (λ c. search (needs, tabling-low))
     (λ c. search needs)
-    (λ c. omega (arith, port-low inputs {ports = c .before .before .args .ports} {p = c .before .loop .p} (omega arith) (omega arith)))
     (λ c. search needs)
-    (λ c. search needs)
-    (λ c. omega (arith, port-low outputs {ports = c .before .before .args .ports} {p = c .before .loop .p} (omega arith) (omega arith)))
-    (λ c. search needs)
-    (λ c. search needs)
-    (λ c. search needs)
-    (λ c. (omega arith, search (needs, tabled-on)))
-    (λ c. search (needs, tabled-end)))
+    (λ c. search (needs, tabling-on))
+    (λ c. search (needs, tabling-end)))

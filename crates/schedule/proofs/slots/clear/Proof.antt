@@ -21,6 +21,7 @@ clear-spec =
     (λ c. search needs)
     (λ c. search needs)
     (λ c. search needs)
+    (λ c. search needs)
     (λ c. search (needs, cleared-on))
     (λ c. search needs)
     (λ c. search (needs, cleared-end)))

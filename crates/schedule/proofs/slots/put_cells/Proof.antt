@@ -1,15 +1,16 @@
+use mathlib.Core.Path.{refl}
 use borrow.Author.Needs.{needs}
 use native.Mathlib.Omega.{arith}
 use Rattle.planes.proofs.Lowest.{rest-less}
-use Rattle.schedule.proofs.Written.{Putting, putting-start, putting-zeros, putting-low, putting-lt, putting-fits, putting-on, putting-end}
+use Rattle.schedule.proofs.Written.{Putting, putting-start, putting-zeros, putting-low, putting-lt, putting-on, putting-end}
 use Rattle.schedule.proofs.slots.put_cells.Statement.{statement}
 use Rattle.schedule.proofs.slots.put_cells.Tie as tie
 
 abbrev Inv-loop : tie.InvT-loop
-Inv-loop x base ins outs slot₀ rest₀ slot rest = Putting ins outs base x slot₀ rest slot
+Inv-loop x base ins slot₀ rest₀ slot rest = Putting ins base x slot₀ rest slot
 
 abbrev μ-loop : tie.MeasureT-loop
-μ-loop x base ins outs slot₀ rest₀ slot rest = rest
+μ-loop x base ins slot₀ rest₀ slot rest = rest
 
 pub put-cells-spec : {M : Type 1} → statement M
 put-cells-spec =
@@ -22,8 +23,9 @@ put-cells-spec =
     (λ c. omega (arith, putting-zeros (c .before .loop .inv) (c .loop-test .taken)))
     (λ c. search (needs, putting-low))
     (λ c κs. search needs)
-    (λ c. search (needs, putting-low))
-    (λ c. search (needs, putting-fits))
+    (λ c. let low = putting-low (c .before .before .before .loop .inv) (c .before .before .loop-test .taken) refl in omega arith)
+    (λ c. let low = putting-low (c .before .before .before .loop .inv) (c .before .before .loop-test .taken) refl in omega arith)
+    (λ c. search needs)
     (λ c. search (needs, putting-lt))
     (λ c. search needs)
     (λ c. search (needs, rest-less))

@@ -14,6 +14,7 @@ write-two-spec =
     (λ c. search (needs, mid-length))
     (λ c κs. search (needs, front-two))
     (λ c κs. search (needs, block-ends))
+    (λ c. search needs)
     (λ c. search (needs, still-le))
     (λ c. search (needs, still-le))
     (λ c. search needs)
