@@ -1,27 +1,29 @@
 /* The frame builder of a sixteen-port cell switch: the proved calls, for C99 and C++11, on x86-64 Linux.
  *
- * Link with libframe_builder.a: `./install` of the frame builder proves the calls and puts it under its prefix, and pkg-config has the flags
- * of frame_builder. In a checkout `rt staticlib exports` writes the same to target/staticlib/libexports.a. Of the C library it needs memcpy
- * and memset. examples/table7.c shows how the calls are used.
+ * Link with libframe_builder.a: `./install` of the frame builder proves the calls and puts it under its prefix, and pkg-config has the
+ * flags of frame_builder. In a checkout `rt staticlib exports` writes the same to target/staticlib/libexports.a. Of the C library it needs
+ * memcpy and memset. examples/table7.c shows how the calls are used.
  *
- * WORDS. Ports and slots are numbered from 1, inputs and outputs separately. A load matrix has one 16-bit cell count per pair, row by row:
- * all outputs of input 1, then of input 2, and so on. The load of a port is the sum of its row or column. A frame is slots x ports bytes,
- * slot 1 first; within a slot there is one byte per input: the output it sends to, or 0 for idle. A block is the whole frame, or either
- * half of a block of 2 or more slots. A slice is a matrix or a frame as a call is lent it: a pointer, and the number of elements. A lent
- * number is one that a call is lent to write to: *first, *second, *start, *size and *cells, each a size_t, and *lead, an int64_t.
+ * WORDS. Ports and slots are numbered from 1, inputs and outputs separately. A flow is so many cells per frame from an input to an output;
+ * a pair of ports may have several. A list is the reserved flows as 16-bit numbers, three to a flow: input, output, cells. Flow 1 comes
+ * first, and a flow's number is its place. A list may have no flows. The load of a port is the sum of the cells of its flows. A frame is
+ * slots x ports 16-bit entries, slot 1 first; within a slot there is one entry per input: the number of the flow that it sends a cell of,
+ * or 0 for idle. A block is the whole frame, or either half of a block of 2 or more slots. A slice is a list or a frame as a call is lent
+ * it: a pointer, and how many 16-bit numbers there are. A lent number is one that a call is lent to write to: *first, *second, *start,
+ * *size and *cells, each a size_t, and *lead, an int64_t.
  *
  * ANSWERS. Every call takes any numbers and slices of any length. It tries its refusals, and Inspect then its faults, in the order of its
  * table below, and returns the number of the first whose condition holds, or 0 if none does. It writes its lent numbers whatever it
- * answers: the values of the answer, and 0 where the answer has none. No matrix is ever written, and no frame but Build's: an accepted
- * Build leaves the load's frame there, every byte of it, and a refused one leaves every byte as it was. All this is proved.
+ * answers: the values of the answer, and 0 where the answer has none. No list is ever written, and no frame but Build's: an accepted Build
+ * leaves the list's frame there, every entry of it, and a refused one leaves every entry as it was. All this is proved.
  *
  * POINTERS. The caller sees to it that
- * - a slice's pointer points to as many elements as its length says, and a lent number's to one;
+ * - a slice's pointer points to as many 16-bit numbers as its length says, and a lent number's to one number;
  * - each is aligned as C asks of its type;
  * - what a call writes overlaps nothing else lent in the same call. So *first and *second are two numbers even where neither is looked at,
- *   *cells and *lead too, and Build's frame has no byte of the matrix. What is only read may overlap, as a matrix and Inspect's frame;
- * - no pointer is null, but for that of a slice of length 0. Nothing is read or written there, and the call is refused, since neither a
- *   matrix nor a frame of any switch is empty.
+ *   *cells and *lead too, and Build's frame has no byte of the list. What is only read may overlap, as a list and Inspect's frame;
+ * - no pointer is null, but for that of a slice of length 0. Nothing is read or written there. A list of length 0 has no flows, and its
+ *   frame is all 0; a frame of length 0 is refused, since no switch has one.
  * What a call writes needs no value before. No call keeps a pointer.
  *
  * THREADS, SIGNALS, STACK. A call keeps no state, allocates nothing, makes no system call, waits for nothing and leaves errno alone. Any
@@ -39,18 +41,20 @@
 #include <stdint.h>
 
 /* The version of the project. It stands in this line alone; whatever else says the version reads it from here. */
-#define FRAME_BUILDER_VERSION "3.0.0"
+#define FRAME_BUILDER_VERSION "4.0.0"
 
 /* Limits. */
 #define FRAME_BUILDER_MAX_PORTS 16
 #define FRAME_BUILDER_MAX_SLOTS 1024
-#define FRAME_BUILDER_MAX_FRAME_BYTES 16384
-#define FRAME_BUILDER_MAX_PAIR_CELLS 65535
+#define FRAME_BUILDER_MAX_FLOWS 512
+#define FRAME_BUILDER_FLOW_NUMBERS 3 /* of a list: so many to a flow */
+#define FRAME_BUILDER_MAX_FLOW_CELLS 65535
+#define FRAME_BUILDER_MAX_FRAME_ENTRIES 16384
 #define FRAME_BUILDER_MAX_RUN_SLOTS 1000000
 
-/* The most stack that a call takes, its arguments and its return address included. Build takes most of it, any other call less than 2,048
- * bytes. A thread of PTHREAD_STACK_MIN and a signal stack of SIGSTKSZ may be too small for Build. */
-#define FRAME_BUILDER_STACK_BYTES 20480
+/* The most stack that a call takes, its arguments and its return address included. Build takes more than any other call. A thread of
+ * PTHREAD_STACK_MIN and a signal stack of SIGSTKSZ may be too small for it. */
+#define FRAME_BUILDER_STACK_BYTES 49152
 
 /* Answers. What each means is its text in frame_builder_text; what it carries is in the tables of the calls. */
 #define FRAME_BUILDER_ACCEPTED 0
@@ -58,21 +62,22 @@
 
 #define FRAME_BUILDER_REFUSED_PORTS 1
 #define FRAME_BUILDER_REFUSED_SLOTS 2
-#define FRAME_BUILDER_REFUSED_MATRIX_LENGTH 3
+#define FRAME_BUILDER_REFUSED_LIST_LENGTH 3
 #define FRAME_BUILDER_REFUSED_FRAME_LENGTH 4
 #define FRAME_BUILDER_REFUSED_INPUT_LOAD 5
 #define FRAME_BUILDER_REFUSED_OUTPUT_LOAD 6
-#define FRAME_BUILDER_REFUSED_LINE_FORM 7 /* 7 to 10 are the sheet program's; no call returns them */
+#define FRAME_BUILDER_REFUSED_LINE_FORM 7 /* 7, 8 and 10 are the sheet program's, and no call returns them; 9 is no answer */
 #define FRAME_BUILDER_REFUSED_LINE_PORT 8
-#define FRAME_BUILDER_REFUSED_LINE_PAIR 9
 #define FRAME_BUILDER_REFUSED_SHEET_LENGTH 10
 #define FRAME_BUILDER_REFUSED_SLOT_NUMBER 11
-#define FRAME_BUILDER_REFUSED_PORT_NUMBER 12
+#define FRAME_BUILDER_REFUSED_FLOW_OR_PORT 12
 #define FRAME_BUILDER_REFUSED_RUN_LENGTH 13
+#define FRAME_BUILDER_REFUSED_TOO_MANY_FLOWS 21 /* the sheet program has it too */
+#define FRAME_BUILDER_REFUSED_FLOW_PORT 22
 
-#define FRAME_BUILDER_FAULT_BYTE_TOO_LARGE 101
+#define FRAME_BUILDER_FAULT_WRONG_ENTRY 101
 #define FRAME_BUILDER_FAULT_OUTPUT_TWICE 102
-#define FRAME_BUILDER_FAULT_PAIR_COUNT 103
+#define FRAME_BUILDER_FAULT_FLOW_COUNT 103
 #define FRAME_BUILDER_FAULT_UNBALANCED_BLOCK 104
 
 /* What an answer means, for a message; a fixed text for a number that is no answer. Never null. */
@@ -85,8 +90,8 @@ static inline const char *frame_builder_text(size_t number)
         return "ports are not 1 to 16";
     case FRAME_BUILDER_REFUSED_SLOTS:
         return "slots are not a power of two from 1 to 1,024";
-    case FRAME_BUILDER_REFUSED_MATRIX_LENGTH:
-        return "the matrix length is not ports x ports";
+    case FRAME_BUILDER_REFUSED_LIST_LENGTH:
+        return "the list length is not a whole number of flows";
     case FRAME_BUILDER_REFUSED_FRAME_LENGTH:
         return "the frame length is not slots x ports";
     case FRAME_BUILDER_REFUSED_INPUT_LOAD:
@@ -97,22 +102,24 @@ static inline const char *frame_builder_text(size_t number)
         return "a line of the sheet breaks the form";
     case FRAME_BUILDER_REFUSED_LINE_PORT:
         return "a pair line of the sheet names a port outside 1 to ports";
-    case FRAME_BUILDER_REFUSED_LINE_PAIR:
-        return "a pair line of the sheet names a pair that an earlier line names";
     case FRAME_BUILDER_REFUSED_SHEET_LENGTH:
-        return "the sheet is longer than 16,384 bytes";
+        return "the sheet is longer than 32,768 bytes";
     case FRAME_BUILDER_REFUSED_SLOT_NUMBER:
         return "the slot or the start is outside 1 to slots";
-    case FRAME_BUILDER_REFUSED_PORT_NUMBER:
-        return "the port is outside 1 to ports";
+    case FRAME_BUILDER_REFUSED_FLOW_OR_PORT:
+        return "the flow is not in the list, or the port is outside 1 to ports";
     case FRAME_BUILDER_REFUSED_RUN_LENGTH:
         return "the run is longer than 1,000,000 slots";
-    case FRAME_BUILDER_FAULT_BYTE_TOO_LARGE:
-        return "a byte of the frame is above ports";
+    case FRAME_BUILDER_REFUSED_TOO_MANY_FLOWS:
+        return "there are more than 512 flows";
+    case FRAME_BUILDER_REFUSED_FLOW_PORT:
+        return "a flow's input or output is outside 1 to ports";
+    case FRAME_BUILDER_FAULT_WRONG_ENTRY:
+        return "an entry of the frame is no flow of its input";
     case FRAME_BUILDER_FAULT_OUTPUT_TWICE:
         return "an output is used twice in a slot";
-    case FRAME_BUILDER_FAULT_PAIR_COUNT:
-        return "a pair is in the wrong number of slots";
+    case FRAME_BUILDER_FAULT_FLOW_COUNT:
+        return "a flow is in the wrong number of slots";
     case FRAME_BUILDER_FAULT_UNBALANCED_BLOCK:
         return "a block of slots is unbalanced";
     default:
@@ -126,57 +133,63 @@ extern "C" {
 
 /* In the tables FRAME_BUILDER_ is left out before each name. */
 
-/* Admit: whether Build would accept the load, with a frame of its length.
+/* Admit: whether Build would accept the list, with a frame of its length.
  *
  *     answer                  *first                   *second
  *     ACCEPTED                0                        0
  *     REFUSED_PORTS           0                        0
  *     REFUSED_SLOTS           0                        0
- *     REFUSED_MATRIX_LENGTH   0                        0
- *     REFUSED_INPUT_LOAD      the lowest such input    its load, slots + 1 to 1,048,560
- *     REFUSED_OUTPUT_LOAD     the lowest such output   its load, slots + 1 to 1,048,560
+ *     REFUSED_LIST_LENGTH     0                        0
+ *     REFUSED_TOO_MANY_FLOWS  0                        0
+ *     REFUSED_FLOW_PORT       0                        0
+ *     REFUSED_INPUT_LOAD      the lowest such input    its load, slots + 1 to 33,553,920
+ *     REFUSED_OUTPUT_LOAD     the lowest such output   its load, slots + 1 to 33,553,920
  */
-size_t frame_builder_admit(size_t ports, size_t slots, const uint16_t *matrix, size_t matrix_length, size_t *first, size_t *second);
+size_t frame_builder_admit(size_t ports, size_t slots, const uint16_t *list, size_t list_length, size_t *first, size_t *second);
 
-/* Build: fills the frame, every byte of it, and says how many odd counts it settled.
+/* Build: fills the frame, every entry of it, and says how many odd counts it settled.
  *
- * Those are, over all blocks of 2 or more slots, the pairs with an odd number of cells in that block of the frame: the halves of the block
+ * Those are, over all blocks of 2 or more slots, the flows with an odd number of cells in that block of the frame: the halves of the block
  * cannot have as many cells each, so that Build has to find which gets one more. They say how much work the build was: its instructions
- * grow with them, as docs/FIGURES.md has it. There are 0 to ports x slots x k of them, where slots are 2^k. One cell for each pair, in as
- * many slots as ports, comes to that: 1,024 for 16 x 16. With more slots than ports there are fewer: 81,664 at most for 16 x 1,024. All
- * this is proved but for what it says of instructions.
+ * grow with them, as docs/FIGURES.md has it. There are 0 to ports x slots x k of them, where slots are 2^k. A flow of one cell for each
+ * pair, in as many slots as ports, comes to that: 1,024 for 16 x 16. No block has more of them than the list has flows, so that there are
+ * 97,792 at most for 16 x 1,024. All this is proved but for what it says of instructions.
  *
  *     answer                  *first                   *second                             frame
- *     ACCEPTED                the odd counts settled   0                                   the frame of the load
+ *     ACCEPTED                the odd counts settled   0                                   the frame of the list
  *     REFUSED_PORTS           0                        0                                   as it was
  *     REFUSED_SLOTS           0                        0                                   as it was
- *     REFUSED_MATRIX_LENGTH   0                        0                                   as it was
+ *     REFUSED_LIST_LENGTH     0                        0                                   as it was
+ *     REFUSED_TOO_MANY_FLOWS  0                        0                                   as it was
+ *     REFUSED_FLOW_PORT       0                        0                                   as it was
  *     REFUSED_FRAME_LENGTH    0                        0                                   as it was
- *     REFUSED_INPUT_LOAD      the lowest such input    its load, slots + 1 to 1,048,560    as it was
- *     REFUSED_OUTPUT_LOAD     the lowest such output   its load, slots + 1 to 1,048,560    as it was
+ *     REFUSED_INPUT_LOAD      the lowest such input    its load, slots + 1 to 33,553,920   as it was
+ *     REFUSED_OUTPUT_LOAD     the lowest such output   its load, slots + 1 to 33,553,920   as it was
  */
-size_t frame_builder_build(size_t ports, size_t slots, const uint16_t *matrix, size_t matrix_length, uint8_t *frame,
-                           size_t frame_length, size_t *first, size_t *second);
+size_t frame_builder_build(size_t ports, size_t slots, const uint16_t *list, size_t list_length, uint16_t *frame, size_t frame_length,
+                           size_t *first, size_t *second);
 
-/* Inspect: whether a frame from anywhere is legal for the load and balanced; if not, its first fault. Each kind of fault is looked for in
- * the whole frame before the next kind. A block is unbalanced where its halves differ by more than one cell of some pair, input or output,
- * or in total.
+/* Inspect: whether a frame from anywhere is legal for the list and balanced; if not, its first fault. Each kind of fault is looked for in
+ * the whole frame before the next kind. An entry is wrong that is above the number of flows, or that is the number of a flow of another
+ * input. A block is unbalanced where its halves differ by more than one cell of some flow, input or output, or in total.
  *
  *     answer                  *first                   *second                             which, of several
  *     CLEAN                   0                        0
  *     REFUSED_PORTS           0                        0
  *     REFUSED_SLOTS           0                        0
- *     REFUSED_MATRIX_LENGTH   0                        0
+ *     REFUSED_LIST_LENGTH     0                        0
+ *     REFUSED_TOO_MANY_FLOWS  0                        0
+ *     REFUSED_FLOW_PORT       0                        0
  *     REFUSED_FRAME_LENGTH    0                        0
- *     FAULT_BYTE_TOO_LARGE    the slot                 the input                           the lowest such slot, then input
+ *     FAULT_WRONG_ENTRY       the slot                 the input                           the lowest such slot, then input
  *     FAULT_OUTPUT_TWICE      the slot                 the output                          the lowest such slot, then output
- *     FAULT_PAIR_COUNT        the input                the output                          the first such pair in matrix order
+ *     FAULT_FLOW_COUNT        the flow                 0                                   the first such flow in the list
  *     FAULT_UNBALANCED_BLOCK  the block's first slot   its size in slots                   the largest such block, then the earliest
  */
-size_t frame_builder_inspect(size_t ports, size_t slots, const uint16_t *matrix, size_t matrix_length, const uint8_t *frame,
+size_t frame_builder_inspect(size_t ports, size_t slots, const uint16_t *list, size_t list_length, const uint16_t *frame,
                              size_t frame_length, size_t *first, size_t *second);
 
-/* Slot view: which part of the caller's frame is the slot. It begins at frame + *start and has *size bytes.
+/* Slot view: which part of the caller's frame is the slot. It begins at frame + *start and has *size entries.
  *
  *     answer                  *start                   *size
  *     ACCEPTED                (slot - 1) x ports       ports
@@ -185,25 +198,26 @@ size_t frame_builder_inspect(size_t ports, size_t slots, const uint16_t *matrix,
  *     REFUSED_FRAME_LENGTH    0                        0
  *     REFUSED_SLOT_NUMBER     0                        0
  */
-size_t frame_builder_slot_view(size_t ports, size_t slots, const uint8_t *frame, size_t frame_length, size_t slot, size_t *start,
+size_t frame_builder_slot_view(size_t ports, size_t slots, const uint16_t *frame, size_t frame_length, size_t slot, size_t *start,
                                size_t *size);
 
-/* Service count: the cells of a pair, of an input or of an output in a run of the frame, `length` slots from slot `start` on, and the lead
- * of that run; after the last slot comes slot 1 again. The frame may have any bytes. A pair's cells are the bytes of its input that are its
- * output, an input's are its bytes that are not 0, an output's are all bytes that are it. REFUSED_SLOT_NUMBER is about the start,
- * REFUSED_PORT_NUMBER about the input and the output.
+/* Service count: the cells of a flow, of an input or of an output in a run of the frame, `length` slots from slot `start` on, and the lead
+ * of that run; after the last slot comes slot 1 again. The frame may have any entries. A flow's cells are the entries that are its number,
+ * at whatever input they stand, an input's are its entries that are not 0, an output's are the entries that are the number of a flow to it,
+ * at whatever input they stand. So an entry above the number of flows counts for its input only. REFUSED_SLOT_NUMBER is about the start,
+ * REFUSED_FLOW_OR_PORT about the flow, the input or the output that is asked for.
  *
  * The lead says how far the run is ahead of its share:
  *
- *     slots x the cells of the run - length x the cells of the same pair, input or output in one whole frame, as counted in that frame
+ *     slots x the cells of the run - length x the cells of the same flow, input or output in one whole frame, as counted in that frame
  *
  * Its unit is 1/slots of a cell: divided by slots, it is how many cells the run has had above its share, and it is negative where the run
  * is behind. Length 0 and whole turns of the frame have lead 0, so that a whole turn more or less leaves the lead as it is. Whatever the
- * bytes, |lead| is at most slots x slots / 4 for a pair or an input, and ports times as much for an output, to which every input may send
- * in the same slot; this follows from what the lead is, and is no theorem of its own.
+ * entries, |lead| is at most slots x slots / 4 for an input, and ports times as much for a flow or an output, whose cells may stand at
+ * every input in the same slot; this follows from what the lead is, and is no theorem of its own.
  *
- * For a frame that Build made, counted with the ports and slots that Build was given, 3 x |lead| <= (2k + 1) x slots, where slots are 2^k,
- * and |lead| is at most what stands here. Both are proved, for every pair, input and output and every run.
+ * For a frame that Build made, counted with the ports, slots and list that Build was given, 3 x |lead| <= (2k + 1) x slots, where slots are
+ * 2^k, and |lead| is at most what stands here. Both are proved, for every flow, input and output and every run.
  *
  *     slots     1     2     4     8    16    32    64   128     256     512   1,024
  *     |lead|    0     2     6    18    46   114   270   626   1,422   3,186   7,054
@@ -212,17 +226,20 @@ size_t frame_builder_slot_view(size_t ports, size_t slots, const uint8_t *frame,
  *     ACCEPTED                the cells, 0 to 16,000,000    the lead, -4,194,304 to 4,194,304
  *     REFUSED_PORTS           0                             0
  *     REFUSED_SLOTS           0                             0
+ *     REFUSED_LIST_LENGTH     0                             0
+ *     REFUSED_TOO_MANY_FLOWS  0                             0
+ *     REFUSED_FLOW_PORT       0                             0
  *     REFUSED_FRAME_LENGTH    0                             0
  *     REFUSED_SLOT_NUMBER     0                             0
- *     REFUSED_PORT_NUMBER     0                             0
+ *     REFUSED_FLOW_OR_PORT    0                             0
  *     REFUSED_RUN_LENGTH      0                             0
  */
-size_t frame_builder_count_pair(size_t ports, size_t slots, const uint8_t *frame, size_t frame_length, size_t input, size_t output,
-                                size_t start, size_t length, size_t *cells, int64_t *lead);
-size_t frame_builder_count_input(size_t ports, size_t slots, const uint8_t *frame, size_t frame_length, size_t input, size_t start,
-                                 size_t length, size_t *cells, int64_t *lead);
-size_t frame_builder_count_output(size_t ports, size_t slots, const uint8_t *frame, size_t frame_length, size_t output, size_t start,
-                                  size_t length, size_t *cells, int64_t *lead);
+size_t frame_builder_count_flow(size_t ports, size_t slots, const uint16_t *list, size_t list_length, const uint16_t *frame,
+                                size_t frame_length, size_t flow, size_t start, size_t length, size_t *cells, int64_t *lead);
+size_t frame_builder_count_input(size_t ports, size_t slots, const uint16_t *list, size_t list_length, const uint16_t *frame,
+                                 size_t frame_length, size_t input, size_t start, size_t length, size_t *cells, int64_t *lead);
+size_t frame_builder_count_output(size_t ports, size_t slots, const uint16_t *list, size_t list_length, const uint16_t *frame,
+                                  size_t frame_length, size_t output, size_t start, size_t length, size_t *cells, int64_t *lead);
 
 #ifdef __cplusplus
 }
