@@ -1,5 +1,5 @@
-/* How far ahead of its share and how far behind it the flow from input 1 to output 2 of examples/studio.sheet gets while its frame repeats,
- * and how deep a buffer it needs for so long: gcc -Iinclude examples/lead.c target/staticlib/libexports.a. docs/BUFFERS.md says why. */
+/* How far ahead of its share and how far behind it flow 1 of examples/studio.sheet gets while its frame repeats, and how deep a buffer it
+ * needs for so long: gcc -Iinclude examples/lead.c target/staticlib/libexports.a. docs/BUFFERS.md says why. */
 #include <inttypes.h>
 #include <stdio.h>
 
@@ -7,24 +7,35 @@
 
 #define PORTS 3
 #define SLOTS 8
-#define INPUT 1
-#define OUTPUT 2
+#define FLOWS 6
+#define FLOW 1
+#define LIST_LENGTH (FLOWS * FRAME_BUILDER_FLOW_NUMBERS)
+#define FRAME_LENGTH (SLOTS * PORTS)
 
-/* A run of the frame and its lead, in eighths of a cell, as the frame has eight slots. */
+/* Input, output, cells. */
+static const uint16_t list[LIST_LENGTH] = {1, 2, 3, 1, 3, 2, 2, 1, 4, 2, 3, 3, 3, 1, 1, 3, 2, 5};
+
+/* A run of the frame: its cells, and its lead in eighths of a cell, as the frame has eight slots. */
 struct run {
-    size_t start, length;
+    size_t start, length, cells;
     int64_t lead;
 };
 
-/* The first run whose lead is the greatest, or with sign -1 the least. Whole turns have lead 0, so that shorter runs are all there are. */
-static struct run farthest(const uint8_t *frame, size_t frame_length, int64_t sign)
+/* The flow in a run; Build has accepted, so that no count is refused. */
+static struct run run_of(const uint16_t *frame, size_t start, size_t length)
 {
-    struct run best = {1, 0, 0};
+    struct run run = {start, length, 0, 0};
+    frame_builder_count_flow(PORTS, SLOTS, list, LIST_LENGTH, frame, FRAME_LENGTH, FLOW, start, length, &run.cells, &run.lead);
+    return run;
+}
+
+/* The first run whose lead is the greatest, or with sign -1 the least. Whole turns have lead 0, so that shorter runs are all there are. */
+static struct run farthest(const uint16_t *frame, int64_t sign)
+{
+    struct run best = {1, 0, 0, 0};
     for (size_t start = 1; start <= SLOTS; start++) {
         for (size_t length = 1; length < SLOTS; length++) {
-            struct run run = {start, length, 0};
-            size_t cells;
-            frame_builder_count_pair(PORTS, SLOTS, frame, frame_length, INPUT, OUTPUT, start, length, &cells, &run.lead);
+            struct run run = run_of(frame, start, length);
             if (sign * run.lead > sign * best.lead)
                 best = run;
         }
@@ -39,21 +50,19 @@ static void print_run(const char *name, struct run run)
 
 int main(void)
 {
-    const uint16_t matrix[PORTS * PORTS] = {0, 3, 2, 4, 0, 3, 1, 5, 0};
-    uint8_t frame[SLOTS * PORTS];
-    size_t first, second, cells;
-    int64_t lead;
+    uint16_t frame[FRAME_LENGTH];
+    size_t first, second;
 
-    if (frame_builder_build(PORTS, SLOTS, matrix, PORTS * PORTS, frame, sizeof frame, &first, &second) != FRAME_BUILDER_ACCEPTED)
+    if (frame_builder_build(PORTS, SLOTS, list, LIST_LENGTH, frame, FRAME_LENGTH, &first, &second) != FRAME_BUILDER_ACCEPTED)
         return 1;
-    frame_builder_count_pair(PORTS, SLOTS, frame, sizeof frame, INPUT, OUTPUT, 1, SLOTS, &cells, &lead);
-    printf("pair (%d, %d): %zu cells in %d slots, lead %" PRId64 "\n", INPUT, OUTPUT, cells, SLOTS, lead);
-    struct run behind = farthest(frame, sizeof frame, -1);
-    print_run("ahead", farthest(frame, sizeof frame, 1));
+    struct run whole = run_of(frame, 1, SLOTS), behind = farthest(frame, -1);
+    printf("flow %d: %zu cells in %d slots, lead %" PRId64 "\n", FLOW, whole.cells, SLOTS, whole.lead);
+    print_run("ahead", farthest(frame, 1));
     print_run("behind", behind);
 
     /* An even source is at most one cell ahead of its rate. */
     size_t waiting = SLOTS * 1 + (size_t)-behind.lead;
-    printf("from an even source at most %zu cells wait after a slot; a buffer of %zu is enough\n", waiting / SLOTS, (waiting + cells) / SLOTS);
+    printf("from an even source at most %zu cells wait after a slot; a buffer of %zu is enough\n", waiting / SLOTS,
+           (waiting + whole.cells) / SLOTS);
     return 0;
 }

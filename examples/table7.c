@@ -6,6 +6,9 @@
 
 #define PORTS 4
 #define SLOTS 4
+#define FLOWS 5
+#define LIST_LENGTH (FLOWS * FRAME_BUILDER_FLOW_NUMBERS)
+#define FRAME_LENGTH (SLOTS * PORTS)
 
 /* Prints an answer: its text and, of a refusal or a fault, its number and its two values. */
 static void print_answer(const char *call, size_t answer, size_t first, size_t second)
@@ -17,52 +20,55 @@ static void print_answer(const char *call, size_t answer, size_t first, size_t s
 }
 
 /* Prints each slot's part of the frame. */
-static void print_slots(const uint8_t *frame, size_t length)
+static void print_slots(const uint16_t *frame)
 {
     for (size_t slot = 1; slot <= SLOTS; slot++) {
         size_t start, size;
-        if (frame_builder_slot_view(PORTS, SLOTS, frame, length, slot, &start, &size) != FRAME_BUILDER_ACCEPTED)
+        if (frame_builder_slot_view(PORTS, SLOTS, frame, FRAME_LENGTH, slot, &start, &size) != FRAME_BUILDER_ACCEPTED)
             return;
         printf("slot %zu:", slot);
-        for (size_t byte = 0; byte < size; byte++)
-            printf(" %u", frame[start + byte]);
+        for (size_t entry = 0; entry < size; entry++)
+            printf(" %u", frame[start + entry]);
         printf("\n");
     }
 }
 
-/* Prints what pair (4, 4) has in two slots of the frame; its lead is in quarters of a cell, as the frame has four slots. */
-static void print_count(const uint8_t *frame, size_t length, size_t start)
+/* Prints what flow 5 has in two slots of the frame; its lead is in quarters of a cell, as the frame has four slots. */
+static void print_count(const uint16_t *list, const uint16_t *frame, size_t start)
 {
     size_t cells;
     int64_t lead;
-    if (frame_builder_count_pair(PORTS, SLOTS, frame, length, 4, 4, start, 2, &cells, &lead) != FRAME_BUILDER_ACCEPTED)
+    if (frame_builder_count_flow(PORTS, SLOTS, list, LIST_LENGTH, frame, FRAME_LENGTH, 5, start, 2, &cells, &lead) != FRAME_BUILDER_ACCEPTED)
         return;
-    printf("pair (4, 4), 2 slots from slot %zu: %zu cells, lead %" PRId64 "/%d of a cell\n", start, cells, lead, SLOTS);
+    printf("flow 5, 2 slots from slot %zu: %zu cells, lead %" PRId64 "/%d of a cell\n", start, cells, lead, SLOTS);
 }
 
 int main(void)
 {
-    uint16_t matrix[PORTS * PORTS] = {2, 2, 0, 0, 0, 0, 0, 0, 0, 0, 0, 0, 1, 1, 0, 2};
-    uint8_t frame[SLOTS * PORTS];
+    /* Input, output, cells. */
+    uint16_t list[LIST_LENGTH] = {1, 1, 2, 1, 2, 2, 4, 1, 1, 4, 2, 1, 4, 4, 2};
+    uint16_t frame[FRAME_LENGTH];
     size_t first, second;
 
-    size_t answer = frame_builder_build(PORTS, SLOTS, matrix, PORTS * PORTS, frame, sizeof frame, &first, &second);
+    size_t answer = frame_builder_build(PORTS, SLOTS, list, LIST_LENGTH, frame, FRAME_LENGTH, &first, &second);
     print_answer("build", answer, first, second);
     if (answer != FRAME_BUILDER_ACCEPTED)
         return 1;
     printf("odd counts settled: %zu\n", first);
-    print_slots(frame, sizeof frame);
+    print_slots(frame);
 
-    answer = frame_builder_inspect(PORTS, SLOTS, matrix, PORTS * PORTS, frame, sizeof frame, &first, &second);
+    answer = frame_builder_inspect(PORTS, SLOTS, list, LIST_LENGTH, frame, FRAME_LENGTH, &first, &second);
     print_answer("inspect", answer, first, second);
-    print_count(frame, sizeof frame, 4);
-    print_count(frame, sizeof frame, 2);
+    print_count(list, frame, 4);
+    print_count(list, frame, 2);
 
-    matrix[0]++;
-    answer = frame_builder_build(PORTS, SLOTS, matrix, PORTS * PORTS, frame, sizeof frame, &first, &second);
+    /* The cells of flow 1. */
+    list[2]++;
+    answer = frame_builder_build(PORTS, SLOTS, list, LIST_LENGTH, frame, FRAME_LENGTH, &first, &second);
     print_answer("build with one cell more", answer, first, second);
-    frame[0] = 9;
-    answer = frame_builder_inspect(PORTS, SLOTS, matrix, PORTS * PORTS, frame, sizeof frame, &first, &second);
+    /* A flow of input 4 where input 1 stands. */
+    frame[0] = 5;
+    answer = frame_builder_inspect(PORTS, SLOTS, list, LIST_LENGTH, frame, FRAME_LENGTH, &first, &second);
     print_answer("inspect after damage", answer, first, second);
     return 0;
 }
