@@ -38,7 +38,8 @@ static void print_count(const uint16_t *list, const uint16_t *frame, size_t star
 {
     size_t cells;
     int64_t lead;
-    if (frame_builder_count_flow(PORTS, SLOTS, list, LIST_LENGTH, frame, FRAME_LENGTH, 5, start, 2, &cells, &lead) != FRAME_BUILDER_ACCEPTED)
+    size_t answer = frame_builder_count_flow(PORTS, SLOTS, list, LIST_LENGTH, frame, FRAME_LENGTH, 5, start, 2, &cells, &lead);
+    if (answer != FRAME_BUILDER_ACCEPTED)
         return;
     printf("flow 5, 2 slots from slot %zu: %zu cells, lead %" PRId64 "/%d of a cell\n", start, cells, lead, SLOTS);
 }
