@@ -2,22 +2,23 @@
 
 /// The cells of a run, and how far they are ahead of its share: what [`service_count`](crate::service_count) answers.
 ///
-/// The **lead** is slots × the cells of the run − length × the cells of the same pair, input or output in one whole frame, as
+/// The **lead** is slots × the cells of the run − length × the cells of the same flow, input or output in one whole frame, as
 /// counted in that frame. Its unit is 1/slots of a cell: divided by slots, it is how many cells the run has had above its share, and
 /// it is negative where the run is behind. Length 0 and whole turns of the frame have lead 0, so that a whole turn more or less
 /// leaves the lead as it is.
 ///
-/// For a frame that [`build`](crate::build) made, counted with the same ports and slots, 3 × |lead| is at most (2k + 1) × slots,
-/// where slots are 2^k: no run is farther from its share than (2k + 1)/3 cells. That is proved.
+/// For a frame that [`build`](crate::build) made, counted with the same ports, slots and list, 3 × |lead| is at most (2k + 1) ×
+/// slots, where slots are 2^k: no run is farther from its share than (2k + 1)/3 cells. That is proved.
 ///
 /// ```
-/// use frame_builder::{build, service_count, Count, Refusal, Who};
+/// use frame_builder::{build, service_count, Count, Flow, Refusal, Who};
 ///
 /// // Three cells in four slots, the last of which is idle.
+/// let list = [Flow::new(1, 1, 3)];
 /// let mut frame = [0; 4];
-/// build(1, 4, &[3], &mut frame)?;
+/// build(1, 4, &list, &mut frame)?;
 /// assert_eq!(frame, [1, 1, 1, 0]);
-/// let count = |start, length| service_count(1, 4, &frame, Who::Input(1), start, length);
+/// let count = |start, length| service_count(1, 4, &list, &frame, Who::Flow(1), start, length);
 /// // The share of two slots is one cell and a half; the run has half a cell more, or half a cell less.
 /// assert_eq!(count(1, 2)?, Count { cells: 2, lead: 2 });
 /// assert_eq!(count(4, 2)?, Count { cells: 1, lead: -2 });

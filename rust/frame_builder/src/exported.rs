@@ -1,23 +1,43 @@
 //! The functions of the static library, made safe to call: a slice goes over as its own pointer and its own length.
 
+use std::mem::size_of;
+
 use crate::numbers::Numbers;
-use crate::Who;
+use crate::{Flow, Who};
+
+/// The numbers of a list that a flow is.
+const FLOW_NUMBERS: usize = size_of::<Flow>() / size_of::<u16>();
+
+/// A call of Service count.
+type CountCall = unsafe extern "C" fn(
+    ports: usize,
+    slots: usize,
+    list: *const u16,
+    list_length: usize,
+    frame: *const u16,
+    frame_length: usize,
+    which: usize,
+    start: usize,
+    length: usize,
+    cells: &mut usize,
+    lead: &mut i64,
+) -> usize;
 
 extern "C" {
     fn frame_builder_admit(
         ports: usize,
         slots: usize,
-        matrix: *const u16,
-        matrix_length: usize,
+        list: *const u16,
+        list_length: usize,
         first: &mut usize,
         second: &mut usize,
     ) -> usize;
     fn frame_builder_build(
         ports: usize,
         slots: usize,
-        matrix: *const u16,
-        matrix_length: usize,
-        frame: *mut u8,
+        list: *const u16,
+        list_length: usize,
+        frame: *mut u16,
         frame_length: usize,
         first: &mut usize,
         second: &mut usize,
@@ -25,9 +45,9 @@ extern "C" {
     fn frame_builder_inspect(
         ports: usize,
         slots: usize,
-        matrix: *const u16,
-        matrix_length: usize,
-        frame: *const u8,
+        list: *const u16,
+        list_length: usize,
+        frame: *const u16,
         frame_length: usize,
         first: &mut usize,
         second: &mut usize,
@@ -35,19 +55,20 @@ extern "C" {
     fn frame_builder_slot_view(
         ports: usize,
         slots: usize,
-        frame: *const u8,
+        frame: *const u16,
         frame_length: usize,
         slot: usize,
         start: &mut usize,
         size: &mut usize,
     ) -> usize;
-    fn frame_builder_count_pair(
+    fn frame_builder_count_flow(
         ports: usize,
         slots: usize,
-        frame: *const u8,
+        list: *const u16,
+        list_length: usize,
+        frame: *const u16,
         frame_length: usize,
-        input: usize,
-        output: usize,
+        flow: usize,
         start: usize,
         length: usize,
         cells: &mut usize,
@@ -56,7 +77,9 @@ extern "C" {
     fn frame_builder_count_input(
         ports: usize,
         slots: usize,
-        frame: *const u8,
+        list: *const u16,
+        list_length: usize,
+        frame: *const u16,
         frame_length: usize,
         input: usize,
         start: usize,
@@ -67,7 +90,9 @@ extern "C" {
     fn frame_builder_count_output(
         ports: usize,
         slots: usize,
-        frame: *const u8,
+        list: *const u16,
+        list_length: usize,
+        frame: *const u16,
         frame_length: usize,
         output: usize,
         start: usize,
@@ -77,8 +102,13 @@ extern "C" {
     ) -> usize;
 }
 
-pub fn admit(ports: usize, slots: usize, matrix: &[u16]) -> Numbers {
-    let (data, length) = (matrix.as_ptr(), matrix.len());
+/// A list as the library takes it, its numbers end to end; a flow is three of them and nothing else.
+fn numbers_of(list: &[Flow]) -> (*const u16, usize) {
+    (list.as_ptr().cast(), list.len() * FLOW_NUMBERS)
+}
+
+pub fn admit(ports: usize, slots: usize, list: &[Flow]) -> Numbers {
+    let (data, length) = numbers_of(list);
     let mut given = Numbers::default();
     let (first, second) = (&mut given.first, &mut given.second);
     // SAFETY: the slice is readable for its length.
@@ -86,36 +116,36 @@ pub fn admit(ports: usize, slots: usize, matrix: &[u16]) -> Numbers {
     given
 }
 
-pub fn build(ports: usize, slots: usize, matrix: &[u16], frame: &mut [u8]) -> Numbers {
-    let (data, length) = (matrix.as_ptr(), matrix.len());
-    let (bytes, size) = (frame.as_mut_ptr(), frame.len());
+pub fn build(ports: usize, slots: usize, list: &[Flow], frame: &mut [u16]) -> Numbers {
+    let (data, length) = numbers_of(list);
+    let (entries, size) = (frame.as_mut_ptr(), frame.len());
     let mut given = Numbers::default();
     let (first, second) = (&mut given.first, &mut given.second);
     // SAFETY: both slices are readable for their lengths, and the frame is writable and nobody else's.
     given.number =
-        unsafe { frame_builder_build(ports, slots, data, length, bytes, size, first, second) };
+        unsafe { frame_builder_build(ports, slots, data, length, entries, size, first, second) };
     given
 }
 
-pub fn inspect(ports: usize, slots: usize, matrix: &[u16], frame: &[u8]) -> Numbers {
-    let (data, length) = (matrix.as_ptr(), matrix.len());
-    let (bytes, size) = (frame.as_ptr(), frame.len());
+pub fn inspect(ports: usize, slots: usize, list: &[Flow], frame: &[u16]) -> Numbers {
+    let (data, length) = numbers_of(list);
+    let (entries, size) = (frame.as_ptr(), frame.len());
     let mut given = Numbers::default();
     let (first, second) = (&mut given.first, &mut given.second);
     // SAFETY: both slices are readable for their lengths.
     given.number =
-        unsafe { frame_builder_inspect(ports, slots, data, length, bytes, size, first, second) };
+        unsafe { frame_builder_inspect(ports, slots, data, length, entries, size, first, second) };
     given
 }
 
 /// Where the slot's part of the frame begins, and its size.
-pub fn slot_view(ports: usize, slots: usize, frame: &[u8], slot: usize) -> Numbers {
-    let (bytes, size) = (frame.as_ptr(), frame.len());
+pub fn slot_view(ports: usize, slots: usize, frame: &[u16], slot: usize) -> Numbers {
+    let (entries, size) = (frame.as_ptr(), frame.len());
     let mut given = Numbers::default();
     let (first, second) = (&mut given.first, &mut given.second);
     // SAFETY: the slice is readable for its length.
     given.number =
-        unsafe { frame_builder_slot_view(ports, slots, bytes, size, slot, first, second) };
+        unsafe { frame_builder_slot_view(ports, slots, entries, size, slot, first, second) };
     given
 }
 
@@ -123,27 +153,26 @@ pub fn slot_view(ports: usize, slots: usize, frame: &[u8], slot: usize) -> Numbe
 pub fn service_count(
     ports: usize,
     slots: usize,
-    frame: &[u8],
+    list: &[Flow],
+    frame: &[u16],
     who: Who,
     start: usize,
     length: usize,
 ) -> Numbers {
-    let (bytes, size) = (frame.as_ptr(), frame.len());
+    let (call, which): (CountCall, usize) = match who {
+        Who::Flow(flow) => (frame_builder_count_flow, flow),
+        Who::Input(port) => (frame_builder_count_input, port),
+        Who::Output(port) => (frame_builder_count_output, port),
+    };
+    let (data, numbers) = numbers_of(list);
+    let (entries, size) = (frame.as_ptr(), frame.len());
     let mut given = Numbers::default();
     let (cells, lead) = (&mut given.first, &mut given.lead);
-    // SAFETY: the slice is readable for its length.
+    // SAFETY: both slices are readable for their lengths.
     given.number = unsafe {
-        match who {
-            Who::Pair { input, output } => frame_builder_count_pair(
-                ports, slots, bytes, size, input, output, start, length, cells, lead,
-            ),
-            Who::Input(port) => frame_builder_count_input(
-                ports, slots, bytes, size, port, start, length, cells, lead,
-            ),
-            Who::Output(port) => frame_builder_count_output(
-                ports, slots, bytes, size, port, start, length, cells, lead,
-            ),
-        }
+        call(
+            ports, slots, data, numbers, entries, size, which, start, length, cells, lead,
+        )
     };
     given
 }

@@ -28,14 +28,18 @@ impl Inspection {
     /// The fault as an error, for callers that go on with a clean frame only.
     ///
     /// ```
-    /// fn put_on_the_wire(matrix: &[u16], frame: &[u8]) -> Result<(), Box<dyn std::error::Error>> {
-    ///     frame_builder::inspect(2, 2, matrix, frame)?.clean()?;
+    /// use frame_builder::{inspect, Flow};
+    ///
+    /// fn put_on_the_wire(list: &[Flow], frame: &[u16]) -> Result<(), Box<dyn std::error::Error>> {
+    ///     inspect(2, 2, list, frame)?.clean()?;
     ///     // ..
     ///     Ok(())
     /// }
     ///
-    /// assert!(put_on_the_wire(&[1, 0, 0, 1], &[1, 0, 0, 2]).is_ok());
-    /// let error = put_on_the_wire(&[1, 0, 0, 1], &[2, 2, 0, 0]).unwrap_err();
+    /// // One cell from each input, both to output 2.
+    /// let list = [Flow::new(1, 2, 1), Flow::new(2, 2, 1)];
+    /// assert!(put_on_the_wire(&list, &[1, 0, 0, 2]).is_ok());
+    /// let error = put_on_the_wire(&list, &[1, 2, 0, 0]).unwrap_err();
     /// assert_eq!(error.to_string(), "in slot 1 output 2 is used twice");
     /// ```
     ///
@@ -64,16 +68,16 @@ impl fmt::Display for Inspection {
 /// Faults are looked for in the order of these cases; within a case the earliest is given. As text it is a sentence:
 ///
 /// ```
-/// let fault = frame_builder::Fault::PairCount { input: 4, output: 2 };
-/// assert_eq!(fault.to_string(), "pair (4, 2) is in the wrong number of slots");
+/// let fault = frame_builder::Fault::FlowCount { flow: 5 };
+/// assert_eq!(fault.to_string(), "flow 5 is in the wrong number of slots");
 /// ```
 #[derive(Clone, Copy, Debug, PartialEq, Eq, Hash)]
 pub enum Fault {
-    /// 101: a byte is above ports, so that it names no output of the switch. The lowest slot, then input.
-    ByteTooLarge {
-        /// The slot that the byte is in.
+    /// 101: an entry is wrong: above the number of flows, or the number of a flow of another input. The lowest slot, then input.
+    WrongEntry {
+        /// The slot that the entry is in.
         slot: usize,
-        /// The input that the byte is of.
+        /// The input that the entry is of.
         input: usize,
     },
     /// 102: an output is sent to by two inputs in the same slot. The lowest slot, then output.
@@ -83,14 +87,12 @@ pub enum Fault {
         /// The output.
         output: usize,
     },
-    /// 103: a pair is in more slots or in fewer than the matrix says. The first pair of the matrix.
-    PairCount {
-        /// The pair's input.
-        input: usize,
-        /// The pair's output.
-        output: usize,
+    /// 103: a flow is in more slots or in fewer than it has cells. The first flow in the list.
+    FlowCount {
+        /// The flow's number.
+        flow: usize,
     },
-    /// 104: the halves of a block differ by more than one cell in some pair, input or output, or in all cells. The largest block, then
+    /// 104: the halves of a block differ by more than one cell in some flow, input or output, or in all cells. The largest block, then
     /// the earliest.
     UnbalancedBlock {
         /// The first slot of the block.
@@ -109,9 +111,9 @@ impl Fault {
     /// ```
     pub const fn number(self) -> usize {
         match self {
-            Fault::ByteTooLarge { .. } => 101,
+            Fault::WrongEntry { .. } => 101,
             Fault::OutputTwice { .. } => 102,
-            Fault::PairCount { .. } => 103,
+            Fault::FlowCount { .. } => 103,
             Fault::UnbalancedBlock { .. } => 104,
         }
     }
@@ -120,20 +122,17 @@ impl Fault {
 impl fmt::Display for Fault {
     fn fmt(&self, to: &mut fmt::Formatter<'_>) -> fmt::Result {
         match self {
-            Fault::ByteTooLarge { slot, input } => {
+            Fault::WrongEntry { slot, input } => {
                 write!(
                     to,
-                    "in slot {slot} the byte of input {input} is above ports"
+                    "in slot {slot} the entry of input {input} is no flow of that input"
                 )
             }
             Fault::OutputTwice { slot, output } => {
                 write!(to, "in slot {slot} output {output} is used twice")
             }
-            Fault::PairCount { input, output } => {
-                write!(
-                    to,
-                    "pair ({input}, {output}) is in the wrong number of slots"
-                )
+            Fault::FlowCount { flow } => {
+                write!(to, "flow {flow} is in the wrong number of slots")
             }
             Fault::UnbalancedBlock { slot, size } => {
                 write!(

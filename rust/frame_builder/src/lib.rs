@@ -10,14 +10,15 @@
 //! numbered from 1. Time is cut into **slots**, also numbered from 1: in one slot an input sends at most one cell, and an output
 //! takes at most one.
 //!
-//! A **frame** says what the switch does in 1, 2, 4, .. or 1,024 slots, after which it begins again. It is slots × ports bytes, slot
-//! 1 first; within a slot there is one byte per input: the output that the input sends to, or 0 where it is idle.
+//! A [**flow**](Flow) is so many cells per frame that are reserved from an input to an output. A **list** is all of them, up to 512, and
+//! a flow's number is its place there, from 1. Several flows may have the same input and output, such as sound and picture between the
+//! same two ports: each has its own slots, so that each can have a buffer of its own. A list fits if no input and no output is asked for
+//! more cells than the frame has slots; every list that fits can be built. [`in_matrix_order`] makes the list of a load matrix.
 //!
-//! A **matrix** is the load: how many cells per frame are reserved from each input to each output. It is ports × ports counts, row
-//! by row: all outputs of input 1, then of input 2, and so on. It fits if no input and no output is asked for more cells than the
-//! frame has slots; every load that fits can be built.
+//! A **frame** says what the switch does in 1, 2, 4, .. or 1,024 slots, after which it begins again. It is slots × ports entries, slot
+//! 1 first; within a slot there is one entry per input: the number of the flow that the input sends a cell of, or 0 where it is idle.
 //!
-//! A frame is **balanced** if the cells of every pair, input and output, and all cells together, are spread evenly: a frame of two or
+//! A frame is **balanced** if the cells of every flow, input and output, and all cells together, are spread evenly: a frame of two or
 //! more slots has two halves, which differ by at most one cell, each half is split again, and so on down to the slots. The frame, its
 //! halves, their halves and so on are its **blocks**.
 //!
@@ -26,24 +27,25 @@
 //!
 //! # Calls
 //!
-//! | call | what it does | refusals |
+//! | call | what it does | refusals, in their order |
 //! |---|---|---|
-//! | [`admit`] | says whether a load would be built | 1, 2, 3, 5, 6 |
-//! | [`build`] | fills a frame, and says how much work that was | 1, 2, 3, 4, 5, 6 |
-//! | [`inspect`] | looks over a frame that came from anywhere | 1, 2, 3, 4 |
+//! | [`admit`] | says whether a list would be built | 1, 2, 21, 22, 5, 6 |
+//! | [`build`] | fills a frame, and says how much work that was | 1, 2, 21, 22, 4, 5, 6 |
+//! | [`inspect`] | looks over a frame that came from anywhere | 1, 2, 21, 22, 4 |
 //! | [`slot_view`] | shows a slot's part of a frame | 1, 2, 4, 11 |
-//! | [`service_count`] | counts the cells that a pair, an input or an output gets in a run, with their lead | 1, 2, 4, 11, 12, 13 |
+//! | [`service_count`] | counts the cells that a flow, an input or an output gets in a run, with their lead | 1, 2, 21, 22, 4, 11, 12, 13 |
 //!
 //! Every call takes any numbers and slices of any length, and none panics. One that cannot be answered is turned away with a
 //! [`Refusal`], the first in the table's order that holds. **A refusal leaves everything as it was**: above all, a refused [`build`]
-//! leaves every byte of the frame, so that the switch can go on with it.
+//! leaves every entry of the frame, so that the switch can go on with it.
 //!
 //! | limit | |
 //! |---|---|
 //! | ports | 1 to 16, [`MAX_PORTS`] |
 //! | slots of a frame | a power of two from 1 to 1,024, [`MAX_SLOTS`] |
-//! | bytes of a frame | slots × ports, up to 16,384, [`MAX_FRAME_BYTES`] |
-//! | cells of a pair in the matrix | 0 to 65,535, [`MAX_PAIR_CELLS`] |
+//! | flows of a list | 0 to 512, [`MAX_FLOWS`] |
+//! | cells of a flow | 0 to 65,535, [`MAX_FLOW_CELLS`] |
+//! | entries of a frame | slots × ports, up to 16,384, [`MAX_FRAME_ENTRIES`] |
 //! | slots of a run | 0 to 1,000,000, [`MAX_RUN_SLOTS`] |
 //!
 //! # Example
@@ -51,41 +53,43 @@
 //! Four ports and four slots. Input 1 sends two cells to output 1 and two to output 2, input 4 one each to 1 and 2 and two to 4.
 //!
 //! ```
-//! use frame_builder::{build, inspect, service_count, slot_view, Count, Inspection, Refusal, Who};
+//! use frame_builder::{build, inspect, service_count, slot_view, Count, Flow, Inspection, Refusal, Who};
 //!
 //! # fn main() -> Result<(), Refusal> {
 //! let (ports, slots) = (4, 4);
-//! let matrix = [
-//!     2, 2, 0, 0, //
-//!     0, 0, 0, 0, //
-//!     0, 0, 0, 0, //
-//!     1, 1, 0, 2, //
+//! // Input, output, cells; flow 1 comes first.
+//! let list = [
+//!     Flow::new(1, 1, 2),
+//!     Flow::new(1, 2, 2),
+//!     Flow::new(4, 1, 1),
+//!     Flow::new(4, 2, 1),
+//!     Flow::new(4, 4, 2),
 //! ];
 //! let mut frame = [0; 16];
-//! build(ports, slots, &matrix, &mut frame)?;
+//! build(ports, slots, &list, &mut frame)?;
 //! assert_eq!(
 //!     frame,
 //!     [
+//!         1, 0, 0, 5, //
+//!         2, 0, 0, 3, //
 //!         1, 0, 0, 4, //
-//!         2, 0, 0, 1, //
-//!         1, 0, 0, 2, //
-//!         2, 0, 0, 4, //
+//!         2, 0, 0, 5, //
 //!     ]
 //! );
-//! assert_eq!(inspect(ports, slots, &matrix, &frame)?, Inspection::Clean);
+//! assert_eq!(inspect(ports, slots, &list, &frame)?, Inspection::Clean);
 //!
-//! // In slot 2 input 1 sends to output 2 and input 4 to output 1.
-//! assert_eq!(slot_view(ports, slots, &frame, 2)?, [2, 0, 0, 1]);
+//! // In slot 2 input 1 sends a cell of flow 2, to output 2, and input 4 one of flow 3, to output 1.
+//! assert_eq!(slot_view(ports, slots, &frame, 2)?, [2, 0, 0, 3]);
 //!
-//! // Two slots from slot 4 on are slot 4 and, as the frame repeats, slot 1. Both have a cell, and the share is one: the pair is a
-//! // cell ahead, four quarters.
-//! let pair = Who::Pair { input: 4, output: 4 };
-//! assert_eq!(service_count(ports, slots, &frame, pair, 4, 2)?, Count { cells: 2, lead: 4 });
+//! // Two slots from slot 4 on are slot 4 and, as the frame repeats, slot 1. Both have a cell of flow 5, and the share is one: the
+//! // flow is a cell ahead, four quarters.
+//! let count = service_count(ports, slots, &list, &frame, Who::Flow(5), 4, 2)?;
+//! assert_eq!(count, Count { cells: 2, lead: 4 });
 //!
 //! // Five cells from input 3 do not fit four slots, and the frame stays as it is.
 //! let before = frame;
-//! let mut overloaded = matrix;
-//! overloaded[8] = 5;
+//! let mut overloaded = list;
+//! overloaded[0] = Flow::new(3, 1, 5);
 //! let refusal = Refusal::InputLoad { port: 3, cells: 5 };
 //! assert_eq!(build(ports, slots, &overloaded, &mut frame), Err(refusal));
 //! assert_eq!(refusal.number(), 5);
@@ -107,7 +111,7 @@
 //!    the crate stands in. It needs the Rattle kit.
 //!
 //! A variable that is set and leads to no library is an error, as is an installed one that is not whole, and one of another version
-//! than 3, whose calls take other arguments or answer otherwise: nothing else is taken in its place. An empty variable is as one that
+//! than 4, whose calls take other arguments or answer otherwise: nothing else is taken in its place. An empty variable is as one that
 //! is not set. Where no way leads to a library, the error says why each of them did not.
 //!
 //! A crate that depends on this one directly has in its own build script `DEP_FRAME_BUILDER_ARCHIVE`, the archive,
@@ -119,12 +123,14 @@
 mod count;
 #[allow(unsafe_code)]
 mod exported;
+mod flow;
 mod inspection;
 mod numbers;
 mod refusal;
 mod who;
 
 pub use count::Count;
+pub use flow::{in_matrix_order, Flow};
 pub use inspection::{Fault, Inspection};
 pub use refusal::Refusal;
 pub use who::Who;
@@ -143,92 +149,99 @@ pub const MAX_PORTS: usize = 16;
 /// The most slots of a frame.
 pub const MAX_SLOTS: usize = 1_024;
 
-/// The most bytes of a frame.
-pub const MAX_FRAME_BYTES: usize = MAX_SLOTS * MAX_PORTS;
+/// The most flows of a list.
+pub const MAX_FLOWS: usize = 512;
 
-/// The most cells that a matrix can ask for a pair.
-pub const MAX_PAIR_CELLS: usize = 65_535;
+/// The most cells that a flow can ask for.
+pub const MAX_FLOW_CELLS: usize = 65_535;
+
+/// The most entries of a frame.
+pub const MAX_FRAME_ENTRIES: usize = MAX_SLOTS * MAX_PORTS;
 
 /// The most slots of a run that [`service_count`] counts.
 pub const MAX_RUN_SLOTS: usize = 1_000_000;
 
-/// Says whether a load would be built.
+/// Says whether a list would be built.
 ///
 /// # Errors
 ///
-/// Refusals 1, 2, 3, 5 and 6, the first of them that holds.
+/// Refusals 1, 2, 21, 22, 5 and 6, the first of them that holds.
 ///
 /// ```
-/// use frame_builder::{admit, Refusal};
+/// use frame_builder::{admit, Flow, Refusal};
 ///
-/// assert_eq!(admit(2, 4, &[3, 1, 0, 3]), Ok(()));
+/// assert_eq!(admit(2, 4, &[Flow::new(1, 1, 3), Flow::new(1, 2, 1), Flow::new(2, 2, 3)]), Ok(()));
 /// let refusal = Refusal::OutputLoad { port: 2, cells: 5 };
-/// assert_eq!(admit(2, 4, &[3, 1, 0, 4]), Err(refusal));
+/// assert_eq!(admit(2, 4, &[Flow::new(1, 2, 1), Flow::new(2, 2, 4)]), Err(refusal));
+/// assert_eq!(admit(2, 4, &[Flow::new(3, 1, 1)]), Err(Refusal::FlowPort));
+/// assert_eq!(admit(2, 4, &[]), Ok(()));
 /// ```
-pub fn admit(ports: usize, slots: usize, matrix: &[u16]) -> Result<(), Refusal> {
-    exported::admit(ports, slots, matrix).answer()
+pub fn admit(ports: usize, slots: usize, list: &[Flow]) -> Result<(), Refusal> {
+    exported::admit(ports, slots, list).answer()
 }
 
-/// Fills the frame with the one schedule of the load, and says how many odd counts were settled for it.
+/// Fills the frame with the one schedule of the list, and says how many odd counts were settled for it.
 ///
-/// Those are, over all blocks of two or more slots, the pairs with an odd number of cells in that block of the frame: the halves of
+/// Those are, over all blocks of two or more slots, the flows with an odd number of cells in that block of the frame: the halves of
 /// the block cannot have as many cells each, so that it has to be found which gets one more. They say how much work the build was:
-/// its instructions grow with them. There are 0 to ports × slots × k of them, where slots are 2^k. One cell for each pair, in as many
-/// slots as ports, comes to that; with more slots than ports there are fewer, 81,664 at most for 16 ports and 1,024 slots.
+/// its instructions grow with them. There are 0 to ports × slots × k of them, where slots are 2^k. A flow of one cell for each pair, in
+/// as many slots as ports, comes to that. No block has more of them than the list has flows, so that there are 97,792 at most for 16
+/// ports and 1,024 slots.
 ///
 /// # Errors
 ///
-/// Refusals 1 to 6, the first of them that holds; the frame then keeps every byte.
+/// Refusals 1, 2, 21, 22, 4, 5 and 6, the first of them that holds; the frame then keeps every entry.
 ///
 /// ```
-/// use frame_builder::{build, Refusal};
+/// use frame_builder::{build, Flow, Refusal};
 ///
+/// let list = [Flow::new(1, 1, 2), Flow::new(2, 2, 1)];
 /// let mut frame = [9; 8];
-/// assert_eq!(build(2, 3, &[1, 0, 0, 1], &mut frame), Err(Refusal::Slots));
+/// assert_eq!(build(2, 3, &list, &mut frame), Err(Refusal::Slots));
 /// assert_eq!(frame, [9; 8]);
-/// // Pair (2, 2) has one cell in the frame and in its first half, pair (1, 1) one in each half.
-/// assert_eq!(build(2, 4, &[2, 0, 0, 1], &mut frame), Ok(4));
+/// // Flow 2 has one cell in the frame and in its first half, flow 1 one in each half.
+/// assert_eq!(build(2, 4, &list, &mut frame), Ok(4));
 /// assert_eq!(frame, [1, 0, 0, 2, 1, 0, 0, 0]);
 /// ```
 pub fn build(
     ports: usize,
     slots: usize,
-    matrix: &[u16],
-    frame: &mut [u8],
+    list: &[Flow],
+    frame: &mut [u16],
 ) -> Result<usize, Refusal> {
-    exported::build(ports, slots, matrix, frame).settled()
+    exported::build(ports, slots, list, frame).settled()
 }
 
-/// Looks over a frame from anywhere: whether it carries the load of the matrix, and evenly.
+/// Looks over a frame from anywhere: whether it carries the flows of the list, and evenly.
 ///
 /// # Errors
 ///
-/// Refusals 1 to 4, the first of them that holds. An overloaded matrix is not refused: no frame carries it.
+/// Refusals 1, 2, 21, 22 and 4, the first of them that holds. An overloaded list is not refused: no frame carries it.
 ///
 /// ```
-/// use frame_builder::{inspect, Fault, Inspection};
+/// use frame_builder::{inspect, Fault, Flow, Inspection};
 ///
-/// let matrix = [1, 0, 0, 1];
-/// assert_eq!(inspect(2, 2, &matrix, &[1, 0, 0, 2]), Ok(Inspection::Clean));
+/// let list = [Flow::new(1, 2, 1), Flow::new(2, 2, 1)];
+/// assert_eq!(inspect(2, 2, &list, &[1, 0, 0, 2]), Ok(Inspection::Clean));
+/// let fault = Fault::WrongEntry { slot: 2, input: 2 };
+/// assert_eq!(inspect(2, 2, &list, &[1, 0, 0, 1]), Ok(Inspection::Faulty(fault)));
 /// let fault = Fault::OutputTwice { slot: 1, output: 2 };
-/// assert_eq!(inspect(2, 2, &matrix, &[2, 2, 0, 0]), Ok(Inspection::Faulty(fault)));
-/// let fault = Fault::UnbalancedBlock { slot: 1, size: 2 };
-/// assert_eq!(inspect(2, 2, &matrix, &[1, 2, 0, 0]), Ok(Inspection::Faulty(fault)));
+/// assert_eq!(inspect(2, 2, &list, &[1, 2, 0, 0]), Ok(Inspection::Faulty(fault)));
 /// ```
 pub fn inspect(
     ports: usize,
     slots: usize,
-    matrix: &[u16],
-    frame: &[u8],
+    list: &[Flow],
+    frame: &[u16],
 ) -> Result<Inspection, Refusal> {
-    let given = exported::inspect(ports, slots, matrix, frame);
+    let given = exported::inspect(ports, slots, list, frame);
     match given.fault() {
         Some(fault) => Ok(Inspection::Faulty(fault)),
         None => given.answer().map(|()| Inspection::Clean),
     }
 }
 
-/// The slot's part of the frame, one byte per input: the bytes themselves, not a copy.
+/// The slot's part of the frame, one entry per input: the entries themselves, not a copy.
 ///
 /// # Errors
 ///
@@ -243,7 +256,12 @@ pub fn inspect(
 /// assert_eq!(slot_view(2, 2, &frame, 3), Err(Refusal::SlotNumber));
 /// # Ok::<(), Refusal>(())
 /// ```
-pub fn slot_view(ports: usize, slots: usize, frame: &[u8], slot: usize) -> Result<&[u8], Refusal> {
+pub fn slot_view(
+    ports: usize,
+    slots: usize,
+    frame: &[u16],
+    slot: usize,
+) -> Result<&[u16], Refusal> {
     let given = exported::slot_view(ports, slots, frame, slot);
     given.answer()?;
     let rest = frame.get(given.first..).unwrap_or_default();
@@ -251,41 +269,43 @@ pub fn slot_view(ports: usize, slots: usize, frame: &[u8], slot: usize) -> Resul
     Ok(rest.get(..given.second).unwrap_or_default())
 }
 
-/// Counts the cells of a pair, an input or an output in a run of the repeating frame, `length` slots from slot `start` on, and says
+/// Counts the cells of a flow, an input or an output in a run of the repeating frame, `length` slots from slot `start` on, and says
 /// how far they are ahead of the run's share, or behind: its [lead](Count).
 ///
-/// The frame may have any bytes: for a pair, those of the input that are the output's number are counted, for an input, its bytes
-/// that are not 0, for an output, all bytes that are its number. After the last slot comes slot 1 again.
+/// The frame may have any entries: for a flow, those that are its number are counted, at whatever input they stand, for an input, its
+/// entries that are not 0, for an output, those that are the number of a flow to it, at whatever input they stand. So an entry above the
+/// number of flows counts for its input only. After the last slot comes slot 1 again.
 ///
 /// # Errors
 ///
-/// Refusals 1, 2, 4, 11, 12 and 13, the first of them that holds.
+/// Refusals 1, 2, 21, 22, 4, 11, 12 and 13, the first of them that holds.
 ///
 /// ```
-/// use frame_builder::{service_count, Count, Refusal, Who};
+/// use frame_builder::{service_count, Count, Flow, Refusal, Who};
 ///
+/// let list = [Flow::new(1, 1, 1), Flow::new(2, 2, 1), Flow::new(2, 1, 1)];
 /// // In slot 1 input 1 sends to output 1 and input 2 to output 2, in slot 2 input 2 to output 1.
-/// let frame = [1, 2, 0, 1];
+/// let frame = [1, 2, 0, 3];
 /// // Slots 2, 1, 2.
-/// let count = |who| service_count(2, 2, &frame, who, 2, 3);
+/// let count = |who| service_count(2, 2, &list, &frame, who, 2, 3);
 /// // One cell a frame: a cell and a half is the share of three slots.
-/// let pair = Who::Pair { input: 2, output: 1 };
-/// assert_eq!(count(pair), Ok(Count { cells: 2, lead: 1 }));
+/// assert_eq!(count(Who::Flow(3)), Ok(Count { cells: 2, lead: 1 }));
 /// assert_eq!(count(Who::Input(1)), Ok(Count { cells: 1, lead: -1 }));
 /// // A cell in every slot.
 /// assert_eq!(count(Who::Output(1)), Ok(Count { cells: 3, lead: 0 }));
-/// assert_eq!(count(Who::Input(3)), Err(Refusal::PortNumber));
-/// assert_eq!(service_count(2, 2, &frame, pair, 1, 1_000_001), Err(Refusal::RunLength));
+/// assert_eq!(count(Who::Flow(4)), Err(Refusal::FlowOrPort));
+/// assert_eq!(service_count(2, 2, &list, &frame, Who::Flow(3), 1, 1_000_001), Err(Refusal::RunLength));
 /// ```
 pub fn service_count(
     ports: usize,
     slots: usize,
-    frame: &[u8],
+    list: &[Flow],
+    frame: &[u16],
     who: Who,
     start: usize,
     length: usize,
 ) -> Result<Count, Refusal> {
-    exported::service_count(ports, slots, frame, who, start, length).count()
+    exported::service_count(ports, slots, list, frame, who, start, length).count()
 }
 
 /// The example of the README is run too.

@@ -34,22 +34,23 @@ impl Numbers {
         match self.number {
             1 => Refusal::Ports,
             2 => Refusal::Slots,
-            3 => Refusal::MatrixLength,
             4 => Refusal::FrameLength,
             5 => Refusal::InputLoad { port, cells },
             6 => Refusal::OutputLoad { port, cells },
             11 => Refusal::SlotNumber,
-            12 => Refusal::PortNumber,
-            // By the library's contract this is 13: no call refuses with another number.
-            _ => Refusal::RunLength,
+            12 => Refusal::FlowOrPort,
+            13 => Refusal::RunLength,
+            21 => Refusal::TooManyFlows,
+            // By the library's contract this is 22: a slice of flows is never 3, and no call refuses with another number.
+            _ => Refusal::FlowPort,
         }
     }
 
     pub fn fault(&self) -> Option<Fault> {
         match (self.number, self.first, self.second) {
-            (101, slot, input) => Some(Fault::ByteTooLarge { slot, input }),
+            (101, slot, input) => Some(Fault::WrongEntry { slot, input }),
             (102, slot, output) => Some(Fault::OutputTwice { slot, output }),
-            (103, input, output) => Some(Fault::PairCount { input, output }),
+            (103, flow, _) => Some(Fault::FlowCount { flow }),
             (104, slot, size) => Some(Fault::UnbalancedBlock { slot, size }),
             _ => None,
         }

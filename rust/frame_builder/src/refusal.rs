@@ -5,7 +5,8 @@ use std::fmt;
 
 /// Why a call was turned away.
 ///
-/// Where several reasons hold, the one with the lowest number is given. As text it is a sentence for whoever caused it:
+/// Where several reasons hold, the first in the order of the call is given, as the [table of calls](crate#calls) has it. As text it is a
+/// sentence for whoever caused it:
 ///
 /// ```
 /// let refusal = frame_builder::Refusal::InputLoad { port: 3, cells: 70 };
@@ -17,9 +18,7 @@ pub enum Refusal {
     Ports,
     /// 2, caused by whoever sets up the rack: slots are not a power of two from 1 to [`MAX_SLOTS`](crate::MAX_SLOTS).
     Slots,
-    /// 3, caused by the calling program: the matrix does not have ports × ports counts.
-    MatrixLength,
-    /// 4, caused by the calling program: the frame does not have slots × ports bytes.
+    /// 4, caused by the calling program: the frame does not have slots × ports entries.
     FrameLength,
     /// 5, caused by the house that reserves: an input is asked for more cells than the frame has slots.
     InputLoad {
@@ -37,10 +36,14 @@ pub enum Refusal {
     },
     /// 11, caused by whoever asks about a frame: a slot, or the start of a run, is not 1 to slots.
     SlotNumber,
-    /// 12, caused by whoever asks about a frame: a port is not 1 to ports.
-    PortNumber,
+    /// 12, caused by whoever asks about a frame: a flow is not in the list, or a port is not 1 to ports.
+    FlowOrPort,
     /// 13, caused by whoever asks about a frame: a run is longer than [`MAX_RUN_SLOTS`](crate::MAX_RUN_SLOTS) slots.
     RunLength,
+    /// 21, caused by the house that reserves: the list has more than [`MAX_FLOWS`](crate::MAX_FLOWS) flows.
+    TooManyFlows,
+    /// 22, caused by the house that reserves: a flow's input or output is not 1 to ports.
+    FlowPort,
 }
 
 impl Refusal {
@@ -53,13 +56,14 @@ impl Refusal {
         match self {
             Refusal::Ports => 1,
             Refusal::Slots => 2,
-            Refusal::MatrixLength => 3,
             Refusal::FrameLength => 4,
             Refusal::InputLoad { .. } => 5,
             Refusal::OutputLoad { .. } => 6,
             Refusal::SlotNumber => 11,
-            Refusal::PortNumber => 12,
+            Refusal::FlowOrPort => 12,
             Refusal::RunLength => 13,
+            Refusal::TooManyFlows => 21,
+            Refusal::FlowPort => 22,
         }
     }
 }
@@ -75,7 +79,6 @@ impl fmt::Display for Refusal {
                     "the number of slots is not a power of two from 1 to 1,024"
                 )
             }
-            Refusal::MatrixLength => write!(to, "the matrix's length is not ports × ports"),
             Refusal::FrameLength => write!(to, "the frame's length is not slots × ports"),
             Refusal::InputLoad { port, cells } => {
                 write!(to, "input {port} is asked for {cells} cells, {above}")
@@ -84,8 +87,15 @@ impl fmt::Display for Refusal {
                 write!(to, "output {port} is asked for {cells} cells, {above}")
             }
             Refusal::SlotNumber => write!(to, "the slot or start is outside 1 to slots"),
-            Refusal::PortNumber => write!(to, "a port is outside 1 to ports"),
+            Refusal::FlowOrPort => {
+                write!(
+                    to,
+                    "the flow is not in the list, or the port is outside 1 to ports"
+                )
+            }
             Refusal::RunLength => write!(to, "the run is longer than 1,000,000 slots"),
+            Refusal::TooManyFlows => write!(to, "there are more than 512 flows"),
+            Refusal::FlowPort => write!(to, "a flow's input or output is outside 1 to ports"),
         }
     }
 }

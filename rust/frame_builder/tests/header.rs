@@ -1,6 +1,6 @@
 //! The crate and the C header of the library that it is linked with name the same numbers.
 
-use frame_builder::{Fault, Inspection, Refusal};
+use frame_builder::{Fault, Flow, Inspection, Refusal};
 
 const HEADER: &str = include_str!(env!("FRAME_BUILDER_HEADER"));
 
@@ -28,15 +28,24 @@ fn version() {
 fn limits() {
     assert_eq!(number("MAX_PORTS"), Some(frame_builder::MAX_PORTS));
     assert_eq!(number("MAX_SLOTS"), Some(frame_builder::MAX_SLOTS));
+    assert_eq!(number("MAX_FLOWS"), Some(frame_builder::MAX_FLOWS));
     assert_eq!(
-        number("MAX_FRAME_BYTES"),
-        Some(frame_builder::MAX_FRAME_BYTES)
+        number("MAX_FLOW_CELLS"),
+        Some(frame_builder::MAX_FLOW_CELLS)
     );
     assert_eq!(
-        number("MAX_PAIR_CELLS"),
-        Some(frame_builder::MAX_PAIR_CELLS)
+        number("MAX_FRAME_ENTRIES"),
+        Some(frame_builder::MAX_FRAME_ENTRIES)
     );
     assert_eq!(number("MAX_RUN_SLOTS"), Some(frame_builder::MAX_RUN_SLOTS));
+}
+
+/// A flow is so many numbers of a list, and nothing else.
+#[test]
+fn numbers_of_a_flow() {
+    let numbers = size_of::<Flow>() / size_of::<u16>();
+    assert_eq!(number("FLOW_NUMBERS"), Some(numbers));
+    assert_eq!(align_of::<Flow>(), align_of::<u16>());
 }
 
 #[test]
@@ -45,13 +54,14 @@ fn refusals() {
     let refusals = [
         ("PORTS", Refusal::Ports),
         ("SLOTS", Refusal::Slots),
-        ("MATRIX_LENGTH", Refusal::MatrixLength),
         ("FRAME_LENGTH", Refusal::FrameLength),
         ("INPUT_LOAD", Refusal::InputLoad { port, cells }),
         ("OUTPUT_LOAD", Refusal::OutputLoad { port, cells }),
         ("SLOT_NUMBER", Refusal::SlotNumber),
-        ("PORT_NUMBER", Refusal::PortNumber),
+        ("FLOW_OR_PORT", Refusal::FlowOrPort),
         ("RUN_LENGTH", Refusal::RunLength),
+        ("TOO_MANY_FLOWS", Refusal::TooManyFlows),
+        ("FLOW_PORT", Refusal::FlowPort),
     ];
     for (name, refusal) in refusals {
         let defined = number(&format!("REFUSED_{name}"));
@@ -59,21 +69,24 @@ fn refusals() {
     }
 }
 
+/// The sheet program's, and that of a list that is not of whole flows, which no slice of flows is.
 #[test]
-fn refusals_of_the_sheet_program() {
+fn refusals_that_the_crate_does_not_have() {
+    assert_eq!(number("REFUSED_LIST_LENGTH"), Some(3));
     assert_eq!(number("REFUSED_LINE_FORM"), Some(7));
     assert_eq!(number("REFUSED_LINE_PORT"), Some(8));
-    assert_eq!(number("REFUSED_LINE_PAIR"), Some(9));
     assert_eq!(number("REFUSED_SHEET_LENGTH"), Some(10));
+    let names = HEADER.matches("#define FRAME_BUILDER_REFUSED_").count();
+    assert_eq!(names, 4 + 10);
 }
 
 #[test]
 fn faults() {
-    let (slot, size, input, output) = (1, 2, 3, 4);
+    let (slot, size, input, output, flow) = (1, 2, 3, 4, 5);
     let faults = [
-        ("BYTE_TOO_LARGE", Fault::ByteTooLarge { slot, input }),
+        ("WRONG_ENTRY", Fault::WrongEntry { slot, input }),
         ("OUTPUT_TWICE", Fault::OutputTwice { slot, output }),
-        ("PAIR_COUNT", Fault::PairCount { input, output }),
+        ("FLOW_COUNT", Fault::FlowCount { flow }),
         ("UNBALANCED_BLOCK", Fault::UnbalancedBlock { slot, size }),
     ];
     for (name, fault) in faults {
