@@ -1,6 +1,6 @@
-//! The picture of a flow: how far it is ahead of its share along the frame.
+//! The picture of a flow, an input or an output: how far it is ahead of its share along the frame.
 
-use crate::flow::Course;
+use crate::course::Course;
 use crate::svg::{count, dot, signed, Page, Path};
 
 const SIZE: (f64, f64) = (1_200.0, 560.0);
@@ -67,11 +67,11 @@ fn thirds(course: &Course) -> i64 {
     2 * course.halvings() + 1
 }
 
-/// The picture of a flow.
-pub fn draw_flow(course: &Course) -> String {
+/// The picture of a flow, an input or an output.
+pub fn draw_course(course: &Course) -> String {
     let cells = count(course.load, "cell");
     let slots = count(course.slots as usize, "slot");
-    let name = course.name();
+    let name = &course.name;
     let halvings = course.halvings();
     let title = format!("{name}: m = {cells} in a frame of 2^k = {slots} (k = {halvings})");
     let plot = Plot::of(course);
@@ -243,11 +243,12 @@ mod tests {
     use frame_builder::Who;
 
     use super::*;
-    use crate::flow::tests::{course, pair, table7};
+    use crate::course::tests::{course, course_through, table7};
+    use crate::frame::tests::frame_of;
 
     #[test]
-    fn the_line_of_pair_4_4_of_table_7() {
-        let course = table7(pair(4, 4));
+    fn the_line_of_flow_5_of_table_7() {
+        let course = table7(Who::Flow(5));
         let plot = Plot::of(&course);
         // Half a cell is 196 / (1.15 × 5/3) / 2 = 51.13 high, a slot 1052 / 4 = 263 wide.
         let path = course_path(&plot, &course);
@@ -256,9 +257,9 @@ mod tests {
     }
 
     #[test]
-    fn a_flow_that_keeps_its_share_is_one_line() {
-        for flow in [Who::Input(4), Who::Input(2), pair(2, 2)] {
-            let course = table7(flow);
+    fn what_keeps_its_share_is_one_line() {
+        for who in [Who::Input(4), Who::Input(2), Who::Output(3)] {
+            let course = table7(who);
             let path = course_path(&Plot::of(&course), &course);
             assert_eq!(path.data(), "M84 300H1136");
         }
@@ -266,9 +267,9 @@ mod tests {
 
     #[test]
     fn words_of_table_7() {
-        let drawn = draw_flow(&table7(pair(4, 4)));
+        let drawn = draw_course(&table7(Who::Flow(5)));
         for words in [
-            "<title>Pair (4, 4): m = 2 cells in a frame of 2^k = 4 slots (k = 2)</title>",
+            "<title>Flow 5, input 4 to output 4: m = 2 cells in a frame of 2^k = 4 slots (k = 2)</title>",
             "at most +0.5 (after slot 1), at least \u{2212}0.5 (after slot 3)<",
             "bound of any run: +2p(k) cells = +1.5<",
             "bound of any run: \u{2212}2p(k) cells = \u{2212}1.5<",
@@ -277,39 +278,33 @@ mod tests {
         ] {
             assert!(drawn.contains(words), "{words}");
         }
-        let full = draw_flow(&table7(Who::Input(4)));
+        let full = draw_course(&table7(Who::Input(4)));
         assert!(full.contains("Cells ahead of share: at most 0, at least 0<"));
     }
 
     #[test]
     fn a_whole_bound_is_a_whole_number() {
-        let text = "(frame (ports 1) (slots 2))\n(slot 1 (1 1))\n(slot 2)\n";
-        let drawn = draw_flow(&course(text, pair(1, 1)));
+        let drawn = draw_course(&course_through(&[1, 0]));
         assert!(drawn.contains("bound of any run: +2p(k) cells = +1<"));
         assert!(drawn.contains("bound asked for: +(2k + 1)/3 cells = +1<"));
     }
 
     #[test]
     fn a_bound_with_many_digits_is_a_fraction_too() {
-        let text = include_str!("../../../examples/full.answer");
-        let drawn = draw_flow(&course(text, pair(15, 1)));
+        let frame = frame_of(include_str!("../../../examples/full.sheet"));
+        let drawn = draw_course(&course(&frame, Who::Flow(225)));
         assert!(drawn.contains("bound of any run: +2p(k) cells = +270/64 \u{2248} +4.219<"));
     }
 
     #[test]
     fn a_frame_of_one_slot_has_no_room() {
-        let text = "(frame (ports 1) (slots 1))\n(slot 1 (1 1))\n";
-        let drawn = draw_flow(&course(text, pair(1, 1)));
+        let drawn = draw_course(&course_through(&[1]));
         assert!(drawn.contains("bound of any run: \u{b1}2p(k) cells = 0<"));
     }
 
     #[test]
     fn a_bunched_flow_stays_on_the_page() {
-        let busy = (1..=512).map(|slot| format!("(slot {slot} (1 1))\n"));
-        let idle = (513..=1_024).map(|slot| format!("(slot {slot})\n"));
-        let slots: String = busy.chain(idle).collect();
-        let text = format!("(frame (ports 1) (slots 1024))\n{slots}");
-        let course = course(&text, Who::Output(1));
+        let course = course_through(&[[1; 512], [0; 512]].concat());
         let plot = Plot::of(&course);
         assert_eq!(course.farthest_ahead(), (512, 256 * 1_024));
         assert!(plot.y_of(256 * 1_024) > TOP);

@@ -1,6 +1,7 @@
 //! The picture of a frame: slots across, inputs down, a colour for each output.
 
 use crate::frame::Frame;
+use crate::legend::{draw_outputs, width_of_outputs, Flows};
 use crate::palette::PALETTE;
 use crate::svg::{count, number, Page, Path};
 
@@ -9,7 +10,7 @@ const LEFT: f64 = 64.0;
 const TOP: f64 = 104.0;
 /// The width of the cells of a long frame.
 const WIDEST: f64 = 1_152.0;
-/// The height of a page, where numbers in the cells would make it higher.
+/// The height of the cells, where numbers in them would make it higher.
 const TALLEST: f64 = 1_400.0;
 const LARGEST_CELL: f64 = 44.0;
 const LOWEST_CELL: f64 = 10.0;
@@ -20,9 +21,8 @@ const AXIS: f64 = 18.0;
 const BELOW: f64 = 18.0;
 /// The white between cells.
 const GAP: f64 = 1.0;
-/// A colour of the legend, and what it takes with the white beside it.
-const SWATCH: (f64, f64) = (26.0, 18.0);
-const SWATCH_STEP: f64 = 28.0;
+/// The width of a digit that is one high.
+const DIGIT: f64 = 0.56;
 
 /// Where the cells are. Slots are laid in bands, one below the other. Slots and inputs count from 0 here.
 struct Layout {
@@ -60,7 +60,7 @@ impl Layout {
     }
 
     fn width(&self) -> f64 {
-        let legend = 160.0 + self.ports as f64 * SWATCH_STEP;
+        let legend = width_of_outputs(self.ports);
         let cells = LEFT + self.band as f64 * self.wide + MARGIN;
         cells.max(legend).max(540.0)
     }
@@ -109,11 +109,13 @@ impl Layout {
 /// The picture of a frame.
 pub fn draw_frame(frame: &Frame) -> String {
     let layout = Layout::of(frame);
+    let (width, below) = (layout.width(), layout.height());
+    let flows = Flows::of(frame.list(), (MARGIN, below), width - 2.0 * MARGIN);
     let ports = count(layout.ports, "port");
     let title = format!("Frame of {ports} and {}", count(layout.slots, "slot"));
-    let mut page = Page::new((layout.width(), layout.height()), &title);
+    let mut page = Page::new((width, below + flows.height()), &title);
     page.heading(MARGIN, &title, &subtitle(frame));
-    draw_legend(&mut page, layout.ports);
+    draw_outputs(&mut page, (MARGIN, 64.0), layout.ports);
     draw_cells(&mut page, frame, &layout);
     if layout.wide >= SMALLEST_WRITTEN {
         write_cells(&mut page, frame, &layout, "#000");
@@ -122,41 +124,16 @@ pub fn draw_frame(frame: &Frame) -> String {
     write_slots(&mut page, &layout);
     write_inputs(&mut page, &layout);
     name_axes(&mut page, &layout);
+    flows.draw(&mut page);
     page.finish()
 }
 
 fn subtitle(frame: &Frame) -> String {
-    let bytes = frame.rows().flatten();
-    let idle = bytes.filter(|&&byte| byte == 0).count();
-    let cells = count(frame.ports() * frame.slots() - idle, "cell");
+    let entries = frame.entries().iter();
+    let idle = entries.filter(|&&entry| entry == 0).count();
+    let cells = count(frame.entries().len() - idle, "cell");
     let idle = count(idle, "place");
-    format!("The output that each input sends to in each slot: {cells}, {idle} idle")
-}
-
-/// The colours of the outputs with their numbers, and that of idle.
-fn draw_legend(page: &mut Page, ports: usize) {
-    let top = 64.0;
-    let base = top + 13.0;
-    let left = MARGIN + 46.0;
-    page.text((MARGIN, base), "", "output");
-    for (place, colour) in PALETTE[1..=ports].iter().enumerate() {
-        let x = left + place as f64 * SWATCH_STEP;
-        draw_swatch(page, (x, top), colour.fill);
-        let attributes = format!("text-anchor=\"middle\" fill=\"{}\"", colour.ink);
-        let middle = (x + SWATCH.0 / 2.0, base);
-        page.text(middle, &attributes, &(place + 1).to_string());
-    }
-    let x = left + ports as f64 * SWATCH_STEP + 12.0;
-    draw_swatch(page, (x, top), PALETTE[0].fill);
-    page.text((x + SWATCH.0 + 6.0, base), "", "idle");
-}
-
-fn draw_swatch(page: &mut Page, (x, top): (f64, f64), fill: &str) {
-    let (wide, high) = SWATCH;
-    let mut path = Path::default();
-    path.start(x, top + high / 2.0);
-    path.across_by(wide);
-    page.path(&path, &format!("stroke=\"{fill}\" stroke-width=\"{high}\""));
+    format!("The flow that each input sends a cell of in each slot: {cells}, {idle} idle")
 }
 
 /// A path for each colour.
@@ -176,26 +153,33 @@ fn draw_cells(page: &mut Page, frame: &Frame, layout: &Layout) {
 /// The cells of each colour, a thick dash for each of them.
 fn cell_paths(frame: &Frame, layout: &Layout) -> [Path; PALETTE.len()] {
     let mut paths: [Path; PALETTE.len()] = Default::default();
-    for (slot, input, byte) in cells_of(frame) {
-        let path = &mut paths[usize::from(byte)];
+    for (slot, input, entry) in cells_of(frame) {
+        let path = &mut paths[frame.output_of(entry)];
         path.start(layout.corner(slot, input).0, layout.middle(slot, input).1);
         path.across_by(layout.wide - GAP);
     }
     paths
 }
 
-/// The outputs' numbers in the cells that are written on with this ink.
+/// The flows' numbers in the cells that are written on with this ink.
 fn write_cells(page: &mut Page, frame: &Frame, layout: &Layout, ink: &str) {
-    let size = (layout.wide * 0.58).min(16.0).floor();
+    let size = size_of_digits(layout, frame.list().len());
     page.put(&format!(
         "<g font-size=\"{size}\" text-anchor=\"middle\" fill=\"{ink}\">"
     ));
-    let inked = |byte: u8| byte != 0 && PALETTE[usize::from(byte)].ink == ink;
-    for (slot, input, byte) in cells_of(frame).filter(|cell| inked(cell.2)) {
+    let inked = |entry: u16| entry != 0 && PALETTE[frame.output_of(entry)].ink == ink;
+    for (slot, input, entry) in cells_of(frame).filter(|cell| inked(cell.2)) {
         let (x, y) = layout.middle(slot, input);
-        page.text((x, y + size * 0.36), "", &byte.to_string());
+        page.text((x, y + size * 0.36), "", &entry.to_string());
     }
     page.put("</g>");
+}
+
+/// The size at which every flow's number has room in a cell.
+fn size_of_digits(layout: &Layout, flows: usize) -> f64 {
+    let digits = flows.to_string().len() as f64;
+    let room = (layout.wide - GAP - 1.0) / (digits * DIGIT);
+    (layout.wide * 0.58).min(room).min(16.0).floor()
 }
 
 /// The slots' numbers above each band.
@@ -233,23 +217,22 @@ fn name_axes(page: &mut Page, layout: &Layout) {
     page.put("</g>");
 }
 
-/// The slot, the input and the byte of each cell.
-fn cells_of(frame: &Frame) -> impl Iterator<Item = (usize, usize, u8)> + '_ {
+/// The slot, the input and the entry of each cell.
+fn cells_of(frame: &Frame) -> impl Iterator<Item = (usize, usize, u16)> + '_ {
     let rows = frame.rows().enumerate();
     rows.flat_map(|(slot, row)| {
-        let bytes = row.iter().enumerate();
-        bytes.map(move |(input, &byte)| (slot, input, byte))
+        let entries = row.iter().enumerate();
+        entries.map(move |(input, &entry)| (slot, input, entry))
     })
 }
 
 #[cfg(test)]
 mod tests {
     use super::*;
+    use crate::frame::tests::{sheet, table7};
 
     fn idle(ports: usize, slots: usize) -> Frame {
-        let lines: String = (1..=slots).map(|slot| format!("(slot {slot})\n")).collect();
-        let text = format!("(frame (ports {ports}) (slots {slots}))\n{lines}");
-        Frame::read(text.as_bytes()).unwrap()
+        Frame::build(sheet(ports, slots, &[])).unwrap()
     }
 
     fn numbered(layout: &Layout) -> Vec<usize> {
@@ -286,11 +269,25 @@ mod tests {
 
     #[test]
     fn table_7_has_a_dash_for_each_cell() {
-        let text = include_str!("../../../examples/table7.answer");
-        let drawn = draw_frame(&Frame::read(text.as_bytes()).unwrap());
+        let drawn = draw_frame(&table7());
         let cells = "<path d=\"M64 143.5h43M108 275.5h43M152 143.5h43\" stroke=\"#d7263d\"/>";
         assert!(drawn.contains(cells), "{drawn}");
         assert!(drawn.contains("<title>Frame of 4 ports and 4 slots</title>"));
         assert!(drawn.contains("8 cells, 8 places idle"));
+        // Flow 5, to output 4: two numbers in the cells and one in the legend, with its words.
+        assert_eq!(drawn.matches(">5</text>").count(), 3);
+        assert!(drawn.contains(">4 \u{2192} 4, 2</text>"));
+    }
+
+    #[test]
+    fn numbers_of_three_digits_have_room() {
+        for slots in [1, 4, 16, 32, 64, 256] {
+            let layout = Layout::of(&idle(16, slots));
+            for flows in [9, 99, 512] {
+                let digits = flows.to_string().len() as f64;
+                let size = size_of_digits(&layout, flows);
+                assert!(size >= 6.0 && size * DIGIT * digits < layout.wide);
+            }
+        }
     }
 }

@@ -1,30 +1,37 @@
-//! Draws what the sheet program prints, as SVG 1.1: a frame slot by slot, or how far a pair, an
-//! input or an output is ahead of its share along the frame, as Service count says.
+//! Draws the frame of a reservation sheet, as SVG 1.1: slot by slot, or how far a flow, an input or an output is ahead of its
+//! share along the frame, as Service count says.
 //!
-//! The pictures show what the text says; whether the frame is legal and balanced is Inspect's
-//! question. The same text gives the same picture, byte for byte.
+//! The frame is the one that Build makes of the sheet. The same sheet gives the same picture, byte for byte.
 
 #![forbid(unsafe_code)]
 
 mod chart;
-mod flow;
+mod course;
 mod frame;
 mod grid;
+mod legend;
 mod palette;
 mod request;
+mod sheet;
 mod svg;
 
-pub use chart::draw_flow;
-pub use flow::Course;
-pub use frame::{Fault, Frame, LONGEST_TEXT};
+pub use chart::draw_course;
+pub use course::Course;
+pub use frame::Frame;
 pub use grid::draw_frame;
-pub use request::{Request, ADVICE, HELP};
+pub use request::{Picture, Request, ADVICE, HELP};
+pub use sheet::{Fault, Sheet, LONGEST_SHEET};
 
-/// The picture that is asked for of the text that the sheet program printed.
-pub fn draw(picture: &Request, text: &[u8]) -> Result<String, String> {
-    let frame = Frame::read(text).map_err(|fault| fault.to_string())?;
+/// The picture that is asked for of a sheet's frame.
+pub fn draw(picture: Picture, text: &[u8]) -> Result<String, String> {
+    if text.len() > LONGEST_SHEET {
+        return Err(format!("the sheet is longer than 32,768 bytes; {ADVICE}"));
+    }
+    let sheet = Sheet::read(text).map_err(|fault| fault.to_string())?;
+    let frame = Frame::build(sheet)
+        .map_err(|refusal| format!("the sheet is refused: {refusal}; {ADVICE}"))?;
     match picture {
-        Request::Frame => Ok(draw_frame(&frame)),
-        Request::Flow(flow) => Ok(draw_flow(&Course::of(&frame, *flow)?)),
+        Picture::Frame => Ok(draw_frame(&frame)),
+        Picture::Course(who) => Ok(draw_course(&Course::of(&frame, who)?)),
     }
 }

@@ -1,11 +1,12 @@
-//! Reads what the sheet program printed on standard input, writes a picture on standard output.
+//! Reads a reservation sheet, writes a picture of its frame on standard output.
 
 #![forbid(unsafe_code)]
 
+use std::fs::File;
 use std::io::{self, IsTerminal, Read, Write};
 use std::process::ExitCode;
 
-use picture::{draw, Request, ADVICE, HELP, LONGEST_TEXT};
+use picture::{draw, Request, ADVICE, HELP, LONGEST_SHEET};
 
 fn main() -> ExitCode {
     let words: Vec<String> = std::env::args_os()
@@ -27,22 +28,32 @@ fn answer(words: &[String]) -> Result<(), String> {
     if matches!(words, [word] if word == "--help" || word == "-h") {
         return write(HELP);
     }
-    let request = Request::read(words)?;
-    write(&draw(&request, &read()?)?)
+    let Request { picture, file } = Request::read(words)?;
+    let text = match file {
+        Some(name) => read_file(&name),
+        None => read_input(),
+    };
+    write(&draw(picture, &text?)?)
 }
 
-/// Standard input, up to a byte more than a frame's text can have.
-fn read() -> Result<Vec<u8>, String> {
-    let mut text = Vec::new();
+fn read_file(name: &str) -> Result<Vec<u8>, String> {
+    let text = File::open(name).and_then(read_sheet);
+    text.map_err(|error| format!("{name}: {error}; {ADVICE}"))
+}
+
+fn read_input() -> Result<Vec<u8>, String> {
     let input = io::stdin();
     if input.is_terminal() {
-        let why = "what ./frame prints is wanted on standard input";
+        let why = "a sheet is wanted, as a file or on standard input";
         return Err(format!("{why}; {ADVICE}"));
     }
-    input
-        .take(LONGEST_TEXT as u64 + 1)
-        .read_to_end(&mut text)
-        .map_err(|error| format!("standard input: {error}"))?;
+    read_sheet(input).map_err(|error| format!("standard input: {error}; {ADVICE}"))
+}
+
+/// A sheet, up to a byte more than it can have.
+fn read_sheet(from: impl Read) -> io::Result<Vec<u8>> {
+    let mut text = Vec::new();
+    from.take(LONGEST_SHEET as u64 + 1).read_to_end(&mut text)?;
     Ok(text)
 }
 

@@ -2,17 +2,20 @@
 
 use frame_builder::Who;
 
-use crate::frame::number;
+use crate::sheet::number;
 
 /// What `--help` prints.
 pub const HELP: &str = "\
-picture: draws what ./frame prints, as an SVG file on standard output
+picture: draws the frame of a reservation sheet, as an SVG file on standard output
 
-  ./frame < SHEET | ./picture frame          slots across, inputs down, a colour for each output
-  ./frame < SHEET | ./picture flow I O       pair (I, O) ahead of its share, or behind, along the frame
-  ./frame < SHEET | ./picture input I        the same of all cells of input I
-  ./frame < SHEET | ./picture output O       the same of all cells of output O
-  ./picture --help                           prints this
+  ./picture frame [SHEET]           slots across, inputs down, a colour for each output, a number for each flow
+  ./picture flow F [SHEET]          flow F ahead of its share, or behind, along the frame
+  ./picture input I [SHEET]         the same of all cells of input I
+  ./picture output O [SHEET]        the same of all cells of output O
+  ./picture --help                  prints this
+
+SHEET is a file; for - and without a name the sheet is read from standard input. ./frame --help says what a sheet looks like. Its
+first pair line is flow 1, the next one flow 2, and so on. The frame is the one that ./frame prints.
 
 Ahead of its share: after t slots, the cells so far less t x m / 2^k, where m is the cells in the whole frame of 2^k slots. That
 is the lead that Service count answers for the first t slots, over 2^k. The line is level from a slot's end to the next one's.
@@ -24,70 +27,73 @@ bound that the customer asked for, (2k + 1)/3 cells.
 
 Examples:
 
-  ./frame < examples/table7.sheet | ./picture frame > docs/table7-frame.svg
-  ./frame < examples/table7.sheet | ./picture flow 4 4 > docs/table7-flow.svg
+  ./picture frame examples/table7.sheet > docs/table7-frame.svg
+  ./picture flow 5 examples/table7.sheet > docs/table7-flow.svg
 
-It is built by cargo when it is first run, with the library that has Service count: an installed one, which FRAME_BUILDER_PREFIX
-or pkg-config names, or the one that the Rattle kit proves in this checkout.
+It is built by cargo when it is first run, with the library that has the calls: an installed one, which FRAME_BUILDER_PREFIX or
+pkg-config names, or the one that the Rattle kit proves in this checkout.
 
-A refused sheet, a text of another form, a port that the frame does not have, or an unknown word is an error: a line on standard
-error, exit code 2, nothing on standard output.
+A sheet of another form, one that is refused, a flow or a port that it does not have, or an unknown word is an error: a line on
+standard error, exit code 2, nothing on standard output.
 ";
 
 /// The end of each sentence about a wrong use.
 pub const ADVICE: &str = "./picture --help says more";
 
-/// A picture that is asked for.
+/// A picture that can be drawn.
 #[derive(Debug, Clone, Copy, PartialEq, Eq)]
-pub enum Request {
+pub enum Picture {
     Frame,
-    Flow(Who),
+    Course(Who),
+}
+
+/// A picture that is asked for, and the file of the sheet, none for standard input.
+#[derive(Debug, Clone, PartialEq, Eq)]
+pub struct Request {
+    pub picture: Picture,
+    pub file: Option<String>,
 }
 
 impl Request {
-    /// The picture that the words after the command's name ask for.
+    /// What the words after the command's name ask for.
     pub fn read(words: &[String]) -> Result<Request, String> {
         let words: Vec<&str> = words.iter().map(String::as_str).collect();
-        let flow = match words[..] {
-            ["frame"] => return Ok(Request::Frame),
-            ["flow", input, output] => Who::Pair {
-                input: port(input)?,
-                output: port(output)?,
-            },
-            ["input", input] => Who::Input(port(input)?),
-            ["output", output] => Who::Output(port(output)?),
-            _ => return Err(format!("{}; {ADVICE}", what_is_wrong(&words))),
+        let (picture, file) = match words[..] {
+            ["frame", ref rest @ ..] => (Picture::Frame, rest),
+            ["flow", flow, ref rest @ ..] => (course(Who::Flow, "flow", flow)?, rest),
+            ["input", port, ref rest @ ..] => (course(Who::Input, "port", port)?, rest),
+            ["output", port, ref rest @ ..] => (course(Who::Output, "port", port)?, rest),
+            _ => return Err(format!("{}; {ADVICE}", what_is_missing(&words))),
         };
-        Ok(Request::Flow(flow))
+        let file = match *file {
+            [] | ["-"] => None,
+            [file] => Some(file.to_string()),
+            _ => return Err(format!("one sheet at a time; {ADVICE}")),
+        };
+        Ok(Request { picture, file })
     }
 }
 
-/// Why words that are no request are none.
-fn what_is_wrong(words: &[&str]) -> String {
-    let (form, wrong) = match words {
-        [] => return "which picture? frame, flow, input or output".to_string(),
-        ["flow"] => ("flow I O", "an input and an output are missing"),
-        ["flow", _] => ("flow I O", "an output is missing"),
-        ["input"] => ("input I", "an input is missing"),
-        ["output"] => ("output O", "an output is missing"),
-        ["frame", ..] => ("frame", "there are words too many"),
-        ["flow", ..] => ("flow I O", "there are words too many"),
-        ["input", ..] => ("input I", "there are words too many"),
-        ["output", ..] => ("output O", "there are words too many"),
-        _ => return format!("{:?} is no picture", words.join(" ")),
-    };
-    format!("{wrong}: ./picture {form}")
+/// Why words that name no picture do not.
+fn what_is_missing(words: &[&str]) -> String {
+    match words {
+        [] => "which picture? frame, flow, input or output".to_string(),
+        ["flow"] => "a flow is missing: ./picture flow F [SHEET]".to_string(),
+        ["input"] => "an input is missing: ./picture input I [SHEET]".to_string(),
+        ["output"] => "an output is missing: ./picture output O [SHEET]".to_string(),
+        [word, ..] => format!("{word:?} is no picture; frame, flow, input and output are"),
+    }
 }
 
-fn port(word: &str) -> Result<usize, String> {
-    let why = || format!("{word:?} is no port; ports are 1, 2, 3, ..; {ADVICE}");
-    number(word).ok_or_else(why)
+fn course(who: impl Fn(usize) -> Who, name: &str, word: &str) -> Result<Picture, String> {
+    let why = || format!("{word:?} is no {name}; {name}s are 1, 2, 3, ..; {ADVICE}");
+    let number = number(word).ok_or_else(why)?;
+    Ok(Picture::Course(who(number)))
 }
 
 #[cfg(test)]
 mod tests {
     use super::*;
-    use crate::flow::tests::pair;
 
     fn read(line: &str) -> Result<Request, String> {
         let words: Vec<String> = line.split_whitespace().map(String::from).collect();
@@ -96,36 +102,39 @@ mod tests {
 
     #[test]
     fn the_four_pictures() {
-        assert_eq!(read("frame"), Ok(Request::Frame));
-        assert_eq!(read("flow 4 1"), Ok(Request::Flow(pair(4, 1))));
-        assert_eq!(read("input 16"), Ok(Request::Flow(Who::Input(16))));
-        assert_eq!(read("output 2"), Ok(Request::Flow(Who::Output(2))));
+        for (line, picture) in [
+            ("frame", Picture::Frame),
+            ("flow 5", Picture::Course(Who::Flow(5))),
+            ("input 16", Picture::Course(Who::Input(16))),
+            ("output 2", Picture::Course(Who::Output(2))),
+        ] {
+            for (file, named) in [("", None), (" -", None), (" a.sheet", Some("a.sheet"))] {
+                let file_of = named.map(String::from);
+                let request = read(&format!("{line}{file}")).unwrap();
+                assert_eq!((request.picture, request.file), (picture, file_of));
+            }
+        }
     }
 
     #[test]
     fn other_words_are_named() {
         for (line, part) in [
             ("", "which picture?"),
-            ("frames", "\"frames\" is no picture"),
-            ("frame 1", "there are words too many: ./picture frame;"),
+            ("frames", "\"frames\" is no picture; "),
+            ("a.sheet", "\"a.sheet\" is no picture; "),
+            ("--help frame", "\"--help\" is no picture; "),
+            ("frame a.sheet b.sheet", "one sheet at a time;"),
+            ("flow", "a flow is missing: ./picture flow F [SHEET];"),
+            ("flow 1 2 a.sheet", "one sheet at a time;"),
+            ("flow a.sheet", "\"a.sheet\" is no flow; flows are 1, 2,"),
+            ("input", "an input is missing: ./picture input I [SHEET];"),
             (
-                "flow",
-                "an input and an output are missing: ./picture flow I O;",
+                "output",
+                "an output is missing: ./picture output O [SHEET];",
             ),
-            ("flow 1", "an output is missing: ./picture flow I O;"),
-            (
-                "flow 1 2 3",
-                "there are words too many: ./picture flow I O;",
-            ),
-            ("input", "an input is missing: ./picture input I;"),
-            ("output", "an output is missing: ./picture output O;"),
-            (
-                "output 1 2",
-                "there are words too many: ./picture output O;",
-            ),
-            ("flow 1 x", "\"x\" is no port"),
+            ("flow x", "\"x\" is no flow"),
             ("input -1", "\"-1\" is no port"),
-            ("output 01", "\"01\" is no port"),
+            ("output 01", "\"01\" is no port; ports are 1, 2, 3, ..;"),
             ("input 99999999999999999999", "is no port"),
         ] {
             let what = read(line).expect_err(line);

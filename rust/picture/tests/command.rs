@@ -3,8 +3,11 @@
 use std::io::Write;
 use std::process::{Command, Output, Stdio};
 
-const TABLE7: &str = include_str!("../../../examples/table7.answer");
-const OVERLOADED: &str = include_str!("../../../examples/overloaded.answer");
+const TABLE7: &str = include_str!("../../../examples/table7.sheet");
+const OVERLOADED: &str = include_str!("../../../examples/overloaded.sheet");
+const TOO_MANY: &str = include_str!("../../../examples/too-many.sheet");
+const TOO_LONG: &str = include_str!("../../../examples/too-long.sheet");
+const TABLE7_FILE: &str = concat!(env!("CARGO_MANIFEST_DIR"), "/../../examples/table7.sheet");
 
 fn run(line: &str, input: &[u8]) -> Output {
     let mut command = Command::new(env!("CARGO_BIN_EXE_picture"))
@@ -34,13 +37,17 @@ fn refuses(line: &str, input: &[u8], part: &str) {
 
 #[test]
 fn pictures_go_to_standard_output() {
-    for line in ["frame", "flow 4 4", "input 1", "output 4"] {
+    for line in ["frame", "flow 5", "input 1", "output 4"] {
         let output = run(line, TABLE7.as_bytes());
         assert_eq!(output.status.code(), Some(0), "{line}");
         assert!(output.stderr.is_empty(), "{line}");
         let text = String::from_utf8(output.stdout).unwrap();
         assert!(text.starts_with("<svg "), "{line}");
         assert!(text.ends_with("</svg>\n"), "{line}");
+        let of_file = run(&format!("{line} {TABLE7_FILE}"), b"");
+        assert_eq!(of_file.stdout, text.as_bytes(), "{line}");
+        let of_dash = run(&format!("{line} -"), TABLE7.as_bytes());
+        assert_eq!(of_dash.stdout, text.as_bytes(), "{line}");
     }
 }
 
@@ -49,27 +56,41 @@ fn help_goes_to_standard_output() {
     let output = run("--help", b"");
     assert_eq!(output.status.code(), Some(0));
     let text = String::from_utf8(output.stdout).unwrap();
-    assert!(text.contains("./picture flow I O"));
+    assert!(text.contains("./picture flow F [SHEET]"));
 }
 
 #[test]
-fn refusals_go_to_standard_error() {
+fn wrong_words_go_to_standard_error() {
     let table7 = TABLE7.as_bytes();
     refuses("", table7, "which picture?");
-    refuses("flow", table7, "an input and an output are missing");
+    refuses("flow", table7, "a flow is missing");
     refuses("films", table7, "\"films\" is no picture");
-    refuses("--help frame", table7, "\"--help frame\" is no picture");
-    refuses("flow 4 x", table7, "\"x\" is no port");
-    refuses("flow 5 1", table7, "input 5: the frame has ports 1 to 4");
-    refuses("output 0", table7, "output 0: the frame has ports 1 to 4");
-    refuses(
-        "frame",
-        OVERLOADED.as_bytes(),
-        "(refused 6 (port 2) (cells 9))",
+    refuses("--help frame", table7, "\"--help\" is no picture");
+    refuses("flow x", table7, "\"x\" is no flow");
+    refuses("flow 6", table7, "flow 6: the sheet has flows 1 to 5");
+    refuses("output 0", table7, "output 0: the sheet has ports 1 to 4");
+    refuses("frame nowhere.sheet", b"", "nowhere.sheet: ");
+    refuses("frame src", b"", "src: ");
+    let named = format!("{TABLE7_FILE} {TABLE7_FILE}");
+    refuses(&format!("frame {named}"), b"", "one sheet at a time");
+}
+
+#[test]
+fn wrong_sheets_go_to_standard_error() {
+    let refused = |sheet: &str, part: &str| refuses("frame", sheet.as_bytes(), part);
+    refused("", "line 1: (ports P) expected, but the sheet ends");
+    refused(&TABLE7[..60], "line 4: ");
+    refused(TOO_LONG, "the sheet is longer than 32,768 bytes");
+    refused(
+        TOO_MANY,
+        "the sheet is refused: there are more than 512 flows",
     );
-    refuses("frame", b"", "line 1: the text ends before the frame does");
-    refuses("frame", &table7[..60], "line 3: ");
-    refuses("frame", &[0xff; 1_000_000], "line 1: ");
-    let sheet = b"(ports 4)\n(slots 4)\n";
-    refuses("frame", sheet, "(frame (ports P) (slots N)) expected");
+    let output = "the sheet is refused: output 2 is asked for 9 cells";
+    refused(OVERLOADED, output);
+    let huge = "(ports 65535)\n(slots 65535)\n";
+    refused(huge, "the sheet is refused: the number of ports is not");
+    refuses("frame", &[0xff; 1_000_000], "longer than 32,768 bytes");
+    refuses("frame", b"\xff\n", "line 1: not text");
+    let printed = "(frame (ports 4) (slots 4))\n";
+    refused(printed, "line 1: (ports P) expected, but it is \"(frame (");
 }

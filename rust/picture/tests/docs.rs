@@ -3,7 +3,7 @@
 use std::fs;
 use std::path::PathBuf;
 
-use picture::{draw, Request};
+use picture::{draw, draw_frame, Frame, Request, Sheet};
 
 fn from_top(path: &str) -> PathBuf {
     PathBuf::from(env!("CARGO_MANIFEST_DIR"))
@@ -11,12 +11,21 @@ fn from_top(path: &str) -> PathBuf {
         .join(path)
 }
 
+fn sheet_of(example: &str) -> Vec<u8> {
+    fs::read(from_top(&format!("examples/{example}.sheet"))).unwrap()
+}
+
+/// The picture in docs is the one that the words ask for of an example.
 fn hold(example: &str, line: &str, name: &str) {
     let words: Vec<String> = line.split(' ').map(String::from).collect();
-    let answer = fs::read(from_top(&format!("examples/{example}.answer"))).unwrap();
-    let drawn = draw(&Request::read(&words).unwrap(), &answer).unwrap();
+    let picture = Request::read(&words).unwrap().picture;
+    let drawn = draw(picture, &sheet_of(example)).unwrap();
+    let again = format!("./picture {line} examples/{example}.sheet > docs/{name}.svg");
+    hold_drawn(&drawn, name, &again);
+}
+
+fn hold_drawn(drawn: &str, name: &str, again: &str) {
     let held = fs::read_to_string(from_top(&format!("docs/{name}.svg"))).unwrap();
-    let again = format!("./frame < examples/{example}.sheet | ./picture {line} > docs/{name}.svg");
     assert!(drawn == held, "docs/{name}.svg is out of date: {again}");
     assert!(held.len() < 400_000, "docs/{name}.svg is too large");
 }
@@ -24,23 +33,29 @@ fn hold(example: &str, line: &str, name: &str) {
 #[test]
 fn table_7() {
     hold("table7", "frame", "table7-frame");
-    hold("table7", "flow 4 4", "table7-flow");
+    hold("table7", "flow 5", "table7-flow");
+}
+
+/// Two flows of one pair.
+#[test]
+fn sound_and_picture() {
+    hold("sound-and-picture", "frame", "sound-and-picture");
 }
 
 /// Sixteen one-cell flows: as the tie rule has them, and as the one before it did, which put all of them into slot 1.
 #[test]
 fn one_cell_flows() {
     hold("sixteen", "frame", "sixteen-after");
-    let cells: String = (1..=16).map(|port| format!(" ({port} {port})")).collect();
-    let idle: String = (2..=16).map(|slot| format!("(slot {slot})\n")).collect();
-    let before = format!("(frame (ports 16) (slots 16))\n(slot 1{cells})\n{idle}");
-    let drawn = draw(&Request::Frame, before.as_bytes()).unwrap();
-    let held = fs::read_to_string(from_top("docs/sixteen-before.svg")).unwrap();
-    assert!(drawn == held, "docs/sixteen-before.svg is out of date");
+    let sheet = Sheet::read(&sheet_of("sixteen")).unwrap();
+    let mut entries: Vec<u16> = (1..=16).collect();
+    entries.resize(16 * 16, 0);
+    let before = Frame::of_entries(sheet, entries).unwrap();
+    let again = "the frame with flows 1 to 16 in slot 1";
+    hold_drawn(&draw_frame(&before), "sixteen-before", again);
 }
 
 #[test]
 fn a_full_switch() {
     hold("full", "frame", "full-frame");
-    hold("full", "flow 15 1", "full-flow");
+    hold("full", "flow 225", "full-flow");
 }
