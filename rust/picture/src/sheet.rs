@@ -38,17 +38,17 @@ impl fmt::Display for Fault {
 impl Sheet {
     /// Reads `(ports P)`, `(slots N)` and a pair line for each flow.
     pub fn read(text: &[u8]) -> Result<Sheet, Fault> {
-        let mut lines = (1..).zip(text.split_inclusive(|&byte| byte == b'\n'));
+        let mut lines = text.split_inclusive(|&byte| byte == b'\n');
         let [ports] = on_line(1, read_line(lines.next(), PORTS))?;
         let [slots] = on_line(2, read_line(lines.next(), SLOTS))?;
-        let pair = |(place, line)| {
-            let [input, output, cells] = on_line(place, read_line(Some((place, line)), PAIR))?;
+        let flows = (3..).zip(lines).map(|(place, line)| {
+            let [input, output, cells] = on_line(place, read_line(Some(line), PAIR))?;
             Ok(Flow::new(input, output, cells))
-        };
+        });
         Ok(Sheet {
             ports: ports.into(),
             slots: slots.into(),
-            list: lines.map(pair).collect::<Result<_, Fault>>()?,
+            list: flows.collect::<Result<_, Fault>>()?,
         })
     }
 }
@@ -58,8 +58,8 @@ fn on_line<T>(line: usize, read: Result<T, String>) -> Result<T, Fault> {
 }
 
 /// The numbers of a line that has to be there, with a line feed and in this form.
-fn read_line<const N: usize>(line: Option<(usize, &[u8])>, form: &str) -> Result<[u16; N], String> {
-    let (_, line) = line.ok_or_else(|| format!("{form} expected, but the sheet ends"))?;
+fn read_line<const N: usize>(line: Option<&[u8]>, form: &str) -> Result<[u16; N], String> {
+    let line = line.ok_or_else(|| format!("{form} expected, but the sheet ends"))?;
     let line = line.strip_suffix(b"\n").ok_or("no line feed at its end")?;
     let line = std::str::from_utf8(line).map_err(|_| "not text")?;
     let numbers = numbers_in(line, form).and_then(|numbers| numbers.try_into().ok());
