@@ -23,8 +23,9 @@ impl Frame {
         Ok(Frame { sheet, entries })
     }
 
-    /// A frame from anywhere, with as many entries as the sheet's has, each of them 0 or one of its flows.
+    /// A frame from anywhere for a sheet that Build takes, with as many entries as its own, each of them 0 or one of its flows.
     pub fn of_entries(sheet: Sheet, entries: Vec<u16>) -> Option<Frame> {
+        admit(sheet.ports, sheet.slots, &sheet.list).ok()?;
         let flows = sheet.list.len();
         let whole = entries.len() == sheet.ports * sheet.slots;
         let known = entries.iter().all(|&entry| usize::from(entry) <= flows);
@@ -113,5 +114,6 @@ pub mod tests {
         assert!(of(&[1, 1]).is_some());
         assert!(of(&[0, 2]).is_none());
         assert!(of(&[1]).is_none());
+        assert!(Frame::of_entries(sheet(0, 1, &[]), Vec::new()).is_none());
     }
 }
