@@ -1,61 +1,82 @@
 //! Frames that are not what the builder made.
 
+use crate::list::{flows_of, Flow, FLOW_NUMBERS};
 use crate::load::{load_of_shape, Call, LoadKind, Shape};
 use crate::random::Random;
 
 kinds! {
-    /// What happened to a frame, or to its load, since it was built.
+    /// What happened to a frame, or to its list, since it was built.
     Damage {
         Whole = "whole",
-        ByteChanged = "byte-changed",
+        EntryChanged = "entry-changed",
         SlotsSwapped = "slots-swapped",
         HalvesCrossed = "halves-crossed",
         HalvesExchanged = "halves-exchanged",
+        FlowsSwapped = "flows-swapped",
         CellToOtherSlot = "cell-to-other-slot",
-        CellToOtherOutput = "cell-to-other-output",
+        CellToOtherFlow = "cell-to-other-flow",
         InputsExchanged = "inputs-exchanged",
-        ByteAbovePorts = "byte-above-ports",
-        RandomBytes = "random-bytes",
-        RandomOutputs = "random-outputs",
+        EntryAboveFlows = "entry-above-flows",
+        OtherInputsFlow = "other-inputs-flow",
+        OutputDoubled = "output-doubled",
+        RandomEntries = "random-entries",
+        RandomFlows = "random-flows",
         Bunched = "bunched",
         BlockBunched = "block-bunched",
-        LoadWrongByOne = "load-wrong-by-one",
+        CellsWrongByOne = "cells-wrong-by-one",
+        OtherPort = "other-port",
+        ListCut = "list-cut",
         Several = "several",
         Junk = "junk",
     }
 }
 
-/// Damages a frame of this shape, or the load that goes with it.
+/// Damages a frame of this shape, or the list that goes with it.
 pub fn damage(
     kind: Damage,
     shape: Shape,
     call: &mut Call,
-    frame: &mut Vec<u8>,
+    frame: &mut Vec<u16>,
     random: &mut Random,
 ) {
     let ports = shape.ports;
-    let any_byte = random.place(frame.len());
+    let any_entry = random.place(frame.len());
+    let flows = call.flows() as u64;
     match kind {
         Damage::Whole => {}
-        Damage::ByteChanged => frame[any_byte] = random.between(0, ports as u64) as u8,
+        Damage::EntryChanged => frame[any_entry] = random.between(0, flows) as u16,
         Damage::SlotsSwapped => swap_slots(frame, ports, shape.slots, shape.slots, random),
         Damage::HalvesCrossed => cross_halves(shape, frame, random),
         Damage::HalvesExchanged => {
             let block = random_block(1, shape, frame, random);
             exchange_uneven(ports, block, random);
         }
-        Damage::CellToOtherSlot => move_cell(shape, frame, random),
-        Damage::CellToOtherOutput => redirect_cell(shape, frame, random),
-        Damage::InputsExchanged => {
-            let slot = any_byte / ports * ports;
-            frame.swap(any_byte, slot + random.place(ports));
+        Damage::FlowsSwapped => {
+            let block = random_block(0, shape, frame, random);
+            swap_flows(&flows_of(&call.list), block, random);
         }
-        Damage::ByteAbovePorts => frame[any_byte] = random.between(ports as u64 + 1, 255) as u8,
-        Damage::RandomBytes => *frame = random.bytes(frame.len()),
-        Damage::RandomOutputs => frame.fill_with(|| random.between(0, ports as u64) as u8),
+        Damage::CellToOtherSlot => move_cell(shape, call, frame, random),
+        Damage::CellToOtherFlow => redirect_cell(&flows_of(&call.list), frame, random),
+        Damage::InputsExchanged => {
+            let slot = any_entry / ports * ports;
+            frame.swap(any_entry, slot + random.place(ports));
+        }
+        Damage::EntryAboveFlows => frame[any_entry] = above(flows, random),
+        Damage::OtherInputsFlow => {
+            let is_other = |flow: &Flow| flow.input != any_entry % ports;
+            put_flow(&flows_of(&call.list), any_entry, is_other, frame, random);
+        }
+        Damage::OutputDoubled => double_output(shape, &flows_of(&call.list), frame, random),
+        Damage::RandomEntries => *frame = random.entries(frame.len()),
+        Damage::RandomFlows => frame.fill_with(|| random.between(0, flows) as u16),
         Damage::Bunched => bunch_block(frame, ports),
         Damage::BlockBunched => bunch_block(random_block(2, shape, frame, random), ports),
-        Damage::LoadWrongByOne => change_load(call, random),
+        Damage::CellsWrongByOne => change_cells(call, random),
+        Damage::OtherPort => change_port(ports, call, random),
+        Damage::ListCut => {
+            let kept = random.between(0, flows.saturating_sub(1)) as usize;
+            call.list.truncate(kept * FLOW_NUMBERS);
+        }
         Damage::Several => {
             for _ in 0..random.between(2, 4) {
                 let one = random.pick(&Damage::ALL[..Damage::ALL.len() - 2]);
@@ -92,25 +113,25 @@ impl Block {
         }
     }
 
-    /// The bytes of the block.
-    fn of(self, ports: usize, frame: &mut [u8]) -> &mut [u8] {
+    /// The entries of the block.
+    fn of(self, ports: usize, frame: &mut [u16]) -> &mut [u16] {
         &mut frame[(self.slot - 1) * ports..][..self.size * ports]
     }
 }
 
-/// A frame whose first fault is that the halves of this block differ by more than one cell in all, with its load.
+/// A frame whose first fault is that the halves of this block differ by more than one cell in all, with its list.
 ///
-/// No two flows share a port, and `build` makes their frame. In the block, some of the inputs with an odd number of cells
-/// exchange what they send in its first half with what they send in its second. Every pair, input and output stays balanced in
+/// No two pairs share a port, and `build` makes their frame. In the block, some of the inputs with an odd number of cells
+/// exchange what they send in its first half with what they send in its second. Every flow, input and output stays balanced in
 /// every block, and so does the total in blocks that are larger or do not overlap this one; only the total of smaller blocks
 /// within it may be unbalanced besides. The shape has two ports or more and the block two slots or more; loads are tried until
 /// the block has two inputs with an odd number of cells.
 pub fn unbalance_total(
     shape: Shape,
     block: Block,
-    build: impl Fn(&Call) -> Vec<u8>,
+    build: impl Fn(&Call) -> Vec<u16>,
     random: &mut Random,
-) -> (Call, Vec<u8>) {
+) -> (Call, Vec<u16>) {
     loop {
         let call = load_of_shape(LoadKind::Apart, shape, random);
         let mut frame = build(&call);
@@ -122,7 +143,7 @@ pub fn unbalance_total(
 
 /// Of the inputs that send one cell more in one half of a block, lets so many exchange their halves that the totals of the
 /// halves differ by more than one cell; false, and nothing done, where there are not enough such inputs, or no two halves.
-fn exchange_uneven(ports: usize, block: &mut [u8], random: &mut Random) -> bool {
+fn exchange_uneven(ports: usize, block: &mut [u16], random: &mut Random) -> bool {
     if block.len() < 2 * ports {
         return false;
     }
@@ -144,17 +165,17 @@ fn exchange_uneven(ports: usize, block: &mut [u8], random: &mut Random) -> bool 
 }
 
 /// The cells that an input sends in the first half of a block, less those in its second half.
-fn more(ports: usize, block: &[u8], input: usize) -> i64 {
+fn more(ports: usize, block: &[u16], input: usize) -> i64 {
     let (front, back) = block.split_at(block.len() / 2);
-    let cells = |half: &[u8]| {
+    let cells = |half: &[u16]| {
         let sent = half.iter().skip(input).step_by(ports);
-        sent.filter(|&&byte| byte != 0).count() as i64
+        sent.filter(|&&entry| entry != 0).count() as i64
     };
     cells(front) - cells(back)
 }
 
 /// Exchanges what these inputs send in the first half of a block with what they send in its second.
-fn exchange_halves(ports: usize, block: &mut [u8], inputs: &[usize]) {
+fn exchange_halves(ports: usize, block: &mut [u16], inputs: &[usize]) {
     let (front, back) = block.split_at_mut(block.len() / 2);
     for (one, other) in front.chunks_mut(ports).zip(back.chunks_mut(ports)) {
         for &input in inputs {
@@ -163,19 +184,19 @@ fn exchange_halves(ports: usize, block: &mut [u8], inputs: &[usize]) {
     }
 }
 
-/// The bytes of a random block of 2^least slots or more, or of the whole of a shorter frame.
+/// The entries of a random block of 2^least slots or more, or of the whole of a shorter frame.
 fn random_block<'f>(
     least: u64,
     shape: Shape,
-    frame: &'f mut [u8],
+    frame: &'f mut [u16],
     random: &mut Random,
-) -> &'f mut [u8] {
+) -> &'f mut [u16] {
     let block = Block::random(least, shape.slots, random);
     block.of(shape.ports, frame)
 }
 
 /// Swaps a random one of the first slots with a random one of the last.
-fn swap_slots(block: &mut [u8], ports: usize, first: usize, last: usize, random: &mut Random) {
+fn swap_slots(block: &mut [u16], ports: usize, first: usize, last: usize, random: &mut Random) {
     let slots = block.len() / ports;
     let front = random.place(first);
     let back = slots - last + random.place(last);
@@ -185,7 +206,7 @@ fn swap_slots(block: &mut [u8], ports: usize, first: usize, last: usize, random:
 }
 
 /// Swaps slots between the halves of one block, which leaves larger blocks balanced.
-fn cross_halves(shape: Shape, frame: &mut [u8], random: &mut Random) {
+fn cross_halves(shape: Shape, frame: &mut [u16], random: &mut Random) {
     let block = random_block(2, shape, frame, random);
     let half = (block.len() / shape.ports / 2).max(1);
     for _ in 0..random.between(1, 3) {
@@ -193,15 +214,63 @@ fn cross_halves(shape: Shape, frame: &mut [u8], random: &mut Random) {
     }
 }
 
+/// Two flows of one pair, or else of one input, where the list has such, exchange their cells in a block: all of them, or as many of
+/// the one as of the other.
+fn swap_flows(flows: &[Flow], block: &mut [u16], random: &mut Random) {
+    let Some([one, other]) = two_flows(flows, random) else {
+        return;
+    };
+    let mut places = [one, other].map(|flow| {
+        let places = (0..block.len()).filter(|&place| block[place] == flow);
+        places.collect::<Vec<usize>>()
+    });
+    if random.one_in(2) {
+        let fewer = places[0].len().min(places[1].len()) as u64;
+        let kept = random.between(0, fewer) as usize;
+        for cells in &mut places {
+            random.shuffle(cells);
+            cells.truncate(kept);
+        }
+    }
+    for (cells, flow) in places.iter().zip([other, one]) {
+        for &place in cells {
+            block[place] = flow;
+        }
+    }
+}
+
+/// The numbers of two flows of one pair, or of one input where no pair has two.
+fn two_flows(flows: &[Flow], random: &mut Random) -> Option<[u16; 2]> {
+    let order = random.permutation(flows.len());
+    let pair = |flow: &Flow| (flow.input, flow.output);
+    let two_with = |same: &dyn Fn(&Flow, &Flow) -> bool| {
+        let mut couples = order.iter().enumerate().flat_map(|(place, one)| {
+            let others = order[place + 1..].iter();
+            others.map(move |other| [*one, *other])
+        });
+        couples.find(|&[one, other]| same(&flows[one], &flows[other]))
+    };
+    let of_pair = two_with(&|one, other| pair(one) == pair(other));
+    let two = of_pair.or_else(|| two_with(&|one, other| one.input == other.input));
+    two.map(|two| two.map(|place| place as u16 + 1))
+}
+
 /// Moves a cell to another slot, to one where its ports are free if that is found soon.
-fn move_cell(shape: Shape, frame: &mut [u8], random: &mut Random) {
+fn move_cell(shape: Shape, call: &Call, frame: &mut [u16], random: &mut Random) {
     let ports = shape.ports;
+    let flows = flows_of(&call.list);
+    let output_of = |entry: u16| {
+        flows
+            .get(usize::from(entry).wrapping_sub(1))
+            .map(|flow| flow.output)
+    };
     let from = random.place(frame.len());
     let mut to = from;
     for _ in 0..20 {
         to = random.place(shape.slots) * ports + from % ports;
-        let slot = &frame[to / ports * ports..][..ports];
-        if frame[to] == 0 && !slot.contains(&frame[from]) {
+        let mut slot = frame[to / ports * ports..][..ports].iter();
+        let is_used = slot.any(|&entry| entry > 0 && output_of(entry) == output_of(frame[from]));
+        if frame[to] == 0 && !is_used {
             break;
         }
     }
@@ -211,29 +280,86 @@ fn move_cell(shape: Shape, frame: &mut [u8], random: &mut Random) {
     }
 }
 
-/// Sends a cell to some other output, or starts one if the frame has none.
-fn redirect_cell(shape: Shape, frame: &mut [u8], random: &mut Random) {
-    let tries = random.permutation(frame.len());
-    let sent = tries.iter().find(|&&place| frame[place] != 0);
-    let place = sent.copied().unwrap_or(tries[0]);
-    frame[place] = random.between(1, shape.ports as u64) as u8;
+/// A number above the flows of a list: the next one, or any.
+fn above(flows: u64, random: &mut Random) -> u16 {
+    let any = random.between(flows + 1, u16::MAX.into());
+    random.pick(&[flows + 1, any]) as u16
 }
 
-/// Sorts the slots of a block, so that cells of the same pairs stand together.
-fn bunch_block(block: &mut [u8], ports: usize) {
-    let mut slots: Vec<Vec<u8>> = block.chunks(ports).map(<[u8]>::to_vec).collect();
+/// Puts a flow of some sort in the place of an entry, where the list has one.
+fn put_flow(
+    flows: &[Flow],
+    place: usize,
+    is_asked: impl Fn(&Flow) -> bool,
+    frame: &mut [u16],
+    random: &mut Random,
+) {
+    let order = random.permutation(flows.len());
+    if let Some(flow) = order.into_iter().find(|&flow| is_asked(&flows[flow])) {
+        frame[place] = flow as u16 + 1;
+    }
+}
+
+/// The place of a cell, or any place of a frame that has none.
+fn cell_of(frame: &[u16], random: &mut Random) -> usize {
+    let tries = random.permutation(frame.len());
+    let sent = tries.iter().find(|&&place| frame[place] != 0);
+    sent.copied().unwrap_or(tries[0])
+}
+
+/// Puts another flow of the same input, if there is one, in the place of a cell.
+fn redirect_cell(flows: &[Flow], frame: &mut [u16], random: &mut Random) {
+    let place = cell_of(frame, random);
+    let of_cell = flows
+        .get(usize::from(frame[place]).wrapping_sub(1))
+        .copied();
+    let is_asked = |flow: &Flow| of_cell.is_some_and(|of_cell| flow.input == of_cell.input);
+    put_flow(flows, place, is_asked, frame, random);
+}
+
+/// Lets another input of a slot send to an output that a cell of the slot goes to, by a flow of its own.
+fn double_output(shape: Shape, flows: &[Flow], frame: &mut [u16], random: &mut Random) {
+    let cell = cell_of(frame, random);
+    let Some(sent) = flows.get(usize::from(frame[cell]).wrapping_sub(1)).copied() else {
+        return;
+    };
+    let input = random.place(shape.ports);
+    let place = cell / shape.ports * shape.ports + input;
+    let is_asked = |flow: &Flow| flow.input == input && flow.output == sent.output;
+    put_flow(flows, place, is_asked, frame, random);
+}
+
+/// Sorts the slots of a block, so that cells of the same flows stand together.
+fn bunch_block(block: &mut [u16], ports: usize) {
+    let mut slots: Vec<Vec<u16>> = block.chunks(ports).map(<[u16]>::to_vec).collect();
     slots.sort();
     slots.reverse();
     block.copy_from_slice(&slots.concat());
 }
 
-/// Makes one count larger or smaller by 1.
-fn change_load(call: &mut Call, random: &mut Random) {
-    let place = random.place(call.matrix.len());
-    let count = &mut call.matrix[place];
-    *count = if random.one_in(2) {
-        count.saturating_add(1)
-    } else {
-        count.saturating_sub(1)
+/// The place in its list of one of a flow's numbers, where the list has flows.
+fn place_in_list(call: &Call, number: usize, random: &mut Random) -> Option<usize> {
+    let flows = call.flows();
+    (flows > 0).then(|| random.place(flows) * FLOW_NUMBERS + number)
+}
+
+/// Makes the cells of one flow more or fewer by 1.
+fn change_cells(call: &mut Call, random: &mut Random) {
+    let Some(place) = place_in_list(call, 2, random) else {
+        return;
     };
+    let cells = &mut call.list[place];
+    *cells = if random.one_in(2) {
+        cells.saturating_add(1)
+    } else {
+        cells.saturating_sub(1)
+    };
+}
+
+/// Puts one flow of the list at another input or another output.
+fn change_port(ports: usize, call: &mut Call, random: &mut Random) {
+    let side = random.place(2);
+    if let Some(place) = place_in_list(call, side, random) {
+        call.list[place] = random.between(1, ports as u64) as u16;
+    }
 }

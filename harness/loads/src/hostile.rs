@@ -8,8 +8,8 @@ pub const HOSTILE: [u64; 6] = [0, 1, 17, 1 << 16, 1 << 32, u64::MAX];
 /// Those of them that can be the length of a lent slice.
 const LENT: [u64; 4] = [0, 1, 17, 1 << 16];
 
-/// Numbers next to a limit of the switch, of a run, of a byte or of a word.
-const NEIGHBOURS: [u64; 23] = [
+/// Numbers next to a limit of the switch, of a list, of a run, of a byte or of a word.
+const NEIGHBOURS: [u64; 26] = [
     2,
     3,
     15,
@@ -18,6 +18,9 @@ const NEIGHBOURS: [u64; 23] = [
     255,
     256,
     257,
+    511,
+    512,
+    513,
     1_023,
     1_024,
     1_025,
@@ -42,6 +45,11 @@ pub fn hostile_number(good: u64, random: &mut Random) -> u64 {
         5 | 6 => random.pick(&NEIGHBOURS),
         _ => good.wrapping_add(1 << random.pick(&[8, 16, 32, 63])),
     }
+}
+
+/// A port of a flow, which is lent in 16 bits, that no switch has, or the good one again with a bit above those of a byte.
+pub fn hostile_port(good: u16, random: &mut Random) -> u16 {
+    random.pick(&[0, 17, 255, 256, u16::MAX, good.wrapping_add(1 << 8)])
 }
 
 kinds! {

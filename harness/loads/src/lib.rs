@@ -25,19 +25,24 @@ macro_rules! kinds {
 }
 
 mod damage;
-mod flow;
+mod followed;
 mod hostile;
+mod list;
 mod load;
 mod random;
 mod seam;
 mod sheet;
+mod uneven;
 
 pub use damage::{damage, unbalance_total, Block, Damage};
-pub use flow::{Company, Flow};
-pub use hostile::{hostile_length, hostile_number, LengthKind, HOSTILE};
+pub use followed::{Company, Followed};
+pub use hostile::{hostile_length, hostile_number, hostile_port, LengthKind, HOSTILE};
+pub use list::{flows_of, flows_of_matrix, list_of, Flow, Listing, FLOW_NUMBERS, MOST_FLOWS};
 pub use load::{
-    full_load, junk_number, load, load_of_shape, load_of_total, random_shape, Call, LoadKind, Shape,
+    full_load, full_load_of_flows, junk_number, load, load_of_shape, load_of_total, random_shape,
+    Call, LoadKind, Shape,
 };
 pub use random::Random;
 pub use seam::{load_alone, load_beside, Seam, SEAMS};
 pub use sheet::{sheet, SheetKind};
+pub use uneven::{uneven, Uneven};

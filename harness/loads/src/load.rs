@@ -1,14 +1,22 @@
 //! Loads of every kind a switch may be handed.
 
+use crate::list::{flows_of_matrix, list_of, share_out, Flow, Listing, FLOW_NUMBERS, MOST_FLOWS};
 use crate::random::Random;
 
-/// What a Build call is given, besides the bytes in its buffer.
+/// What a Build call is given, besides the entries in its buffer.
 #[derive(Clone, Debug, PartialEq, Eq)]
 pub struct Call {
     pub ports: u64,
     pub slots: u64,
-    pub matrix: Vec<u16>,
+    pub list: Vec<u16>,
     pub frame_length: usize,
+}
+
+impl Call {
+    /// The number of flows in the list.
+    pub fn flows(&self) -> usize {
+        self.list.len() / FLOW_NUMBERS
+    }
 }
 
 /// Ports and slots within the switch's limits.
@@ -22,16 +30,31 @@ impl Shape {
     pub fn frame_length(self) -> usize {
         self.ports * self.slots
     }
+
+    /// A call with these flows and a frame of the shape's length.
+    pub fn call(self, flows: &[Flow]) -> Call {
+        Call {
+            ports: self.ports as u64,
+            slots: self.slots as u64,
+            list: list_of(flows),
+            frame_length: self.frame_length(),
+        }
+    }
 }
 
 kinds! {
-    /// How the counts of a load are laid out.
+    /// How the counts of a load are laid out, and in what list.
     LoadKind {
         Zero = "zero",
+        NoFlows = "no-flows",
         Full = "full",
         Sparse = "sparse",
         Scattered = "scattered",
-        SinglePair = "single-pair",
+        MatrixOrder = "matrix-order",
+        MostFlows = "most-flows",
+        ManyOdd = "many-odd",
+        OnePair = "one-pair",
+        SingleFlow = "single-flow",
         OwnNumber = "own-number",
         Permutation = "permutation",
         Apart = "apart",
@@ -44,18 +67,27 @@ kinds! {
         InputOverByMuch = "input-over-by-much",
         OutputOverByMuch = "output-over-by-much",
         SixteenBitWrap = "sixteen-bit-wrap",
+        Largest = "largest",
+        NotWhole = "not-whole",
+        TooManyFlows = "too-many-flows",
+        PortOutside = "port-outside",
         Junk = "junk",
     }
 }
 
 impl LoadKind {
     /// Kinds that are never refused.
-    pub const FITTING: [LoadKind; 12] = [
+    pub const FITTING: [LoadKind; 17] = [
         LoadKind::Zero,
+        LoadKind::NoFlows,
         LoadKind::Full,
         LoadKind::Sparse,
         LoadKind::Scattered,
-        LoadKind::SinglePair,
+        LoadKind::MatrixOrder,
+        LoadKind::MostFlows,
+        LoadKind::ManyOdd,
+        LoadKind::OnePair,
+        LoadKind::SingleFlow,
         LoadKind::OwnNumber,
         LoadKind::Permutation,
         LoadKind::Apart,
@@ -66,17 +98,45 @@ impl LoadKind {
     ];
 
     /// Fitting kinds with long chains of partners.
-    pub const CHAINED: [LoadKind; 3] =
-        [LoadKind::Staircase, LoadKind::CyclicBand, LoadKind::AllOdd];
+    pub const CHAINED: [LoadKind; 5] = [
+        LoadKind::ManyOdd,
+        LoadKind::OnePair,
+        LoadKind::Staircase,
+        LoadKind::CyclicBand,
+        LoadKind::AllOdd,
+    ];
 
     /// Kinds that ask a port for more cells than there are slots.
-    pub const OVERLOADED: [LoadKind; 5] = [
+    pub const OVERLOADED: [LoadKind; 6] = [
         LoadKind::InputOverByOne,
         LoadKind::OutputOverByOne,
         LoadKind::InputOverByMuch,
         LoadKind::OutputOverByMuch,
         LoadKind::SixteenBitWrap,
+        LoadKind::Largest,
     ];
+
+    /// Kinds whose list is turned away before its loads are added up.
+    pub const ILL_FORMED: [LoadKind; 3] = [
+        LoadKind::NotWhole,
+        LoadKind::TooManyFlows,
+        LoadKind::PortOutside,
+    ];
+
+    /// The lists that a matrix of the kind may become.
+    fn listings(self) -> &'static [Listing] {
+        match self {
+            LoadKind::MatrixOrder => &[Listing::MatrixOrder],
+            LoadKind::MostFlows => &[Listing::MostFlows],
+            LoadKind::SingleFlow => &[Listing::Reserved],
+            LoadKind::OwnNumber
+            | LoadKind::Groups
+            | LoadKind::Staircase
+            | LoadKind::CyclicBand
+            | LoadKind::AllOdd => &Listing::WHOLE,
+            _ => Listing::ALL,
+        }
+    }
 }
 
 /// A shape with every number of ports and every power of two alike.
@@ -109,14 +169,15 @@ pub fn load_of_shape(kind: LoadKind, shape: Shape, random: &mut Random) -> Call 
         LoadKind::Full => grid.add_permutations(shape.slots, random),
         LoadKind::Sparse => grid.scatter(shape.ports, random),
         LoadKind::Scattered => grid.scatter(shape.ports * shape.ports, random),
-        LoadKind::SinglePair => grid.scatter(1, random),
+        LoadKind::MatrixOrder | LoadKind::MostFlows => grid.add_any(random),
+        LoadKind::SingleFlow => grid.scatter(1, random),
         LoadKind::OwnNumber => grid.add_band(0, 1),
         LoadKind::Permutation => {
             let count = random.between(1, shape.slots as u64) as u16;
             grid.add_band(0, count);
             grid.reorder(random);
         }
-        LoadKind::Apart => grid.add_flows_apart(random),
+        LoadKind::Apart => grid.add_counts_apart(random),
         LoadKind::Groups => grid.add_groups(random),
         LoadKind::Staircase => grid.add_staircase(random),
         LoadKind::CyclicBand => grid.add_odd_bands(random),
@@ -126,23 +187,47 @@ pub fn load_of_shape(kind: LoadKind, shape: Shape, random: &mut Random) -> Call 
         LoadKind::InputOverByMuch => grid.overload_inputs(random),
         LoadKind::OutputOverByMuch => grid.overload_output(random),
         LoadKind::SixteenBitWrap => grid.wrap_sixteen_bits(random),
-        LoadKind::Junk => return junk(shape, random),
+        _ => return other_list(kind, shape, random),
     }
-    grid.into_call()
+    grid.into_call(random.pick(kind.listings()), random)
 }
 
-/// A load that gives every port exactly so many cells.
+/// A load of a kind that is no matrix with a listing.
+fn other_list(kind: LoadKind, shape: Shape, random: &mut Random) -> Call {
+    match kind {
+        LoadKind::ManyOdd => shape.call(&many_odd(shape, random)),
+        LoadKind::OnePair => shape.call(&on_one_pair(shape, random)),
+        LoadKind::Largest => shape.call(&largest(shape, random)),
+        LoadKind::NotWhole => not_whole(shape, random),
+        LoadKind::TooManyFlows => too_many_flows(shape, random),
+        LoadKind::PortOutside => port_outside(shape, random),
+        LoadKind::Junk => junk(shape, random),
+        _ => shape.call(&[]),
+    }
+}
+
+/// A load that gives every port exactly so many cells, with one flow for each pair in matrix order.
 pub fn full_load(shape: Shape, cells: usize, random: &mut Random) -> Call {
     let mut grid = Grid::new(shape);
     grid.add_permutations_of_weight(cells, 1, random);
-    grid.into_call()
+    grid.into_call(Listing::MatrixOrder, random)
+}
+
+/// The same with so many flows, in any order.
+pub fn full_load_of_flows(shape: Shape, cells: usize, number: usize, random: &mut Random) -> Call {
+    let mut grid = Grid::new(shape);
+    grid.add_permutations_of_weight(cells, 1, random);
+    let mut flows = flows_of_matrix(shape.ports, &grid.counts);
+    share_out(&mut flows, number, shape.ports, random);
+    random.shuffle(&mut flows);
+    shape.call(&flows)
 }
 
 /// A load with so many cells in all, which are no more than ports × slots.
 pub fn load_of_total(shape: Shape, cells: usize, random: &mut Random) -> Call {
     let mut grid = Grid::new(shape);
     grid.add_cells(cells, random);
-    grid.into_call()
+    grid.into_call(random.pick(Listing::ALL), random)
 }
 
 /// A matrix under construction, ports counted from 0.
@@ -159,17 +244,26 @@ impl Grid {
         }
     }
 
-    pub(crate) fn into_call(self) -> Call {
-        Call {
-            ports: self.shape.ports as u64,
-            slots: self.shape.slots as u64,
-            matrix: self.counts,
-            frame_length: self.shape.frame_length(),
-        }
+    pub(crate) fn into_call(self, listing: Listing, random: &mut Random) -> Call {
+        self.shape.call(&self.into_flows(listing, random))
     }
 
-    pub(crate) fn at(&mut self, input: usize, output: usize) -> &mut u16 {
+    pub(crate) fn into_flows(self, listing: Listing, random: &mut Random) -> Vec<Flow> {
+        listing.list(self.shape.ports, &self.counts, random)
+    }
+
+    fn at(&mut self, input: usize, output: usize) -> &mut u16 {
         &mut self.counts[input * self.shape.ports + output]
+    }
+
+    /// Cells of any kind that fit: as many as can be, or some.
+    fn add_any(&mut self, random: &mut Random) {
+        let pairs = self.counts.len();
+        if random.one_in(3) {
+            self.add_permutations(self.shape.slots, random);
+        } else {
+            self.scatter(pairs, random);
+        }
     }
 
     /// Adds so many cells to every port, in permutations of small, middling or great weight.
@@ -195,7 +289,7 @@ impl Grid {
         self.scatter_in(pairs, [room.clone(), room], random);
     }
 
-    /// The same where each input and each output has so much room; pairs that have cells keep them.
+    /// The same where each input and each output has so much room.
     pub(crate) fn scatter_in(
         &mut self,
         pairs: usize,
@@ -206,9 +300,6 @@ impl Grid {
         for place in random.permutation(ports * ports).into_iter().take(pairs) {
             let (input, output) = (place / ports, place % ports);
             let room = input_room[input].min(output_room[output]);
-            if self.counts[place] > 0 {
-                continue;
-            }
             let count = random.between(0, room as u64) as usize;
             self.counts[place] = count as u16;
             input_room[input] -= count;
@@ -223,8 +314,8 @@ impl Grid {
         }
     }
 
-    /// Any count from each input to an output of its own, so that no two flows share a port.
-    fn add_flows_apart(&mut self, random: &mut Random) {
+    /// Any count from each input to an output of its own, so that no two pairs share a port.
+    fn add_counts_apart(&mut self, random: &mut Random) {
         for port in 0..self.shape.ports {
             *self.at(port, port) = random.between(0, self.shape.slots as u64) as u16;
         }
@@ -409,14 +500,137 @@ pub fn junk_number(good: u64, random: &mut Random) -> u64 {
     }
 }
 
-/// A call whose ports, slots, lengths and counts may each be wrong.
-fn junk(shape: Shape, random: &mut Random) -> Call {
-    let kind = random.pick(&[
+/// Flows with odd numbers of cells at any two ports, one after the other until there is no room at those that are tried, or as many
+/// as a list may have.
+fn many_odd(shape: Shape, random: &mut Random) -> Vec<Flow> {
+    let mut rooms = [0; 2].map(|_| vec![shape.slots; shape.ports]);
+    let largest = random.pick(&[1, 5, shape.slots as u64]);
+    let tries = random.between(1, 2 * MOST_FLOWS as u64);
+    let mut flows = Vec::new();
+    for _ in 0..tries {
+        let [input, output] = [0; 2].map(|_| random.place(shape.ports));
+        let room = rooms[0][input].min(rooms[1][output]) as u64;
+        if room == 0 || flows.len() == MOST_FLOWS {
+            continue;
+        }
+        let cells = random_odd(room.min(largest), random);
+        rooms[0][input] -= usize::from(cells);
+        rooms[1][output] -= usize::from(cells);
+        flows.push(Flow {
+            input,
+            output,
+            cells,
+        });
+    }
+    flows
+}
+
+/// Several flows on one pair that have all its cells between them, among flows of other pairs.
+fn on_one_pair(shape: Shape, random: &mut Random) -> Vec<Flow> {
+    let pair = Flow {
+        cells: random.between(1, shape.slots as u64) as u16,
+        ..Flow::without_cells(shape.ports, random)
+    };
+    let mut flows = vec![pair];
+    let number = random.between(2, 40) as usize;
+    share_out(&mut flows, number, shape.ports, random);
+    let left = shape.slots - usize::from(pair.cells);
+    let mut rooms = [0; 2].map(|_| vec![shape.slots; shape.ports]);
+    rooms[0][pair.input] = left;
+    rooms[1][pair.output] = left;
+    let mut grid = Grid::new(shape);
+    grid.scatter_in(random.pick(&[0, shape.ports]), rooms, random);
+    flows.extend(grid.into_flows(Listing::Reserved, random));
+    random.shuffle(&mut flows);
+    flows
+}
+
+/// Flows with as many cells as there can be, up to all of a list at one port.
+fn largest(shape: Shape, random: &mut Random) -> Vec<Flow> {
+    let number = random.pick(&[1, 2, 17, MOST_FLOWS - 1, MOST_FLOWS]);
+    let mut flow = Flow::without_cells(shape.ports, random);
+    let mut flows = Vec::new();
+    let [same_input, same_output] = [2, 2].map(|times| random.one_in(times));
+    for _ in 0..number {
+        flow = Flow {
+            input: if same_input {
+                flow.input
+            } else {
+                random.place(shape.ports)
+            },
+            output: if same_output {
+                flow.output
+            } else {
+                random.place(shape.ports)
+            },
+            cells: u16::MAX,
+        };
+        flows.push(flow);
+    }
+    flows
+}
+
+/// Any flows, of a load that fits or not.
+fn any_flows(shape: Shape, random: &mut Random) -> Call {
+    let kinds = [
         LoadKind::Scattered,
+        LoadKind::MostFlows,
         LoadKind::InputOverByMuch,
         LoadKind::Full,
-    ]);
-    let mut call = load_of_shape(kind, shape, random);
+    ];
+    load_of_shape(random.pick(&kinds), shape, random)
+}
+
+/// A list with one or two numbers more than whole flows, some with a port outside or too many flows besides.
+fn not_whole(shape: Shape, random: &mut Random) -> Call {
+    let mut call = match random.below(4) {
+        0 => too_many_flows(shape, random),
+        1 => port_outside(shape, random),
+        _ => any_flows(shape, random),
+    };
+    for _ in 0..random.between(1, 2) {
+        call.list.push(random.between(0, shape.ports as u64) as u16);
+    }
+    call
+}
+
+/// A list with a flow more than there may be, or many more, some with a port outside besides.
+fn too_many_flows(shape: Shape, random: &mut Random) -> Call {
+    let mut call = any_flows(shape, random);
+    let more = random.pick(&[1, 1, 1, 2, 200, 3 * MOST_FLOWS]);
+    while call.flows() < MOST_FLOWS + more {
+        call.list
+            .extend(list_of(&[Flow::without_cells(shape.ports, random)]));
+    }
+    if random.one_in(3) {
+        put_port_outside(&mut call, random);
+    }
+    call
+}
+
+/// A list with a flow at a port that the switch has not.
+fn port_outside(shape: Shape, random: &mut Random) -> Call {
+    let mut call = any_flows(shape, random);
+    if call.list.is_empty() {
+        call = shape.call(&[Flow::without_cells(shape.ports, random)]);
+    }
+    put_port_outside(&mut call, random);
+    call
+}
+
+/// Puts the input or the output of some flow outside the switch, often of the first or of the last.
+fn put_port_outside(call: &mut Call, random: &mut Random) {
+    let last = call.flows() - 1;
+    let any = random.place(last + 1);
+    let flow = random.pick(&[0, last, any]);
+    let next = call.ports as u16 + 1;
+    let outside = random.pick(&[0, next, 17, 256, 257, u16::MAX]);
+    call.list[flow * FLOW_NUMBERS + random.place(2)] = outside;
+}
+
+/// A call whose ports, slots, lengths and numbers may each be wrong.
+fn junk(shape: Shape, random: &mut Random) -> Call {
+    let mut call = any_flows(shape, random);
     if random.one_in(4) {
         call.ports = junk_number(call.ports, random);
     }
@@ -424,8 +638,11 @@ fn junk(shape: Shape, random: &mut Random) -> Call {
         call.slots = junk_number(call.slots, random);
     }
     if random.one_in(4) {
-        let length = junk_length(call.matrix.len(), 257, random);
-        call.matrix.resize_with(length, || random.draw() as u16);
+        let most = (MOST_FLOWS * FLOW_NUMBERS) as u64 + 4;
+        let length = junk_length(call.list.len(), most, random);
+        let largest = random.pick(&[shape.ports as u64, u64::from(u16::MAX)]);
+        let number = || random.between(0, largest) as u16;
+        call.list.resize_with(length, number);
     }
     if random.one_in(3) {
         call.frame_length = junk_length(call.frame_length, 16_385, random);

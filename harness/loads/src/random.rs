@@ -55,6 +55,11 @@ impl Random {
         (0..length).map(|_| self.draw() as u8).collect()
     }
 
+    /// Entries of a frame, of any value.
+    pub fn entries(&mut self, length: usize) -> Vec<u16> {
+        (0..length).map(|_| self.draw() as u16).collect()
+    }
+
     pub fn shuffle<T>(&mut self, list: &mut [T]) {
         for place in (1..list.len()).rev() {
             list.swap(place, self.place(place + 1));

@@ -1,14 +1,13 @@
 //! The flows that stray furthest from their share.
 
-use crate::load::Shape;
 use crate::random::Random;
 
-/// Two frames of two ports and 2^k slots: pair (1, 2) alone with m cells, then the same m cells of it beside pair (1, 1),
-/// which has all other slots of input 1. In the run from slot t of the one to slot 2^k - t of the other the flow gets
+/// Two frames of two ports and 2^k slots: flow 2 of pair (1, 2) alone with m cells, then the same m cells of it beside flow 1 of
+/// pair (1, 1), which has all other slots of input 1. In the run from slot t of the one to slot 2^k - t of the other the flow gets
 /// 2 × deviation less than its share, in parts of 1/2^k of a cell, and no flow of any chain gets less than that.
 ///
 /// How m and t are found. An odd count that is the only one favours the first half in every block of the path that leads to t:
-/// it is the block's first group with an odd number of counts. Beside an odd partner that comes first in matrix order it
+/// it is the block's first group with an odd number of counts. Beside an odd partner that comes first in the list it
 /// favours the second, so that its path is the other's mirror image. Let
 /// the lone flow's path go into a first half, then a second, then a first, and so on down to a block of two slots. Each
 /// block of it then has the last two middles for its ends, and at its own middle the flow is ahead by half a cell more
@@ -57,18 +56,13 @@ impl Seam {
         seams.find(|seam| seam.slots == slots as u64)
     }
 
-    /// The same for a switch, which has to have room for a partner.
-    pub fn of_shape(shape: Shape) -> Option<Seam> {
-        Seam::of_slots(shape.slots).filter(|_| shape.ports > 1)
-    }
-
-    /// The load of the first frame.
-    pub fn alone(self) -> [u16; 4] {
+    /// The list of the first frame.
+    pub fn alone(self) -> [u16; 6] {
         load_alone(self.cells)
     }
 
-    /// The load of the second.
-    pub fn beside(self) -> [u16; 4] {
+    /// The list of the second.
+    pub fn beside(self) -> [u16; 6] {
         load_beside(self.slots, self.cells)
     }
 
@@ -85,12 +79,12 @@ impl Seam {
     }
 }
 
-/// The load of two ports with pair (1, 2) alone.
-pub fn load_alone(cells: u16) -> [u16; 4] {
-    [0, cells, 0, 0]
+/// The list of two flows of input 1, the second of which has cells.
+pub fn load_alone(cells: u16) -> [u16; 6] {
+    [1, 1, 0, 1, 2, cells]
 }
 
-/// The same beside pair (1, 1), which has all other slots of input 1.
-pub fn load_beside(slots: u64, cells: u16) -> [u16; 4] {
-    [slots as u16 - cells, cells, 0, 0]
+/// The same where the first has all other slots of the input.
+pub fn load_beside(slots: u64, cells: u16) -> [u16; 6] {
+    [1, 1, slots as u16 - cells, 1, 2, cells]
 }

@@ -1,10 +1,11 @@
 //! Reservation sheets, well-formed and damaged.
 
+use crate::list::{FLOW_NUMBERS, MOST_FLOWS};
 use crate::load::{load, load_of_shape, random_shape, Call, LoadKind};
 use crate::random::Random;
 
 /// The most bytes a sheet may have.
-const LONGEST: usize = 16_384;
+const LONGEST: usize = 32_768;
 
 /// Line 3 of a sheet in a list that begins with line 1.
 const FIRST_PAIR: usize = 2;
@@ -13,8 +14,9 @@ kinds! {
     /// How a sheet departs from a well-formed one of a load that fits.
     SheetKind {
         WellFormed = "well-formed",
-        NoPairs = "no-pairs",
-        EveryPair = "every-pair",
+        NoFlows = "no-flows",
+        MostFlows = "most-flows",
+        TooManyFlows = "too-many-flows",
         Overloaded = "overloaded",
         PortsOutside = "ports-outside",
         SlotsOutside = "slots-outside",
@@ -42,7 +44,7 @@ kinds! {
 
 /// A sheet of the kind.
 pub fn sheet(kind: SheetKind, random: &mut Random) -> Vec<u8> {
-    let mut lines = lines_of(&reservation(kind, random), kind, random);
+    let mut lines = lines_of(&reservation(kind, random));
     damage_lines(kind, &mut lines, random);
     let mut sheet = lines.concat();
     damage_bytes(kind, &mut sheet, random);
@@ -53,32 +55,28 @@ pub fn sheet(kind: SheetKind, random: &mut Random) -> Vec<u8> {
 fn reservation(kind: SheetKind, random: &mut Random) -> Call {
     let shape = random_shape(random);
     match kind {
-        SheetKind::NoPairs => load_of_shape(LoadKind::Zero, shape, random),
+        SheetKind::NoFlows => load_of_shape(LoadKind::NoFlows, shape, random),
+        SheetKind::MostFlows => load_of_shape(LoadKind::MostFlows, shape, random),
+        SheetKind::TooManyFlows => {
+            let loads = [LoadKind::MostFlows, LoadKind::MostFlows, LoadKind::Largest];
+            load_of_shape(random.pick(&loads), shape, random)
+        }
         SheetKind::Overloaded => load(random.pick(&LoadKind::OVERLOADED), random),
         _ => load(random.pick(&LoadKind::FITTING), random),
     }
 }
 
-/// The lines of a well-formed sheet, pairs in any order and some named with 0.
-fn lines_of(call: &Call, kind: SheetKind, random: &mut Random) -> Vec<Vec<u8>> {
-    let mut pairs = Vec::new();
-    for (place, &count) in (0..).zip(&call.matrix) {
-        let zero_named =
-            kind == SheetKind::EveryPair || kind != SheetKind::NoPairs && random.one_in(8);
-        if count > 0 || zero_named {
-            let (input, output) = (place / call.ports + 1, place % call.ports + 1);
-            pairs.push(pair_line(input, output, u64::from(count)));
-        }
-    }
-    if random.one_in(2) {
-        random.shuffle(&mut pairs);
-    }
-    let mut lines = vec![
+/// The lines of a well-formed sheet, one for each flow of the list.
+fn lines_of(call: &Call) -> Vec<Vec<u8>> {
+    let first = [
         number_line("ports", call.ports),
         number_line("slots", call.slots),
     ];
-    lines.extend(pairs);
-    lines
+    let flows = call.list.chunks(FLOW_NUMBERS).map(|numbers| {
+        let [input, output, cells] = [0, 1, 2].map(|place| u64::from(numbers[place]));
+        pair_line(input, output, cells)
+    });
+    first.into_iter().chain(flows).collect()
 }
 
 fn number_line(word: &str, number: u64) -> Vec<u8> {
@@ -102,6 +100,7 @@ fn damage_lines(kind: SheetKind, lines: &mut Vec<Vec<u8>>, random: &mut Random) 
             lines[1] = number_line("slots", random.pick(&wrong));
         }
         SheetKind::PortOutside => insert_pair_outside(lines, random),
+        SheetKind::TooManyFlows => add_flows(lines, random),
         SheetKind::PairRepeated => repeat_pair(lines, random),
         SheetKind::LineCut => {
             let length = random.place(lines[line].len());
@@ -132,7 +131,24 @@ fn insert_pair_outside(lines: &mut Vec<Vec<u8>>, random: &mut Random) {
     lines.insert(place, pair_line(input, output, random.between(0, 5)));
 }
 
-/// Names pair (1, 1) twice, perhaps with different counts.
+/// Adds flow lines up to the one that is too many, or further; that one may have a port outside or break the form besides.
+fn add_flows(lines: &mut Vec<Vec<u8>>, random: &mut Random) {
+    let before = FIRST_PAIR + MOST_FLOWS;
+    while lines.len() < before {
+        lines.push(pair_line(1, 1, 0));
+    }
+    let last = match random.below(4) {
+        0 => pair_line(random.pick(&[0, 17]), 1, 1),
+        1 => b"(pair (in 1) (out 1) (cells 01))\n".to_vec(),
+        _ => pair_line(1, 1, random.between(0, 1)),
+    };
+    lines.insert(before, last);
+    for _ in 0..random.pick(&[0, 0, 1, 100]) {
+        lines.push(pair_line(1, 1, 0));
+    }
+}
+
+/// Names pair (1, 1) twice, perhaps with different cells.
 fn repeat_pair(lines: &mut Vec<Vec<u8>>, random: &mut Random) {
     for _ in 0..2 {
         let place = random.between(FIRST_PAIR as u64, lines.len() as u64) as usize;

@@ -1,6 +1,6 @@
 //! The table of seams, held to the recurrences it is found by.
 
-use loads::{Company, Flow, Random, Seam, Shape, SEAMS};
+use loads::{flows_of, Company, Flow, Followed, Random, Seam, Shape, MOST_FLOWS, SEAMS};
 use reference::wire::deviation;
 
 /// The cells of the whole frame, from the last block of the path up.
@@ -36,19 +36,24 @@ fn table() {
 }
 
 #[test]
-fn flows_keep_their_cells_in_loads_that_fit() {
+fn flows_keep_their_number_and_cells_in_loads_that_fit() {
     let mut random = Random::new(17);
+    let [mut last, mut first] = [0; 2];
     for _ in 0..2_000 {
         let shape = loads::random_shape(&mut random);
         let cells = random.between(1, shape.slots as u64) as u16;
-        let flow = Flow::random(shape, cells, &mut random);
+        let flow = Followed::random(cells, &mut random);
         let company = random.pick(Company::ALL);
         let call = flow.load(company, shape, &mut random);
-        let place = flow.input * shape.ports + flow.output;
-        assert_eq!(call.matrix[place], cells, "{company:?}");
-        let answer = reference::admit(call.ports, call.slots, &call.matrix);
+        let flows = flows_of(&call.list);
+        assert_eq!(flows[flow.number - 1].cells, cells, "{company:?}");
+        let answer = reference::admit(call.ports, call.slots, &call.list);
         assert_eq!(answer, Ok(()), "{company:?}");
+        let before = &flows[..flow.number - 1];
+        last += usize::from(flow.number == MOST_FLOWS);
+        first += usize::from(before.iter().all(|other| other.cells == 0));
     }
+    assert!(last > 0 && first > 300, "{last} {first}");
 }
 
 #[test]
@@ -59,17 +64,19 @@ fn a_partner_has_the_other_slots_and_comes_first() {
         slots: 16,
     };
     for _ in 0..200 {
-        let flow = Flow::random(shape, 5, &mut random);
-        let load = flow.load(Company::Partner, shape, &mut random);
-        let place = flow.input * 4 + flow.output;
-        let joined = |other: &usize| other / 4 == flow.input || other % 4 == flow.output;
-        let others = (0..16).filter(|&other| other != place && load.matrix[other] > 0);
-        let others: Vec<usize> = others.filter(joined).collect();
+        let followed = Followed::random(5, &mut random);
+        let load = followed.load(Company::Partner, shape, &mut random);
+        let flows = flows_of(&load.list);
+        let place = followed.number - 1;
+        let flow = flows[place];
+        let joined = |other: &Flow| other.input == flow.input || other.output == flow.output;
+        let others = (0..flows.len()).filter(|&other| other != place && flows[other].cells > 0);
+        let others: Vec<usize> = others.filter(|&other| joined(&flows[other])).collect();
         let [partner] = others[..] else {
             panic!("{others:?} beside {flow:?}");
         };
         assert!(partner < place);
-        assert_eq!(load.matrix[partner], 11);
+        assert_eq!(flows[partner].cells, 11);
     }
 }
 
@@ -86,12 +93,4 @@ fn other_cells_leave_a_slot_to_the_partner() {
             assert!(drawn.contains(&cells), "{cells} cells, {seam:?}");
         }
     }
-}
-
-#[test]
-fn a_seam_needs_a_slot_and_a_port_for_the_partner() {
-    let of_shape = |ports, slots| Seam::of_shape(Shape { ports, slots });
-    assert_eq!(of_shape(1, 16), None);
-    assert_eq!(of_shape(2, 1), None);
-    assert_eq!(of_shape(2, 16), Some(SEAMS[3]));
 }

@@ -3,84 +3,118 @@
 #![forbid(unsafe_code)]
 
 const MOST_PORTS: usize = 16;
-const MOST_PAIRS: usize = MOST_PORTS * MOST_PORTS;
 const MOST_SLOTS: usize = 1_024;
+const MOST_FLOWS: usize = 512;
 
-type Counts = [u16; MOST_PAIRS];
+/// The numbers of a flow in a list: its input, its output, its cells.
+const FLOW_NUMBERS: usize = 3;
+
+/// The cells of each flow in a block.
+type Counts = [u16; MOST_FLOWS];
 
 /// At each odd count its partner among its input's counts, or among its output's.
-type Partners = [Option<u8>; MOST_PAIRS];
+type Partners = [Option<u16>; MOST_FLOWS];
 
-/// Fills the frame and says how many odd counts were settled; says nothing, the frame untouched, if the load is refused.
-pub fn build(ports: usize, slots: usize, matrix: &[u16], frame: &mut [u8]) -> Option<usize> {
-    if !is_well_formed(ports, slots, matrix, frame) || is_overloaded(ports, slots, matrix) {
-        return None;
-    }
-    let mut counts = [0; MOST_PAIRS];
-    counts[..matrix.len()].copy_from_slice(matrix);
-    Some(fill_block(ports, &counts, frame))
+/// The switch and the ports of its flows, which are counted from 0.
+struct Switch {
+    ports: usize,
+    flows: usize,
+    inputs: [u8; MOST_FLOWS],
+    outputs: [u8; MOST_FLOWS],
 }
 
-fn is_well_formed(ports: usize, slots: usize, matrix: &[u16], frame: &[u8]) -> bool {
+/// Fills the frame and says how many odd counts were settled; says nothing, the frame untouched, if the load is refused.
+pub fn build(ports: usize, slots: usize, list: &[u16], frame: &mut [u16]) -> Option<usize> {
+    if !is_well_formed(ports, slots, list, frame) || is_overloaded(ports, slots, list) {
+        return None;
+    }
+    let (switch, counts) = read_list(ports, list);
+    Some(fill_block(&switch, &counts, frame))
+}
+
+fn is_well_formed(ports: usize, slots: usize, list: &[u16], frame: &[u16]) -> bool {
+    let is_port = |number: u16| (1..=ports).contains(&usize::from(number));
     (1..=MOST_PORTS).contains(&ports)
         && slots.is_power_of_two()
         && slots <= MOST_SLOTS
-        && matrix.len() == ports * ports
+        && list.len().is_multiple_of(FLOW_NUMBERS)
+        && list.len() <= MOST_FLOWS * FLOW_NUMBERS
+        && list
+            .chunks_exact(FLOW_NUMBERS)
+            .all(|flow| is_port(flow[0]) && is_port(flow[1]))
         && frame.len() == slots * ports
 }
 
-/// The load of each input and of each output, in one pass over the matrix.
-pub fn loads_of(ports: usize, matrix: &[u16]) -> ([usize; MOST_PORTS], [usize; MOST_PORTS]) {
+/// The load of each input and of each output, in one pass over the list, all of whose ports are those of a switch.
+pub fn loads_of(list: &[u16]) -> ([usize; MOST_PORTS], [usize; MOST_PORTS]) {
     let mut inputs = [0; MOST_PORTS];
     let mut outputs = [0; MOST_PORTS];
-    for (input, row) in matrix.chunks_exact(ports).enumerate() {
-        for (output, &count) in row.iter().enumerate() {
-            inputs[input] += usize::from(count);
-            outputs[output] += usize::from(count);
-        }
+    for flow in list.chunks_exact(FLOW_NUMBERS) {
+        inputs[usize::from(flow[0]) - 1] += usize::from(flow[2]);
+        outputs[usize::from(flow[1]) - 1] += usize::from(flow[2]);
     }
     (inputs, outputs)
 }
 
-fn is_overloaded(ports: usize, slots: usize, matrix: &[u16]) -> bool {
-    let (inputs, outputs) = loads_of(ports, matrix);
-    inputs.iter().chain(&outputs).any(|&load| load > slots)
+fn is_overloaded(ports: usize, slots: usize, list: &[u16]) -> bool {
+    let (inputs, outputs) = loads_of(list);
+    let loads = inputs[..ports].iter().chain(&outputs[..ports]);
+    loads.into_iter().any(|&load| load > slots)
+}
+
+/// The ports of the flows of a list, and their cells.
+fn read_list(ports: usize, list: &[u16]) -> (Switch, Counts) {
+    let mut switch = Switch {
+        ports,
+        flows: list.len() / FLOW_NUMBERS,
+        inputs: [0; MOST_FLOWS],
+        outputs: [0; MOST_FLOWS],
+    };
+    let mut counts = [0; MOST_FLOWS];
+    for (place, flow) in list.chunks_exact(FLOW_NUMBERS).enumerate() {
+        switch.inputs[place] = flow[0] as u8 - 1;
+        switch.outputs[place] = flow[1] as u8 - 1;
+        counts[place] = flow[2];
+    }
+    (switch, counts)
 }
 
 /// Fills a block, and says how many counts of it and of the blocks within it are odd.
-fn fill_block(ports: usize, counts: &Counts, block: &mut [u8]) -> usize {
-    if block.len() == ports {
-        fill_slot(ports, counts, block);
+fn fill_block(switch: &Switch, counts: &Counts, block: &mut [u16]) -> usize {
+    if block.len() == switch.ports {
+        fill_slot(switch, counts, block);
         return 0;
     }
-    let (first, second, odd) = halve(ports, counts);
+    let (first, second, odd) = halve(switch, counts);
     let (front, back) = block.split_at_mut(block.len() / 2);
-    odd + fill_block(ports, &first, front) + fill_block(ports, &second, back)
+    odd + fill_block(switch, &first, front) + fill_block(switch, &second, back)
 }
 
-fn fill_slot(ports: usize, counts: &Counts, slot: &mut [u8]) {
+fn fill_slot(switch: &Switch, counts: &Counts, slot: &mut [u16]) {
     slot.fill(0);
-    for (byte, row) in slot.iter_mut().zip(counts.chunks_exact(ports)) {
-        for (output, &count) in (1..).zip(row) {
-            if count == 1 {
-                *byte = output;
-            }
+    for flow in 0..switch.flows {
+        if counts[flow] == 1 {
+            slot[usize::from(switch.inputs[flow])] = flow as u16 + 1;
         }
     }
 }
 
 /// Shares the counts between the two halves of a block, and says how many are odd.
-fn halve(ports: usize, counts: &Counts) -> (Counts, Counts, usize) {
-    let partners = find_partners(ports, counts);
-    let mut first = counts.map(|count| count / 2);
+fn halve(switch: &Switch, counts: &Counts) -> (Counts, Counts, usize) {
+    let partners =
+        [&switch.inputs, &switch.outputs].map(|ends| find_partners(switch, ends, counts));
+    let mut first = [0; MOST_FLOWS];
+    for flow in 0..switch.flows {
+        first[flow] = counts[flow] / 2;
+    }
     let mut second = first;
-    let mut settled = [false; MOST_PAIRS];
+    let mut settled = [false; MOST_FLOWS];
     let mut group = Group::new();
     let mut larger_first = true;
     let mut odd = 0;
-    for place in 0..ports * ports {
-        if counts[place] % 2 == 1 && !settled[place] {
-            group.gather(place, &partners, &mut settled);
+    for flow in 0..switch.flows {
+        if counts[flow] % 2 == 1 && !settled[flow] {
+            group.gather(flow, &partners, &mut settled);
             odd += group.size;
             let own_first = !group.is_odd() || group.own_is_larger() == larger_first;
             if own_first {
@@ -99,8 +133,8 @@ fn halve(ports: usize, counts: &Counts) -> (Counts, Counts, usize) {
 /// Counts joined by partnership. Those on the side of the group's first count favour the same half as that count does, those
 /// on the other side the other half.
 struct Group {
-    places: [u8; MOST_PAIRS],
-    is_own: [bool; MOST_PAIRS],
+    flows: [u16; MOST_FLOWS],
+    is_own: [bool; MOST_FLOWS],
     size: usize,
     own: usize,
 }
@@ -108,15 +142,15 @@ struct Group {
 impl Group {
     fn new() -> Group {
         Group {
-            places: [0; MOST_PAIRS],
-            is_own: [false; MOST_PAIRS],
+            flows: [0; MOST_FLOWS],
+            is_own: [false; MOST_FLOWS],
             size: 0,
             own: 0,
         }
     }
 
     /// Begins a group anew with its first count, and walks from there both ways.
-    fn gather(&mut self, first: usize, partners: &[Partners; 2], settled: &mut [bool; MOST_PAIRS]) {
+    fn gather(&mut self, first: usize, partners: &[Partners; 2], settled: &mut [bool; MOST_FLOWS]) {
         self.size = 0;
         self.own = 0;
         settled[first] = true;
@@ -127,22 +161,22 @@ impl Group {
     }
 
     /// Walks a chain of partners from the first count on, which are on either side in turn.
-    fn walk(&mut self, first: usize, partners: [&Partners; 2], settled: &mut [bool; MOST_PAIRS]) {
-        let mut place = first;
+    fn walk(&mut self, first: usize, partners: [&Partners; 2], settled: &mut [bool; MOST_FLOWS]) {
+        let mut flow = first;
         let mut step = 0;
-        while let Some(next) = partners[step % 2][place].map(usize::from) {
+        while let Some(next) = partners[step % 2][flow].map(usize::from) {
             if settled[next] {
                 return;
             }
             settled[next] = true;
             self.add(next, step % 2 == 1);
-            place = next;
+            flow = next;
             step += 1;
         }
     }
 
-    fn add(&mut self, place: usize, is_own: bool) {
-        self.places[self.size] = place as u8;
+    fn add(&mut self, flow: usize, is_own: bool) {
+        self.flows[self.size] = flow as u16;
         self.is_own[self.size] = is_own;
         self.size += 1;
         self.own += usize::from(is_own);
@@ -159,42 +193,36 @@ impl Group {
 
     /// Gives an extra cell of each count on the side of the first to the one half, and of each other count to the other half.
     fn share_out(&self, to_own: &mut Counts, to_other: &mut Counts) {
-        let places = self.places.iter().zip(&self.is_own);
-        for (&place, &is_own) in places.take(self.size) {
+        let flows = self.flows.iter().zip(&self.is_own);
+        for (&flow, &is_own) in flows.take(self.size) {
             if is_own {
-                to_own[usize::from(place)] += 1;
+                to_own[usize::from(flow)] += 1;
             } else {
-                to_other[usize::from(place)] += 1;
+                to_other[usize::from(flow)] += 1;
             }
         }
     }
 }
 
-/// Partners the odd counts of each row and of each column, first with second and so on: those of rows, then those of columns.
-fn find_partners(ports: usize, counts: &Counts) -> [Partners; 2] {
-    let mut at_input = [None; MOST_PAIRS];
-    let mut at_output = [None; MOST_PAIRS];
-    let mut waiting_at_output = [None; MOST_PORTS];
-    for (input, row) in counts.chunks_exact(ports).take(ports).enumerate() {
-        let mut waiting_at_input = None;
-        for (output, &count) in row.iter().enumerate() {
-            if count % 2 == 1 {
-                let place = input * ports + output;
-                join(place, &mut waiting_at_input, &mut at_input);
-                join(place, &mut waiting_at_output[output], &mut at_output);
-            }
+/// Partners the odd counts of each input, or of each output, first with second and so on, in one pass over the flows.
+fn find_partners(switch: &Switch, ends: &[u8; MOST_FLOWS], counts: &Counts) -> Partners {
+    let mut partners = [None; MOST_FLOWS];
+    let mut waiting = [None; MOST_PORTS];
+    for flow in 0..switch.flows {
+        if counts[flow] % 2 == 1 {
+            join(flow, &mut waiting[usize::from(ends[flow])], &mut partners);
         }
     }
-    [at_input, at_output]
+    partners
 }
 
-/// Partners a count with the one waiting in its row or column, or leaves it waiting.
-fn join(place: usize, waiting: &mut Option<usize>, partners: &mut Partners) {
+/// Partners a count with the one waiting at its port, or leaves it waiting.
+fn join(flow: usize, waiting: &mut Option<usize>, partners: &mut Partners) {
     match waiting.take() {
         Some(other) => {
-            partners[place] = Some(other as u8);
-            partners[other] = Some(place as u8);
+            partners[flow] = Some(other as u16);
+            partners[other] = Some(flow as u16);
         }
-        None => *waiting = Some(place),
+        None => *waiting = Some(flow),
     }
 }

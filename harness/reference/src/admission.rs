@@ -1,5 +1,6 @@
 //! The conditions every call is held to, and Admit.
 
+use crate::flow::{cells_of, flows_of, Flow, FLOW_NUMBERS, MOST_FLOWS};
 use crate::refusal::{require, Refusal};
 
 /// Refusal 1.
@@ -13,54 +14,40 @@ pub(crate) fn check_slots(slots: u64) -> Result<(), Refusal> {
     require(allowed, Refusal::Slots)
 }
 
-/// Refusal 3; ports have been checked, so the product is small.
-pub(crate) fn check_matrix(ports: u64, matrix: &[u16]) -> Result<(), Refusal> {
-    let length = matrix.len() as u64;
-    require(length == ports * ports, Refusal::MatrixLength)
+/// Refusals 1, 2, 3, 21 and 22; the flows of a list that none of them turns away.
+pub(crate) fn check_list(ports: u64, slots: u64, list: &[u16]) -> Result<Vec<Flow>, Refusal> {
+    check_ports(ports)?;
+    check_slots(slots)?;
+    require(list.len().is_multiple_of(FLOW_NUMBERS), Refusal::ListLength)?;
+    let flows = flows_of(list);
+    require(flows.len() <= MOST_FLOWS, Refusal::TooManyFlows)?;
+    let known = 1..=ports;
+    let mut ends = flows.iter().flat_map(|flow| [flow.input, flow.output]);
+    require(ends.all(|port| known.contains(&port)), Refusal::FlowPort)?;
+    Ok(flows)
 }
 
 /// Refusal 4; ports and slots have been checked, so the product is small.
-pub(crate) fn check_frame(ports: u64, slots: u64, frame: &[u8]) -> Result<(), Refusal> {
+pub(crate) fn check_frame(ports: u64, slots: u64, frame: &[u16]) -> Result<(), Refusal> {
     let length = frame.len() as u64;
     require(length == slots * ports, Refusal::FrameLength)
 }
 
 /// Refusals 5 and 6: all inputs are looked at before any output.
-pub(crate) fn check_loads(ports: u64, slots: u64, matrix: &[u16]) -> Result<(), Refusal> {
+pub(crate) fn check_loads(ports: u64, slots: u64, flows: &[Flow]) -> Result<(), Refusal> {
     for port in 1..=ports {
-        let cells = input_load(ports, matrix, port);
+        let cells = cells_of(flows, |flow| flow.input == port);
         require(cells <= slots, Refusal::InputLoad { port, cells })?;
     }
     for port in 1..=ports {
-        let cells = output_load(ports, matrix, port);
+        let cells = cells_of(flows, |flow| flow.output == port);
         require(cells <= slots, Refusal::OutputLoad { port, cells })?;
     }
     Ok(())
 }
 
-/// Where a pair's count stands in a matrix of this many ports.
-pub(crate) fn place_of(ports: u64, input: u64, output: u64) -> usize {
-    ((input - 1) * ports + (output - 1)) as usize
-}
-
-/// The sum of an input's row.
-pub(crate) fn input_load(ports: u64, matrix: &[u16], input: u64) -> u64 {
-    (1..=ports)
-        .map(|output| u64::from(matrix[place_of(ports, input, output)]))
-        .sum()
-}
-
-/// The sum of an output's column.
-pub(crate) fn output_load(ports: u64, matrix: &[u16], output: u64) -> u64 {
-    (1..=ports)
-        .map(|input| u64::from(matrix[place_of(ports, input, output)]))
-        .sum()
-}
-
-/// Accepts a load that fits the frame, or gives the first refusal of 1, 2, 3, 5, 6.
-pub fn admit(ports: u64, slots: u64, matrix: &[u16]) -> Result<(), Refusal> {
-    check_ports(ports)?;
-    check_slots(slots)?;
-    check_matrix(ports, matrix)?;
-    check_loads(ports, slots, matrix)
+/// Accepts a load that fits the frame, or gives the first refusal of 1, 2, 3, 21, 22, 5, 6.
+pub fn admit(ports: u64, slots: u64, list: &[u16]) -> Result<(), Refusal> {
+    let flows = check_list(ports, slots, list)?;
+    check_loads(ports, slots, &flows)
 }

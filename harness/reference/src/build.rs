@@ -1,7 +1,8 @@
 //! Build, by the splitting rules: each group of odd counts is searched from its first count, and its two halves told apart by
 //! distance.
 
-use crate::admission::{check_frame, check_loads, check_matrix, check_ports, check_slots};
+use crate::admission::{check_frame, check_list, check_loads};
+use crate::flow::Flow;
 use crate::refusal::Refusal;
 use crate::work::settled;
 
@@ -21,91 +22,118 @@ impl Half {
     }
 }
 
-/// Fills the frame and says how many odd counts were settled, or gives the first refusal of 1 to 6 and leaves it alone.
-pub fn build(ports: u64, slots: u64, matrix: &[u16], frame: &mut [u8]) -> Result<u64, Refusal> {
-    check_ports(ports)?;
-    check_slots(slots)?;
-    check_matrix(ports, matrix)?;
+/// The cells that a flow has in a block, one or more; 0 is an even count, of which each half has 0.
+#[derive(Clone, Copy)]
+struct Count {
+    number: u16,
+    input: u64,
+    output: u64,
+    cells: u64,
+}
+
+impl Count {
+    fn is_odd(&self) -> bool {
+        self.cells % 2 == 1
+    }
+}
+
+/// Fills the frame and says how many odd counts were settled, or gives the first refusal of 1, 2, 3, 21, 22, 4, 5, 6 and leaves
+/// it alone.
+pub fn build(ports: u64, slots: u64, list: &[u16], frame: &mut [u16]) -> Result<u64, Refusal> {
+    let flows = check_list(ports, slots, list)?;
     check_frame(ports, slots, frame)?;
-    check_loads(ports, slots, matrix)?;
-    fill_block(ports as usize, matrix, frame);
+    check_loads(ports, slots, &flows)?;
+    fill_block(ports, &counts_of(&flows), frame);
     Ok(settled(ports, frame))
 }
 
+/// The counts of the whole frame, by rising flow number.
+fn counts_of(flows: &[Flow]) -> Vec<Count> {
+    let numbered = (1..).zip(flows).filter(|(_, flow)| flow.cells > 0);
+    let counts = numbered.map(|(number, flow)| Count {
+        number,
+        input: flow.input,
+        output: flow.output,
+        cells: flow.cells,
+    });
+    counts.collect()
+}
+
 /// Rule 1: a block of one slot is written out, a longer one is halved.
-fn fill_block(ports: usize, matrix: &[u16], block: &mut [u8]) {
-    if block.len() == ports {
-        fill_slot(ports, matrix, block);
+fn fill_block(ports: u64, counts: &[Count], block: &mut [u16]) {
+    if block.len() as u64 == ports {
+        fill_slot(counts, block);
         return;
     }
-    let (first, second) = split(ports, matrix);
+    let [first, second] = split(ports, counts);
     let (front, back) = block.split_at_mut(block.len() / 2);
     fill_block(ports, &first, front);
     fill_block(ports, &second, back);
 }
 
-/// Rule 6: each row holds at most one 1, which is the input's cell.
-fn fill_slot(ports: usize, matrix: &[u16], slot: &mut [u8]) {
-    for (byte, row) in slot.iter_mut().zip(matrix.chunks(ports)) {
-        let sent = row.iter().position(|&count| count == 1);
-        *byte = sent.map_or(0, |place| place as u8 + 1);
+/// Rule 6: each input has at most one count, of 1, which is its cell.
+fn fill_slot(counts: &[Count], slot: &mut [u16]) {
+    slot.fill(0);
+    for count in counts {
+        slot[count.input as usize - 1] = count.number;
     }
 }
 
-/// Rule 2: shares a block's matrix between its halves.
-fn split(ports: usize, matrix: &[u16]) -> (Vec<u16>, Vec<u16>) {
-    let groups = groups(matrix, &partnerships(ports, matrix));
-    let favoured = favour_halves(matrix.len(), &groups);
-    let share_of = |half: Half| {
-        let extra = favoured.iter().map(|&choice| choice == Some(half));
-        let counts = matrix.iter().zip(extra);
-        counts
-            .map(|(&count, extra)| count / 2 + u16::from(extra))
-            .collect()
-    };
-    (share_of(Half::First), share_of(Half::Second))
+/// Rule 2: shares a block's counts between its halves.
+fn split(ports: u64, counts: &[Count]) -> [Vec<Count>; 2] {
+    let groups = groups(counts, &partnerships(ports, counts));
+    let favoured = favour_halves(counts.len(), &groups);
+    [Half::First, Half::Second].map(|half| {
+        let counts = counts.iter().zip(&favoured);
+        let shares = counts.map(|(count, &choice)| Count {
+            cells: count.cells / 2 + u64::from(choice == Some(half)),
+            ..*count
+        });
+        shares.filter(|share| share.cells > 0).collect()
+    })
 }
 
-/// Rule 3: for each place of the matrix, the places it is partnered with.
-fn partnerships(ports: usize, matrix: &[u16]) -> Vec<Vec<usize>> {
-    let mut partners = vec![Vec::new(); matrix.len()];
-    for port in 0..ports {
-        let row = port * ports..(port + 1) * ports;
-        let column = (port..matrix.len()).step_by(ports);
-        join_partners(matrix, row, &mut partners);
-        join_partners(matrix, column, &mut partners);
+/// Rule 3: for each count of a block, in the order of their flows, the places of those it is partnered with.
+fn partnerships(ports: u64, counts: &[Count]) -> Vec<Vec<usize>> {
+    let mut partners = vec![Vec::new(); counts.len()];
+    let odd = (0..counts.len()).filter(|&place| counts[place].is_odd());
+    let odd: Vec<usize> = odd.collect();
+    for port in 1..=ports {
+        join_partners(&odd, |place| counts[place].input == port, &mut partners);
+        join_partners(&odd, |place| counts[place].output == port, &mut partners);
     }
     partners
 }
 
-/// Along one row or column: first odd count with second, third with fourth.
-fn join_partners(matrix: &[u16], places: impl Iterator<Item = usize>, partners: &mut [Vec<usize>]) {
-    let odd: Vec<usize> = places.filter(|&place| matrix[place] % 2 == 1).collect();
-    for couple in odd.chunks_exact(2) {
+/// At one input or output: first odd count with second, third with fourth, by rising flow number.
+fn join_partners(odd: &[usize], is_there: impl Fn(usize) -> bool, partners: &mut [Vec<usize>]) {
+    let there = odd.iter().copied().filter(|&place| is_there(place));
+    let there: Vec<usize> = there.collect();
+    for couple in there.chunks_exact(2) {
         partners[couple[0]].push(couple[1]);
         partners[couple[1]].push(couple[0]);
     }
 }
 
-/// All odd counts joined by partnership, by how many partnerships each is away from the first of them in matrix order: an
-/// even number, as the first itself, or an odd number. By rule 4 the even ones favour one half and the odd ones the other.
+/// All odd counts joined by partnership, by how many partnerships each is away from the first of them, that of the lowest flow
+/// number: an even number, as the first itself, or an odd number. By rule 4 the even ones favour one half and the odd ones the
+/// other.
 struct Group {
     even: Vec<usize>,
     odd: Vec<usize>,
 }
 
-/// The groups, taken by their first count in matrix order.
-fn groups(matrix: &[u16], partners: &[Vec<usize>]) -> Vec<Group> {
-    let mut found = vec![false; matrix.len()];
+/// The groups, taken by their first flow.
+fn groups(counts: &[Count], partners: &[Vec<usize>]) -> Vec<Group> {
+    let mut found = vec![false; counts.len()];
     let mut groups = Vec::new();
-    for first in 0..matrix.len() {
-        if matrix[first] % 2 == 1 && !found[first] {
+    for first in 0..counts.len() {
+        if counts[first].is_odd() && !found[first] {
             groups.push(search_group(first, partners, &mut found));
         }
     }
     groups
 }
-
 /// Goes out from the first count one partnership at a time, until nobody new is reached.
 fn search_group(first: usize, partners: &[Vec<usize>], found: &mut [bool]) -> Group {
     let [mut even, mut odd] = [Vec::new(), Vec::new()];

@@ -1,53 +1,57 @@
-//! Inspect: legality and balance looked up in the frame's bytes, without the splitting.
+//! Inspect: legality and balance looked up in the frame's entries, without the splitting.
 
-use crate::admission::{check_frame, check_matrix, check_ports, check_slots};
+use crate::admission::{check_frame, check_list};
+use crate::flow::{numbered, Flow};
 use crate::refusal::Refusal;
 
-/// The answer of Inspect; slots, inputs and outputs are numbered from 1.
+/// The answer of Inspect; slots, inputs, outputs and flows are numbered from 1.
 #[derive(Clone, Copy, Debug, PartialEq, Eq)]
 pub enum Inspection {
     Clean,
-    ByteTooLarge { slot: u64, input: u64 },
+    WrongEntry { slot: u64, input: u64 },
     OutputTwice { slot: u64, output: u64 },
-    PairCount { input: u64, output: u64 },
+    FlowCount { flow: u64 },
     UnbalancedBlock { slot: u64, size: u64 },
     Refused(Refusal),
 }
 
-/// Clean, the first fault in the paper's order, or the first refusal of 1 to 4.
-pub fn inspect(ports: u64, slots: u64, matrix: &[u16], frame: &[u8]) -> Inspection {
-    let refused = check_ports(ports)
-        .and_then(|()| check_slots(slots))
-        .and_then(|()| check_matrix(ports, matrix))
-        .and_then(|()| check_frame(ports, slots, frame));
-    if let Err(refusal) = refused {
-        return Inspection::Refused(refusal);
-    }
+/// Clean, the first fault in the paper's order, or the first refusal of 1, 2, 3, 21, 22, 4.
+pub fn inspect(ports: u64, slots: u64, list: &[u16], frame: &[u16]) -> Inspection {
+    let checked = check_list(ports, slots, list)
+        .and_then(|flows| check_frame(ports, slots, frame).map(|()| flows));
+    let flows = match checked {
+        Ok(flows) => flows,
+        Err(refusal) => return Inspection::Refused(refusal),
+    };
     let ports = ports as usize;
-    byte_too_large(ports, frame)
-        .or_else(|| output_twice(ports, frame))
-        .or_else(|| pair_count(ports, matrix, frame))
-        .or_else(|| unbalanced_block(ports, frame))
+    wrong_entry(ports, &flows, frame)
+        .or_else(|| output_twice(ports, &flows, frame))
+        .or_else(|| flow_count(ports, &flows, frame))
+        .or_else(|| unbalanced_block(ports, &flows, frame))
         .unwrap_or(Inspection::Clean)
 }
 
-/// The earliest byte that names no output; frame order is slot order, then input order.
-fn byte_too_large(ports: usize, frame: &[u8]) -> Option<Inspection> {
-    let place = frame.iter().position(|&byte| usize::from(byte) > ports)?;
-    Some(Inspection::ByteTooLarge {
+/// The earliest entry that is neither 0 nor a flow of its input; frame order is slot order, then input order.
+fn wrong_entry(ports: usize, flows: &[Flow], frame: &[u16]) -> Option<Inspection> {
+    let is_right = |place: usize, entry: u16| {
+        let flow = numbered(flows, entry.into());
+        entry == 0 || flow.is_some_and(|flow| flow.input == (place % ports + 1) as u64)
+    };
+    let mut entries = frame.iter().enumerate();
+    let place = entries.position(|(place, &entry)| !is_right(place, entry))?;
+    Some(Inspection::WrongEntry {
         slot: (place / ports + 1) as u64,
         input: (place % ports + 1) as u64,
     })
 }
 
 /// The earliest slot that uses an output twice, and its lowest such output.
-fn output_twice(ports: usize, frame: &[u8]) -> Option<Inspection> {
-    let uses = |bytes: &[u8], output: u64| {
-        let same = bytes.iter().filter(|&&byte| u64::from(byte) == output);
-        same.count()
-    };
-    for (slot, bytes) in (1..).zip(frame.chunks(ports)) {
-        let twice = (1..=ports as u64).find(|&output| uses(bytes, output) > 1);
+fn output_twice(ports: usize, flows: &[Flow], frame: &[u16]) -> Option<Inspection> {
+    for (slot, entries) in (1..).zip(frame.chunks(ports)) {
+        let sent = entries.iter().map(|&entry| numbered(flows, entry.into()));
+        let used: Vec<u64> = sent.flatten().map(|flow| flow.output).collect();
+        let uses = |output: u64| used.iter().filter(|&&other| other == output).count();
+        let twice = (1..=ports as u64).find(|&output| uses(output) > 1);
         if let Some(output) = twice {
             return Some(Inspection::OutputTwice { slot, output });
         }
@@ -55,23 +59,21 @@ fn output_twice(ports: usize, frame: &[u8]) -> Option<Inspection> {
     None
 }
 
-/// The first pair in matrix order that is not in its count of slots.
-fn pair_count(ports: usize, matrix: &[u16], frame: &[u8]) -> Option<Inspection> {
-    let carried = cells_by_class(ports, frame);
-    let mut pairs = matrix.iter().zip(&carried);
-    let place = pairs.position(|(&count, &cells)| u64::from(count) != cells)?;
-    Some(Inspection::PairCount {
-        input: (place / ports + 1) as u64,
-        output: (place % ports + 1) as u64,
-    })
+/// The first flow of the list that is not in its cells of slots.
+fn flow_count(ports: usize, flows: &[Flow], frame: &[u16]) -> Option<Inspection> {
+    let carried = cells_by_class(ports, flows, frame);
+    let mut reserved = flows.iter().zip(&carried);
+    let place = reserved.position(|(flow, &cells)| flow.cells != cells)?;
+    let flow = (place + 1) as u64;
+    Some(Inspection::FlowCount { flow })
 }
 
 /// The earliest of the largest blocks whose halves differ by more than a cell.
-fn unbalanced_block(ports: usize, frame: &[u8]) -> Option<Inspection> {
+fn unbalanced_block(ports: usize, flows: &[Flow], frame: &[u16]) -> Option<Inspection> {
     let mut size = frame.len() / ports;
     while size >= 2 {
         let mut blocks = frame.chunks(size * ports);
-        if let Some(place) = blocks.position(|block| !is_balanced(ports, block)) {
+        if let Some(place) = blocks.position(|block| !is_balanced(ports, flows, block)) {
             return Some(Inspection::UnbalancedBlock {
                 slot: (place * size + 1) as u64,
                 size: size as u64,
@@ -82,27 +84,26 @@ fn unbalanced_block(ports: usize, frame: &[u8]) -> Option<Inspection> {
     None
 }
 
-/// Whether the halves of a block differ by at most 1 in every pair, input and output, and in the total.
-fn is_balanced(ports: usize, block: &[u8]) -> bool {
+/// Whether the halves of a block differ by at most 1 in every flow, input and output, and in the total.
+fn is_balanced(ports: usize, flows: &[Flow], block: &[u16]) -> bool {
     let (front, back) = block.split_at(block.len() / 2);
-    let front = cells_by_class(ports, front);
-    let back = cells_by_class(ports, back);
+    let front = cells_by_class(ports, flows, front);
+    let back = cells_by_class(ports, flows, back);
     front.iter().zip(&back).all(|(a, b)| a.abs_diff(*b) <= 1)
 }
 
-/// The cells of every pair in matrix order, then of every input, then of every output, then all of them.
-pub(crate) fn cells_by_class(ports: usize, block: &[u8]) -> Vec<u64> {
-    let pairs = ports * ports;
-    let total = pairs + 2 * ports;
+/// The cells of every flow, then of every input, then of every output, then all of them, where no entry is wrong.
+fn cells_by_class(ports: usize, flows: &[Flow], block: &[u16]) -> Vec<u64> {
+    let inputs = flows.len();
+    let outputs = inputs + ports;
+    let total = outputs + ports;
     let mut cells = vec![0; total + 1];
-    for slot in block.chunks(ports) {
-        for (input, &byte) in slot.iter().enumerate() {
-            if let Some(output) = usize::from(byte).checked_sub(1) {
-                cells[input * ports + output] += 1;
-                cells[pairs + input] += 1;
-                cells[pairs + ports + output] += 1;
-                cells[total] += 1;
-            }
+    for &entry in block {
+        if let Some(flow) = numbered(flows, entry.into()) {
+            cells[usize::from(entry) - 1] += 1;
+            cells[inputs + flow.input as usize - 1] += 1;
+            cells[outputs + flow.output as usize - 1] += 1;
+            cells[total] += 1;
         }
     }
     cells

@@ -4,6 +4,7 @@
 
 mod admission;
 mod build;
+mod flow;
 mod inspect;
 mod query;
 pub mod queue;
@@ -15,6 +16,7 @@ pub mod work;
 
 pub use admission::admit;
 pub use build::build;
+pub use flow::MOST_FLOWS;
 pub use inspect::{inspect, Inspection};
 pub use query::{service_count, slot_view, Class, Count, LONGEST_RUN};
 pub use refusal::Refusal;

@@ -2,46 +2,56 @@
 
 use std::ops::Range;
 
-use crate::admission::{check_frame, check_ports, check_slots};
+use crate::admission::{check_frame, check_list, check_ports, check_slots};
+use crate::flow::{numbered, Flow};
 use crate::refusal::{require, Refusal};
 
 /// The longest run Service count takes.
 pub const LONGEST_RUN: u64 = 1_000_000;
 
-/// Whose cells Service count counts; ports are numbered from 1.
+/// Whose cells Service count counts; flows and ports are numbered from 1.
 #[derive(Clone, Copy, Debug, PartialEq, Eq)]
 pub enum Class {
-    Pair { input: u64, output: u64 },
+    Flow { number: u64 },
     Input { port: u64 },
     Output { port: u64 },
 }
 
 impl Class {
-    /// Whether every port the class names is one of the switch's.
-    fn is_within(self, ports: u64) -> bool {
-        let known = 1..=ports;
+    /// Whether it is a flow of the list, or a port of the switch.
+    fn is_within(self, ports: u64, flows: &[Flow]) -> bool {
         match self {
-            Class::Pair { input, output } => known.contains(&input) && known.contains(&output),
-            Class::Input { port } | Class::Output { port } => known.contains(&port),
+            Class::Flow { number } => numbered(flows, number).is_some(),
+            Class::Input { port } | Class::Output { port } => (1..=ports).contains(&port),
         }
     }
 
-    /// The cells of the class among one slot's bytes, whatever those bytes are.
-    pub(crate) fn cells_in_slot(self, slot: &[u8]) -> u64 {
-        let byte_of = |input: u64| u64::from(slot[(input - 1) as usize]);
+    /// The cells of the class among one slot's entries, whatever those are; a flow that is not in the list has none.
+    pub(crate) fn cells_in_slot(self, flows: &[Flow], slot: &[u16]) -> u64 {
         match self {
-            Class::Pair { input, output } => u64::from(byte_of(input) == output),
-            Class::Input { port } => u64::from(byte_of(port) != 0),
+            Class::Flow { number } => match numbered(flows, number) {
+                Some(_) => slot
+                    .iter()
+                    .filter(|&&entry| u64::from(entry) == number)
+                    .count() as u64,
+                None => 0,
+            },
+            Class::Input { port } => u64::from(slot[(port - 1) as usize] != 0),
             Class::Output { port } => {
-                let same = slot.iter().filter(|&&byte| u64::from(byte) == port);
-                same.count() as u64
+                let sent = slot.iter().map(|&entry| numbered(flows, entry.into()));
+                sent.flatten().filter(|flow| flow.output == port).count() as u64
             }
         }
     }
 }
 
-/// The bytes of the frame that are this slot, or the first refusal of 1, 2, 4, 11.
-pub fn slot_view(ports: u64, slots: u64, frame: &[u8], slot: u64) -> Result<Range<usize>, Refusal> {
+/// The entries of the frame that are this slot, or the first refusal of 1, 2, 4, 11.
+pub fn slot_view(
+    ports: u64,
+    slots: u64,
+    frame: &[u16],
+    slot: u64,
+) -> Result<Range<usize>, Refusal> {
     check_ports(ports)?;
     check_slots(slots)?;
     check_frame(ports, slots, frame)?;
@@ -59,29 +69,32 @@ pub struct Count {
     pub lead: i64,
 }
 
-/// The cells of a run of the repeating frame and their lead, or the first refusal of 1, 2, 4, 11, 12, 13.
+/// The cells of a run of the repeating frame and their lead, or the first refusal of 1, 2, 3, 21, 22, 4, 11, 12, 13.
 pub fn service_count(
     ports: u64,
     slots: u64,
-    frame: &[u8],
+    list: &[u16],
+    frame: &[u16],
     class: Class,
     start: u64,
     length: u64,
 ) -> Result<Count, Refusal> {
+    let flows = check_list(ports, slots, list)?;
     slot_view(ports, slots, frame, start)?;
-    require(class.is_within(ports), Refusal::PortNumber)?;
+    require(class.is_within(ports, &flows), Refusal::FlowOrPort)?;
     require(length <= LONGEST_RUN, Refusal::RunLength)?;
-    let cells = cells_of_run(ports, frame, class, start, length);
-    let of_frame = cells_of_run(ports, frame, class, 1, slots);
+    let slot_cells = |slot: &[u16]| class.cells_in_slot(&flows, slot);
+    let each: Vec<u64> = frame.chunks(ports as usize).map(slot_cells).collect();
+    let cells = cells_of_run(&each, start, length);
+    let of_frame = cells_of_run(&each, 1, slots);
     let [slots, length] = [slots, length].map(i128::from);
     let lead = slots * i128::from(cells) - length * i128::from(of_frame);
     let lead = i64::try_from(lead).expect("no run is 2^63 parts from its share");
     Ok(Count { cells, lead })
 }
 
-/// The cells of so many slots of a frame that repeats for ever, looked at one after the other.
-fn cells_of_run(ports: u64, frame: &[u8], class: Class, start: u64, length: u64) -> u64 {
-    let slots = frame.chunks(ports as usize).cycle();
-    let run = slots.skip(start as usize - 1).take(length as usize);
-    run.map(|slot| class.cells_in_slot(slot)).sum()
+/// The cells of so many slots of a frame that repeats for ever, added up one after the other.
+fn cells_of_run(each: &[u64], start: u64, length: u64) -> u64 {
+    let slots = each.iter().cycle();
+    slots.skip(start as usize - 1).take(length as usize).sum()
 }

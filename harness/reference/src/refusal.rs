@@ -5,17 +5,18 @@
 pub enum Refusal {
     Ports,
     Slots,
-    MatrixLength,
+    ListLength,
     FrameLength,
     InputLoad { port: u64, cells: u64 },
     OutputLoad { port: u64, cells: u64 },
     LineForm { line: u64 },
     LinePort { line: u64 },
-    LinePair { line: u64 },
     SheetLength,
     SlotNumber,
-    PortNumber,
+    FlowOrPort,
     RunLength,
+    TooManyFlows,
+    FlowPort,
 }
 
 impl Refusal {
@@ -24,17 +25,18 @@ impl Refusal {
         match self {
             Refusal::Ports => 1,
             Refusal::Slots => 2,
-            Refusal::MatrixLength => 3,
+            Refusal::ListLength => 3,
             Refusal::FrameLength => 4,
             Refusal::InputLoad { .. } => 5,
             Refusal::OutputLoad { .. } => 6,
             Refusal::LineForm { .. } => 7,
             Refusal::LinePort { .. } => 8,
-            Refusal::LinePair { .. } => 9,
             Refusal::SheetLength => 10,
             Refusal::SlotNumber => 11,
-            Refusal::PortNumber => 12,
+            Refusal::FlowOrPort => 12,
             Refusal::RunLength => 13,
+            Refusal::TooManyFlows => 21,
+            Refusal::FlowPort => 22,
         }
     }
 
@@ -45,11 +47,7 @@ impl Refusal {
             Refusal::InputLoad { port, cells } | Refusal::OutputLoad { port, cells } => {
                 numbers.extend([port, cells]);
             }
-            Refusal::LineForm { line }
-            | Refusal::LinePort { line }
-            | Refusal::LinePair { line } => {
-                numbers.push(line);
-            }
+            Refusal::LineForm { line } | Refusal::LinePort { line } => numbers.push(line),
             _ => {}
         }
         numbers

@@ -1,17 +1,18 @@
 //! The sheet program: reads a reservation sheet and prints its frame.
 
-use crate::admission::{admit, check_ports, check_slots, place_of};
+use crate::admission::{check_ports, check_slots};
 use crate::build::build;
+use crate::flow::{flows_of, MOST_FLOWS};
 use crate::refusal::{require, Refusal};
 
 /// The most bytes a sheet may have.
-pub const LONGEST_SHEET: usize = 16_384;
+pub const LONGEST_SHEET: usize = 32_768;
 
 /// What a sheet reserves.
 struct Reservation {
     ports: u64,
     slots: u64,
-    matrix: Vec<u16>,
+    list: Vec<u16>,
 }
 
 /// All the program prints for a sheet: the frame, or one refusal line.
@@ -24,11 +25,10 @@ pub fn respond(sheet: &[u8]) -> Vec<u8> {
 }
 
 /// The number of ports and the frame a sheet asks for.
-fn frame_of(sheet: &[u8]) -> Result<(u64, Vec<u8>), Refusal> {
+fn frame_of(sheet: &[u8]) -> Result<(u64, Vec<u16>), Refusal> {
     let asked = read_sheet(sheet)?;
-    admit(asked.ports, asked.slots, &asked.matrix)?;
     let mut frame = vec![0; (asked.ports * asked.slots) as usize];
-    build(asked.ports, asked.slots, &asked.matrix, &mut frame)?;
+    build(asked.ports, asked.slots, &asked.list, &mut frame)?;
     Ok((asked.ports, frame))
 }
 
@@ -40,33 +40,22 @@ fn read_sheet(sheet: &[u8]) -> Result<Reservation, Refusal> {
     check_ports(ports)?;
     let [slots] = read_line(lines.next(), 2, ["(slots ", ")\n"])?;
     check_slots(slots)?;
-    let mut named = vec![None; (ports * ports) as usize];
+    let mut list = Vec::new();
     for (line, bytes) in (3..).zip(lines) {
-        read_pair(Some(bytes), line, ports, &mut named)?;
+        read_pair(bytes, line, ports, &mut list)?;
     }
-    let matrix = named.into_iter().map(Option::unwrap_or_default).collect();
-    Ok(Reservation {
-        ports,
-        slots,
-        matrix,
-    })
+    Ok(Reservation { ports, slots, list })
 }
 
-/// Reads a pair line into the counts named so far.
-fn read_pair(
-    bytes: Option<&[u8]>,
-    line: u64,
-    ports: u64,
-    named: &mut [Option<u16>],
-) -> Result<(), Refusal> {
+/// Reads a pair line, which is one flow more of the list: 7, then 21, then 8.
+fn read_pair(bytes: &[u8], line: u64, ports: u64, list: &mut Vec<u16>) -> Result<(), Refusal> {
     let form = ["(pair (in ", ") (out ", ") (cells ", "))\n"];
-    let [input, output, cells] = read_line(bytes, line, form)?;
+    let [input, output, cells] = read_line(Some(bytes), line, form)?;
+    require(flows_of(list).len() < MOST_FLOWS, Refusal::TooManyFlows)?;
     let known = 1..=ports;
     let ports_known = known.contains(&input) && known.contains(&output);
     require(ports_known, Refusal::LinePort { line })?;
-    let count = &mut named[place_of(ports, input, output)];
-    require(count.is_none(), Refusal::LinePair { line })?;
-    *count = Some(cells as u16);
+    list.extend([input, output, cells].map(|number| number as u16));
     Ok(())
 }
 
@@ -103,14 +92,14 @@ fn read_number(digits: &[u8]) -> Option<u64> {
     (number.to_string() == written).then_some(u64::from(number))
 }
 
-/// The frame's heading, then each slot with its cells by rising input.
-fn print_frame(ports: u64, frame: &[u8]) -> String {
+/// The frame's heading, then each slot with its flow numbers by rising input.
+fn print_frame(ports: u64, frame: &[u16]) -> String {
     let slots = frame.len() as u64 / ports;
     let mut printed = format!("(frame (ports {ports}) (slots {slots}))\n");
     for (number, slot) in frame.chunks(ports as usize).enumerate() {
         printed += &format!("(slot {}", number + 1);
-        for (input, output) in slot.iter().enumerate().filter(|(_, &byte)| byte != 0) {
-            printed += &format!(" ({} {output})", input + 1);
+        for flow in slot.iter().filter(|&&entry| entry != 0) {
+            printed += &format!(" {flow}");
         }
         printed += ")\n";
     }

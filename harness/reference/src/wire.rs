@@ -1,6 +1,6 @@
-//! The accuracy rule: what the wire carried, counted byte by byte against the share.
+//! The accuracy rule: what the wire carried, counted entry by entry against the share.
 
-use crate::admission::{input_load, output_load, place_of};
+use crate::flow::{cells_of, flows_of, numbered, Flow};
 use crate::query::Class;
 
 /// Whose share the accuracy rule speaks of: the classes that Service count counts, and all cells together.
@@ -17,53 +17,58 @@ impl From<Class> for Whose {
 }
 
 impl Whose {
-    /// Their cells among one slot's bytes, whatever those bytes are.
-    fn cells_in_slot(self, slot: &[u8]) -> u64 {
+    /// Their cells among one slot's entries, whatever those are; for the total every entry counts that is a flow.
+    fn cells_in_slot(self, flows: &[Flow], slot: &[u16]) -> u64 {
         match self {
-            Whose::Class(class) => class.cells_in_slot(slot),
-            Whose::Total => slot.iter().filter(|&&byte| byte != 0).count() as u64,
+            Whose::Class(class) => class.cells_in_slot(flows, slot),
+            Whose::Total => {
+                let sent = slot.iter().map(|&entry| numbered(flows, entry.into()));
+                sent.flatten().count() as u64
+            }
+        }
+    }
+
+    /// Their load; that of a flow that is not in the list is 0.
+    fn load_in(self, flows: &[Flow]) -> u64 {
+        match self {
+            Whose::Class(Class::Flow { number }) => {
+                numbered(flows, number).map_or(0, |flow| flow.cells)
+            }
+            Whose::Class(Class::Input { port }) => cells_of(flows, |flow| flow.input == port),
+            Whose::Class(Class::Output { port }) => cells_of(flows, |flow| flow.output == port),
+            Whose::Total => cells_of(flows, |_| true),
         }
     }
 }
 
-/// One frame as the wire carried it, with the load of the last accepted call before it.
+/// One frame as the wire carried it, with the list of the last accepted call before it.
 #[derive(Clone, Debug)]
 pub struct Frame {
     pub ports: u64,
     pub slots: u64,
-    pub matrix: Vec<u16>,
-    pub bytes: Vec<u8>,
+    pub list: Vec<u16>,
+    pub entries: Vec<u16>,
 }
 
 impl Frame {
-    /// Their load in this frame.
-    fn load_of(&self, whose: Whose) -> u64 {
-        match whose {
-            Whose::Class(Class::Pair { input, output }) => {
-                u64::from(self.matrix[place_of(self.ports, input, output)])
-            }
-            Whose::Class(Class::Input { port }) => input_load(self.ports, &self.matrix, port),
-            Whose::Class(Class::Output { port }) => output_load(self.ports, &self.matrix, port),
-            Whose::Total => self.matrix.iter().map(|&count| u64::from(count)).sum(),
-        }
-    }
-
-    /// What they are given in each slot.
-    fn each_slot(&self, whose: Whose) -> impl Iterator<Item = Slot> + '_ {
-        let load = self.load_of(whose);
-        let slots = self.bytes.chunks(self.ports as usize);
-        slots.map(move |slot| Slot {
+    /// What they are given in each slot, counted with the frame's own list.
+    fn each_slot(&self, whose: Whose) -> Vec<Slot> {
+        let flows = flows_of(&self.list);
+        let load = whose.load_in(&flows);
+        let slots = self.entries.chunks(self.ports as usize);
+        let given = slots.map(|slot| Slot {
             load,
-            cells: whose.cells_in_slot(slot),
-        })
+            cells: whose.cells_in_slot(&flows, slot),
+        });
+        given.collect()
     }
 }
 
 /// Whether all frames have one number of ports and one of slots, as the rule asks.
 pub fn is_chain(frames: &[Frame]) -> bool {
-    let shape = |frame: &Frame| (frame.ports, frame.slots, frame.bytes.len() as u64);
+    let shape = |frame: &Frame| (frame.ports, frame.slots, frame.entries.len() as u64);
     frames.iter().all(|frame| {
-        shape(frame) == shape(&frames[0]) && frame.ports * frame.slots == frame.bytes.len() as u64
+        shape(frame) == shape(&frames[0]) && frame.ports * frame.slots == frame.entries.len() as u64
     })
 }
 
@@ -81,7 +86,7 @@ pub struct Slot {
     pub cells: u64,
 }
 
-/// What a chain gives one class, or all pairs together, slot by slot.
+/// What a chain gives one class, or all cells together, slot by slot.
 #[derive(Clone, Debug)]
 pub struct Course {
     /// The slots of a frame, 2^k.
@@ -90,7 +95,7 @@ pub struct Course {
 }
 
 impl Course {
-    /// Counts the bytes of a chain.
+    /// Counts the entries of a chain, those of each frame with its own list.
     pub fn of(chain: &[Frame], whose: impl Into<Whose>) -> Course {
         let whose = whose.into();
         Course {

@@ -5,9 +5,9 @@ use reference::{
     admit, build, inspect, respond, service_count, slot_view, Class, Count, Inspection, Refusal,
 };
 
-const TABLE_7: [u16; 16] = [2, 2, 0, 0, 0, 0, 0, 0, 0, 0, 0, 0, 1, 1, 0, 2];
+const TABLE_7: [u16; 15] = [1, 1, 2, 1, 2, 2, 4, 1, 1, 4, 2, 1, 4, 4, 2];
 
-const TABLE_7_FRAME: [u8; 16] = [1, 0, 0, 4, 2, 0, 0, 1, 1, 0, 0, 2, 2, 0, 0, 4];
+const TABLE_7_FRAME: [u16; 16] = [1, 0, 0, 5, 2, 0, 0, 3, 1, 0, 0, 4, 2, 0, 0, 5];
 
 const TABLE_7_SHEET: &str = "(ports 4)
 (slots 4)
@@ -19,46 +19,56 @@ const TABLE_7_SHEET: &str = "(ports 4)
 ";
 
 const TABLE_7_PRINTED: &str = "(frame (ports 4) (slots 4))
-(slot 1 (1 1) (4 4))
-(slot 2 (1 2) (4 1))
-(slot 3 (1 1) (4 2))
-(slot 4 (1 2) (4 4))
+(slot 1 1 5)
+(slot 2 2 3)
+(slot 3 1 4)
+(slot 4 2 5)
 ";
 
-/// Builds into a buffer of other bytes and has the frame inspected.
-fn built(ports: u64, slots: u64, matrix: &[u16]) -> Result<Vec<u8>, Refusal> {
-    let mut frame = vec![0xa5; (ports * slots) as usize];
-    let answer = build(ports, slots, matrix, &mut frame);
-    assert_eq!(answer.map(|_| ()), admit(ports, slots, matrix));
+/// Builds into a buffer of other entries and has the frame inspected.
+fn built(ports: u64, slots: u64, list: &[u16]) -> Result<Vec<u16>, Refusal> {
+    let mut frame = vec![0xa5a5; (ports * slots) as usize];
+    let answer = build(ports, slots, list, &mut frame);
+    assert_eq!(answer.map(|_| ()), admit(ports, slots, list));
     if answer.is_err() {
-        assert!(frame.iter().all(|&byte| byte == 0xa5));
+        assert!(frame.iter().all(|&entry| entry == 0xa5a5));
     } else {
-        assert_eq!(inspect(ports, slots, matrix, &frame), Inspection::Clean);
+        assert_eq!(inspect(ports, slots, list, &frame), Inspection::Clean);
     }
     answer.map(|_| frame)
 }
 
 #[test]
 fn one_port_one_slot() {
-    assert_eq!(built(1, 1, &[1]), Ok(vec![1]));
+    assert_eq!(built(1, 1, &[1, 1, 1]), Ok(vec![1]));
 }
 
 #[test]
 fn three_cells_in_four_slots() {
-    assert_eq!(built(1, 4, &[3]), Ok(vec![1, 1, 1, 0]));
+    assert_eq!(built(1, 4, &[1, 1, 3]), Ok(vec![1, 1, 1, 0]));
 }
 
 #[test]
 fn two_ports_all_ones() {
-    assert_eq!(built(2, 2, &[1, 1, 1, 1]), Ok(vec![1, 2, 2, 1]));
+    let list = [1, 1, 1, 1, 2, 1, 2, 1, 1, 2, 2, 1];
+    assert_eq!(built(2, 2, &list), Ok(vec![1, 4, 2, 3]));
 }
 
-/// (1 1), (3 3), (2 2), (4 4) in slots 1 to 4.
+/// Flows 1, 3, 2, 4 in slots 1 to 4.
 #[test]
 fn own_numbers_one_in_each_slot() {
-    let matrix = [1, 0, 0, 0, 0, 1, 0, 0, 0, 0, 1, 0, 0, 0, 0, 1];
+    let list = [1, 1, 1, 2, 2, 1, 3, 3, 1, 4, 4, 1];
     let frame = vec![1, 0, 0, 0, 0, 0, 3, 0, 0, 2, 0, 0, 0, 0, 0, 4];
-    assert_eq!(built(4, 4, &matrix), Ok(frame));
+    assert_eq!(built(4, 4, &list), Ok(frame));
+}
+
+/// Sound and picture of one pair, and the same two in the other order.
+#[test]
+fn two_flows_on_one_pair() {
+    let list = [1, 1, 3, 1, 1, 1];
+    assert_eq!(built(1, 4, &list), Ok(vec![1, 1, 1, 2]));
+    let list = [1, 1, 1, 1, 1, 3];
+    assert_eq!(built(1, 4, &list), Ok(vec![1, 2, 2, 2]));
 }
 
 #[test]
@@ -73,38 +83,41 @@ fn table_7() {
 #[test]
 fn overloaded_input() {
     let refusal = Refusal::InputLoad { port: 1, cells: 5 };
-    assert_eq!(built(2, 4, &[3, 2, 0, 0]), Err(refusal));
+    assert_eq!(built(2, 4, &[1, 1, 3, 1, 2, 2]), Err(refusal));
     assert_eq!(refusal.numbers(), [5, 1, 5]);
-    assert_eq!(built(2, 4, &[2, 2, 0, 0]), Ok(vec![1, 0, 2, 0, 1, 0, 2, 0]));
+    let list = [1, 1, 2, 1, 2, 2];
+    assert_eq!(built(2, 4, &list), Ok(vec![1, 0, 2, 0, 1, 0, 2, 0]));
 }
 
 #[test]
 fn overloaded_output() {
     let refusal = Refusal::OutputLoad { port: 1, cells: 5 };
-    assert_eq!(built(2, 4, &[3, 0, 2, 0]), Err(refusal));
+    assert_eq!(built(2, 4, &[1, 1, 3, 2, 1, 2]), Err(refusal));
     assert_eq!(refusal.numbers(), [6, 1, 5]);
 }
 
 #[test]
 fn overloaded_pair_is_refused_for_its_input() {
     let refusal = Refusal::InputLoad { port: 1, cells: 5 };
-    assert_eq!(built(2, 4, &[5, 0, 0, 0]), Err(refusal));
+    assert_eq!(built(2, 4, &[1, 1, 5]), Err(refusal));
+    assert_eq!(built(2, 4, &[1, 1, 2, 1, 1, 3]), Err(refusal));
+}
+
+fn count_in_table_7(class: Class, start: u64, length: u64) -> Result<Count, Refusal> {
+    service_count(4, 4, &TABLE_7, &TABLE_7_FRAME, class, start, length)
 }
 
 #[test]
 fn count_across_the_end_of_the_frame() {
-    let class = Class::Pair {
-        input: 4,
-        output: 4,
-    };
+    let class = Class::Flow { number: 5 };
     let count = Count { cells: 2, lead: 4 };
-    assert_eq!(service_count(4, 4, &TABLE_7_FRAME, class, 4, 2), Ok(count));
+    assert_eq!(count_in_table_7(class, 4, 2), Ok(count));
 
     let frame = Frame {
         ports: 4,
         slots: 4,
-        matrix: TABLE_7.to_vec(),
-        bytes: TABLE_7_FRAME.to_vec(),
+        list: TABLE_7.to_vec(),
+        entries: TABLE_7_FRAME.to_vec(),
     };
     let course = Course::of(&[frame.clone(), frame], class);
     let run = Run {
@@ -122,68 +135,64 @@ fn count_across_the_end_of_the_frame() {
 fn idle_loads_and_empty_runs() {
     for ports in 1..=16 {
         for k in 0..=10 {
-            let matrix = vec![0; (ports * ports) as usize];
-            let frame = built(ports, 1 << k, &matrix).unwrap();
-            assert!(frame.iter().all(|&byte| byte == 0));
+            let last = ports as u16;
+            for list in [&[][..], &[1, last, 0], &[last, 1, 0, last, 1, 0]] {
+                let frame = built(ports, 1 << k, list).unwrap();
+                assert!(frame.iter().all(|&entry| entry == 0));
+            }
         }
     }
     for class in [Class::Input { port: 1 }, Class::Output { port: 4 }] {
         let count = Count { cells: 0, lead: 0 };
-        assert_eq!(service_count(4, 4, &TABLE_7_FRAME, class, 3, 0), Ok(count));
+        assert_eq!(count_in_table_7(class, 3, 0), Ok(count));
     }
 }
 
-/// Pair (4, 1) has its one cell of four slots in slot 2; output 1 has three, and none in slot 4.
+/// Flow 3 has its one cell of four slots in slot 2; output 1 has three, and none in slot 4.
 #[test]
 fn leads_of_table_7() {
-    let pair = Class::Pair {
-        input: 4,
-        output: 1,
-    };
+    let flow = Class::Flow { number: 3 };
     let output = Class::Output { port: 1 };
     for (class, start, length, cells, lead) in [
-        (pair, 2, 1, 1, 3),
-        (pair, 1, 2, 1, 2),
-        (pair, 1, 1, 0, -1),
-        (pair, 3, 3, 0, -3),
+        (flow, 2, 1, 1, 3),
+        (flow, 1, 2, 1, 2),
+        (flow, 1, 1, 0, -1),
+        (flow, 3, 3, 0, -3),
         (output, 1, 3, 3, 3),
         (output, 4, 1, 0, -3),
         (output, 3, 3, 2, -1),
         (Class::Input { port: 4 }, 2, 3, 3, 0),
         (Class::Input { port: 3 }, 2, 3, 0, 0),
-        (pair, 3, 4, 1, 0),
-        (pair, 3, 43, 10, -3),
+        (flow, 3, 4, 1, 0),
+        (flow, 3, 43, 10, -3),
         (output, 4, 1_000_000, 750_000, 0),
         (output, 4, 999_997, 749_997, -3),
     ] {
-        let count = service_count(4, 4, &TABLE_7_FRAME, class, start, length);
+        let count = count_in_table_7(class, start, length);
         assert_eq!(count, Ok(Count { cells, lead }), "{class:?}");
     }
 }
 
 #[test]
 fn limits_of_slots_and_ports() {
-    assert_eq!(built(1, 3, &[0]), Err(Refusal::Slots));
-    assert!(built(1, 1_024, &[1_024]).is_ok());
-    assert_eq!(built(1, 2_048, &[0]), Err(Refusal::Slots));
-    assert!(built(16, 1, &[0; 256]).is_ok());
-    assert_eq!(built(17, 1, &[0; 289]), Err(Refusal::Ports));
+    assert_eq!(built(1, 3, &[]), Err(Refusal::Slots));
+    assert!(built(1, 1_024, &[1, 1, 1_024]).is_ok());
+    assert_eq!(built(1, 2_048, &[]), Err(Refusal::Slots));
+    assert!(built(16, 1, &[16, 16, 1]).is_ok());
+    assert_eq!(built(17, 1, &[]), Err(Refusal::Ports));
     assert_eq!(built(0, 1, &[]), Err(Refusal::Ports));
 }
 
 #[test]
 fn seam_reaches_the_bound_exactly() {
-    let loads = [vec![0, 1, 0, 0], vec![1, 1, 0, 0]];
-    let chain = loads.map(|matrix| Frame {
+    let lists = [vec![1, 1, 0, 1, 2, 1], vec![1, 1, 1, 1, 2, 1]];
+    let chain = lists.map(|list| Frame {
         ports: 2,
         slots: 2,
-        bytes: built(2, 2, &matrix).unwrap(),
-        matrix,
+        entries: built(2, 2, &list).unwrap(),
+        list,
     });
-    let class = Class::Pair {
-        input: 1,
-        output: 2,
-    };
+    let class = Class::Flow { number: 2 };
     let run = Run {
         start: 1,
         length: 2,
@@ -199,7 +208,7 @@ fn seam_reaches_the_bound_exactly() {
     // Each frame's share, a half, rounded down would hide the whole difference.
     let rounded: u128 = chain
         .iter()
-        .map(|frame| u128::from(frame.matrix[1]) / 2)
+        .map(|frame| u128::from(frame.list[5]) / 2)
         .sum();
     assert_eq!(rounded, course.cells(run));
 }

@@ -3,6 +3,7 @@
 
 mod page;
 
+use loads::{load_alone, load_beside};
 use page::grouped;
 use reference::queue::{pass, Depth, Source};
 use reference::wire::{demanded, deviation, Course, Frame};
@@ -151,34 +152,31 @@ fn depth_on(chain: &[Frame], class: Class, source: Source) -> Depth {
 
 #[test]
 fn seam() {
-    let frame_of = |matrix: [u16; 4]| {
-        let mut bytes = vec![0; 4];
-        build(2, 2, &matrix, &mut bytes).unwrap();
-        let matrix = matrix.to_vec();
+    let frame_of = |list: [u16; 6]| {
+        let mut entries = vec![0; 4];
+        build(2, 2, &list, &mut entries).unwrap();
+        let list = list.to_vec();
         Frame {
             ports: 2,
             slots: 2,
-            matrix,
-            bytes,
+            list,
+            entries,
         }
     };
-    let chain = [frame_of([0, 1, 0, 0]), frame_of([1, 1, 0, 0])];
-    let class = Class::Pair {
-        input: 1,
-        output: 2,
-    };
+    let chain = [load_alone(1), load_beside(2, 1)].map(frame_of);
+    let class = Class::Flow { number: 2 };
     let depth = depth_on(&chain, class, Source { from: 1, ahead: 2 });
     assert_eq!(depth.after, 0, "two cells wait, as the bound allows");
 }
 
 #[test]
 fn a_bunched_frame_stands_too_deep() {
-    let bytes = [[1; 8], [0; 8]].concat();
+    let entries = [[1; 8], [0; 8]].concat();
     let frame = Frame {
         ports: 1,
         slots: 16,
-        matrix: vec![8],
-        bytes,
+        list: vec![1, 1, 8],
+        entries,
     };
     let class = Class::Input { port: 1 };
     let depth = depth_on(&[frame], class, Source { from: 8, ahead: 16 });

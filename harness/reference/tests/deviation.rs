@@ -55,20 +55,17 @@ fn the_furthest_of_all_loads_of_one_input() {
         let slots = 1_u16 << k;
         let loads = (0..=slots).flat_map(|one| (0..=slots - one).map(move |other| [one, other]));
         let furthest = loads.map(|[one, other]| {
-            let matrix = vec![one, other, 0, 0];
-            let mut bytes = vec![0; 2 * usize::from(slots)];
+            let list = vec![1, 1, one, 1, 2, other];
+            let mut entries = vec![0; 2 * usize::from(slots)];
             let slots = u64::from(slots);
-            build(2, slots, &matrix, &mut bytes).unwrap();
-            let class = Class::Pair {
-                input: 1,
-                output: 2,
-            };
+            build(2, slots, &list, &mut entries).unwrap();
+            let class = Class::Flow { number: 2 };
             let ports = 2;
             let frame = Frame {
                 ports,
                 slots,
-                matrix,
-                bytes,
+                list,
+                entries,
             };
             furthest(&Course::of(&[frame], class))
         });

@@ -5,24 +5,24 @@ use reference::{service_count, Class};
 
 const HEADER: &str = include_str!("../../../include/frame_builder.h");
 
-const PAIR: Class = Class::Pair {
-    input: 1,
-    output: 1,
-};
+/// One flow, from input 1 to output 1, whose entries count for it wherever they stand.
+const LIST: [u16; 3] = [1, 1, 1];
+
+const FLOW: Class = Class::Flow { number: 1 };
 const INPUT: Class = Class::Input { port: 1 };
 const OUTPUT: Class = Class::Output { port: 1 };
 
-fn lead(ports: u64, slots: u64, frame: &[u8], class: Class, start: u64, length: u64) -> i64 {
-    let count = service_count(ports, slots, frame, class, start, length);
+fn lead(ports: u64, slots: u64, frame: &[u16], class: Class, start: u64, length: u64) -> i64 {
+    let count = service_count(ports, slots, &LIST, frame, class, start, length);
     count.expect("the arguments are good").lead
 }
 
-/// The least and the greatest lead of all runs of up to two turns, in all frames whose bytes are 0 and 1.
+/// The least and the greatest lead of all runs of up to two turns, in all frames whose entries are 0 and 1.
 fn range(ports: u64, slots: u64, class: Class) -> (i64, i64) {
-    let bytes = 0..ports * slots;
-    let frames = (0_u64..1 << bytes.end).map(|bits| -> Vec<u8> {
-        let bytes = bytes.clone();
-        bytes.map(|place| (bits >> place & 1) as u8).collect()
+    let entries = 0..ports * slots;
+    let frames = (0_u64..1 << entries.end).map(|bits| -> Vec<u16> {
+        let entries = entries.clone();
+        entries.map(|place| (bits >> place & 1) as u16).collect()
     });
     let runs = || (1..=slots).flat_map(|start| (0..=2 * slots).map(move |length| (start, length)));
     let leads = frames.flat_map(|frame| {
@@ -38,10 +38,10 @@ fn range(ports: u64, slots: u64, class: Class) -> (i64, i64) {
 fn the_furthest_of_all_frames() {
     for (ports, slots) in [(1, 1), (1, 2), (1, 4), (1, 8), (2, 2), (2, 4), (4, 2)] {
         let most = (slots * slots / 4) as i64;
-        let of_output = if slots > 1 { most * ports as i64 } else { 0 };
-        assert_eq!(range(ports, slots, PAIR), (-most, most));
+        let of_all = if slots > 1 { most * ports as i64 } else { 0 };
+        assert_eq!(range(ports, slots, FLOW), (-of_all, of_all));
         assert_eq!(range(ports, slots, INPUT), (-most, most));
-        assert_eq!(range(ports, slots, OUTPUT), (-of_output, of_output));
+        assert_eq!(range(ports, slots, OUTPUT), (-of_all, of_all));
     }
 }
 
@@ -53,7 +53,8 @@ fn the_furthest_of_the_largest_frame() {
     assert_eq!(lead(OUTPUT, 513, 512), -4_194_304);
     assert_eq!(lead(OUTPUT, 513, 999_936), -4_194_304);
     assert_eq!(lead(INPUT, 1, 512), 262_144);
-    assert_eq!(lead(PAIR, 513, 512), -262_144);
+    assert_eq!(lead(INPUT, 513, 512), -262_144);
+    assert_eq!(lead(FLOW, 513, 512), -4_194_304);
     assert!(HEADER.contains("the lead, -4,194,304 to 4,194,304\n"));
 }
 

@@ -6,14 +6,14 @@ use reference::{build, Class, LONGEST_RUN};
 #[test]
 fn demand_3_over_more_than_a_million_slots() {
     let (ports, slots) = (2, 1_024);
-    let matrix = vec![341, 682, 683, 341];
-    let mut bytes = vec![0; (ports * slots) as usize];
-    build(ports, slots, &matrix, &mut bytes).unwrap();
+    let list = vec![1, 1, 341, 1, 2, 600, 1, 2, 82, 2, 1, 683, 2, 2, 341];
+    let mut entries = vec![0; (ports * slots) as usize];
+    build(ports, slots, &list, &mut entries).unwrap();
     let frame = Frame {
         ports,
         slots,
-        matrix,
-        bytes,
+        list,
+        entries,
     };
     let chain = vec![frame; 1_000];
     let run = Run {
@@ -24,5 +24,8 @@ fn demand_3_over_more_than_a_million_slots() {
         for class in [Class::Input { port }, Class::Output { port }] {
             assert!(Course::of(&chain, class).has_its_share(run));
         }
+    }
+    for number in 1..=5 {
+        assert!(Course::of(&chain, Class::Flow { number }).has_its_share(run));
     }
 }

@@ -1,6 +1,6 @@
 //! The longest waits and the queue cell by cell, held to their definitions.
 
-use loads::Random;
+use loads::{load_alone, load_beside, Random};
 use reference::queue::pass;
 use reference::wait::{by_blocks, paced, pass_each, stretches, Allowed, Stretch, Wait};
 use reference::wire::{demanded, deviation, Course, Frame, Run, Slot};
@@ -66,24 +66,20 @@ fn at_the_head_no_more_than_the_sharp_bound_allows() {
     }
 }
 
-/// The seam of two slots, byte by byte: slots 2 and 3 of the four have no cell of the pair.
+/// The seam of two slots, entry by entry: slots 2 and 3 of the four have no cell of the flow.
 #[test]
 fn the_seam_of_two_slots() {
-    let frame = |bytes: [u8; 4], matrix: [u16; 4]| Frame {
+    let frame = |entries: [u16; 4], list: [u16; 6]| Frame {
         ports: 2,
         slots: 2,
-        matrix: matrix.to_vec(),
-        bytes: bytes.to_vec(),
+        list: list.to_vec(),
+        entries: entries.to_vec(),
     };
     let chain = [
-        frame([2, 0, 0, 0], [0, 1, 0, 0]),
-        frame([1, 0, 2, 0], [1, 1, 0, 0]),
+        frame([2, 0, 0, 0], load_alone(1)),
+        frame([1, 0, 2, 0], load_beside(2, 1)),
     ];
-    let pair = Class::Pair {
-        input: 1,
-        output: 2,
-    };
-    let course = Course::of(&chain, pair);
+    let course = Course::of(&chain, Class::Flow { number: 2 });
     let stretch = only_stretch(&course, 1);
     assert_eq!((stretch.fewest, &stretch.cells[..]), (1, &[0, 3][..]));
     let run = |start, length| Run { start, length };

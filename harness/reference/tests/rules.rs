@@ -1,40 +1,33 @@
-//! Built frames held to rules 2 to 5 as they are stated, block by block, in the frame's own bytes.
+//! Built frames held to rules 2 to 5 as they are stated, block by block, in the frame's own entries.
 
-use loads::{load, LoadKind, Random};
+use loads::{flows_of, load, Flow, LoadKind, Random};
 use reference::build;
 
-/// The cells of every pair in some slots.
-fn counts(ports: usize, slots: &[u8]) -> Vec<u16> {
-    let mut counts = vec![0; ports * ports];
-    for (place, &byte) in slots.iter().enumerate().filter(|(_, &byte)| byte > 0) {
-        counts[place % ports * ports + usize::from(byte) - 1] += 1;
+/// The cells of every flow in some slots.
+fn counts(flows: usize, slots: &[u16]) -> Vec<u16> {
+    let mut counts = vec![0; flows];
+    for &entry in slots.iter().filter(|&&entry| entry > 0) {
+        counts[usize::from(entry) - 1] += 1;
     }
     counts
 }
 
-/// Rule 3: along each row and each column, the first odd count with the second, the third with the fourth, and so on.
-fn partnerships(ports: usize, odd: &[usize]) -> Vec<[usize; 2]> {
+/// Rule 3: at each input and at each output, the first odd count with the second, the third with the fourth, and so on.
+fn partnerships(ports: usize, flows: &[Flow], odd: &[usize]) -> Vec<[usize; 2]> {
     let mut partnerships = Vec::new();
     for port in 0..ports {
-        let row: Vec<usize> = odd
-            .iter()
-            .copied()
-            .filter(|place| place / ports == port)
-            .collect();
-        let column: Vec<usize> = odd
-            .iter()
-            .copied()
-            .filter(|place| place % ports == port)
-            .collect();
-        for line in [row, column] {
-            let couples = line.chunks_exact(2);
+        let at_input = odd.iter().filter(|&&place| flows[place].input == port);
+        let at_output = odd.iter().filter(|&&place| flows[place].output == port);
+        let ends: [Vec<usize>; 2] = [at_input.copied().collect(), at_output.copied().collect()];
+        for end in ends {
+            let couples = end.chunks_exact(2);
             partnerships.extend(couples.map(|couple| [couple[0], couple[1]]));
         }
     }
     partnerships
 }
 
-/// At each place the first place in matrix order of its group: partners take the earlier of their two until nothing changes.
+/// At each place the first place in the list of its group: partners take the earlier of their two until nothing changes.
 fn firsts(places: usize, partnerships: &[[usize; 2]]) -> Vec<usize> {
     let mut first: Vec<usize> = (0..places).collect();
     loop {
@@ -51,13 +44,14 @@ fn firsts(places: usize, partnerships: &[[usize; 2]]) -> Vec<usize> {
 }
 
 /// How a block is shared between its halves.
-struct Split {
+struct Split<'l> {
     ports: usize,
+    flows: &'l [Flow],
     first: Vec<u16>,
     second: Vec<u16>,
 }
 
-impl Split {
+impl Split<'_> {
     fn favours_first(&self, place: usize) -> bool {
         self.first[place] > self.second[place]
     }
@@ -77,7 +71,7 @@ impl Split {
     /// Rule 4, then rule 5 for each group; the numbers of groups with an even and with an odd number of counts.
     fn hold_to_the_rules(&self) -> [usize; 2] {
         let odd = self.odd_counts();
-        let partnerships = partnerships(self.ports, &odd);
+        let partnerships = partnerships(self.ports, self.flows, &odd);
         for &[one, other] in &partnerships {
             let opposite = self.favours_first(one) != self.favours_first(other);
             assert!(opposite, "rule 4");
@@ -106,21 +100,22 @@ impl Split {
 }
 
 /// Holds a block and all blocks within it to the rules, and adds up their groups.
-fn hold_blocks(ports: usize, block: &[u8], groups: &mut [usize; 2]) {
+fn hold_blocks(ports: usize, flows: &[Flow], block: &[u16], groups: &mut [usize; 2]) {
     if block.len() == ports {
         return;
     }
     let (front, back) = block.split_at(block.len() / 2);
     let split = Split {
         ports,
-        first: counts(ports, front),
-        second: counts(ports, back),
+        flows,
+        first: counts(flows.len(), front),
+        second: counts(flows.len(), back),
     };
     let [even, odd] = split.hold_to_the_rules();
     groups[0] += even;
     groups[1] += odd;
-    hold_blocks(ports, front, groups);
-    hold_blocks(ports, back, groups);
+    hold_blocks(ports, flows, front, groups);
+    hold_blocks(ports, flows, back, groups);
 }
 
 #[test]
@@ -130,9 +125,10 @@ fn frames_obey_the_rules() {
     for kind in LoadKind::FITTING {
         for _ in 0..60 {
             let call = load(kind, &mut random);
-            let mut frame = vec![0xa5; call.frame_length];
-            build(call.ports, call.slots, &call.matrix, &mut frame).expect("the load fits");
-            hold_blocks(call.ports as usize, &frame, &mut groups);
+            let mut frame = vec![0xa5a5; call.frame_length];
+            build(call.ports, call.slots, &call.list, &mut frame).expect("the load fits");
+            let flows = flows_of(&call.list);
+            hold_blocks(call.ports as usize, &flows, &frame, &mut groups);
         }
     }
     assert!(groups.iter().all(|&number| number > 10_000), "{groups:?}");

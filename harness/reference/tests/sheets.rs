@@ -1,6 +1,6 @@
 //! Sheets and what is printed for them.
 
-use reference::{respond, LONGEST_SHEET};
+use reference::{respond, LONGEST_SHEET, MOST_FLOWS};
 
 fn printed(sheet: &str) -> String {
     String::from_utf8(respond(sheet.as_bytes())).unwrap()
@@ -67,15 +67,15 @@ fn order_of_refusals() {
         ),
         (
             "(ports 2)\n(slots 1)\n(pair (in 1) (out 1) (cells 9))\n(pair (in 1) (out 1) (cells 9))\nx\n",
-            "(refused 9 (line 4))\n",
+            "(refused 7 (line 5))\n",
         ),
         (
             "(ports 2)\n(slots 1)\n(pair (in 1) (out 0) (cells 9))\n(pair (in 1) (out 0) (cells 9))\n",
             "(refused 8 (line 3))\n",
         ),
         (
-            "(ports 2)\n(slots 1)\n(pair (in 1) (out 1) (cells 0))\n(pair (in 1) (out 1) (cells 0))\n",
-            "(refused 9 (line 4))\n",
+            "(ports 2)\n(slots 1)\n(pair (in 1) (out 1) (cells 1))\n(pair (in 1) (out 1) (cells 1))\n",
+            "(refused 5 (port 1) (cells 2))\n",
         ),
         (
             "(ports 2)\n(slots 1)\n(pair (in 2) (out 1) (cells 65535))\n(pair (in 2) (out 2) (cells 65535))\n",
@@ -89,6 +89,52 @@ fn order_of_refusals() {
     for (sheet, response) in cases {
         assert_eq!(printed(sheet), response);
     }
+}
+
+#[test]
+fn several_lines_with_the_same_pair() {
+    let line = "(pair (in 2) (out 1) (cells 1))\n";
+    let sheet = format!("(ports 2)\n(slots 4)\n{line}(pair (in 1) (out 1) (cells 0))\n{line}");
+    let frame = "(frame (ports 2) (slots 4))\n(slot 1 1)\n(slot 2)\n(slot 3 3)\n(slot 4)\n";
+    assert_eq!(printed(&sheet), frame);
+}
+
+/// So many flow lines, and then one that breaks the form, has a port outside or is as it should be.
+#[test]
+fn a_line_more_than_there_may_be_flows() {
+    let good = "(pair (in 1) (out 1) (cells 0))\n";
+    let bad = "(pair (in 1) (out 1) (cells 00))\n";
+    let outside = "(pair (in 1) (out 2) (cells 0))\n";
+    let idle = "(frame (ports 1) (slots 1))\n(slot 1)\n";
+    let sheet = |flows: usize, last: &str| {
+        let lines = good.repeat(flows);
+        printed(&format!("(ports 1)\n(slots 1)\n{lines}{last}"))
+    };
+    let (all, line) = (MOST_FLOWS, MOST_FLOWS + 3);
+    assert_eq!(sheet(all - 1, good), idle);
+    assert_eq!(
+        sheet(all - 1, outside),
+        format!("(refused 8 (line {}))\n", line - 1)
+    );
+    assert_eq!(sheet(all, ""), idle);
+    assert_eq!(sheet(all, good), "(refused 21)\n");
+    assert_eq!(sheet(all, outside), "(refused 21)\n");
+    assert_eq!(sheet(all, bad), format!("(refused 7 (line {line}))\n"));
+    assert_eq!(sheet(all + 1, bad), "(refused 21)\n");
+}
+
+/// The largest of all frames that a sheet asks for, and the numbers of its flows.
+#[test]
+fn flow_numbers_of_three_digits() {
+    let lines = "(pair (in 1) (out 1) (cells 0))\n".repeat(MOST_FLOWS - 1);
+    let last = "(pair (in 16) (out 16) (cells 1024))\n";
+    let response = printed(&format!("(ports 16)\n(slots 1024)\n{lines}{last}"));
+    let slots = (1..=1_024).map(|slot| format!("(slot {slot} 512)\n"));
+    let frame = format!(
+        "(frame (ports 16) (slots 1024))\n{}",
+        slots.collect::<String>()
+    );
+    assert_eq!(response, frame);
 }
 
 #[test]

@@ -1,19 +1,22 @@
 //! All cells of a block together: spread to within one cell, and found where they are not.
 
-use loads::{load, load_of_shape, unbalance_total, Block, Call, LoadKind, Random, Shape};
+use loads::{
+    load, load_of_shape, unbalance_total, uneven, Block, Call, Flow, LoadKind, Random, Shape,
+    Uneven,
+};
 use reference::wire::{deviation, Course, Frame, Whose};
 use reference::{build, inspect, Inspection};
 
-fn built(call: &Call) -> Vec<u8> {
-    let mut frame = vec![0xa5; call.frame_length];
-    let answer = build(call.ports, call.slots, &call.matrix, &mut frame);
+fn built(call: &Call) -> Vec<u16> {
+    let mut frame = vec![0xa5a5; call.frame_length];
+    let answer = build(call.ports, call.slots, &call.list, &mut frame);
     answer.expect("the load fits");
     frame
 }
 
 /// The cells of each slot.
-fn cells_by_slot(ports: u64, frame: &[u8]) -> Vec<usize> {
-    let cells = |slot: &[u8]| slot.iter().filter(|&&byte| byte != 0).count();
+fn cells_by_slot(ports: u64, frame: &[u16]) -> Vec<usize> {
+    let cells = |slot: &[u16]| slot.iter().filter(|&&entry| entry != 0).count();
     frame.chunks(ports as usize).map(cells).collect()
 }
 
@@ -40,16 +43,16 @@ fn diagonal_loads_in_1024_slots() {
     let mut random = Random::new(2);
     for ports in 1..=16 {
         for _ in 0..10 {
-            let mut call = Call {
-                ports,
-                slots: 1_024,
-                matrix: vec![0; (ports * ports) as usize],
-                frame_length: 1_024 * ports as usize,
-            };
-            for port in 0..ports {
-                call.matrix[(port * ports + port) as usize] = random.between(0, 1_024) as u16;
-            }
-            assert!(is_halved(&cells_by_slot(ports, &built(&call))), "{call:?}");
+            let flows = (0..ports).map(|port| Flow {
+                input: port,
+                output: port,
+                cells: random.between(0, 1_024) as u16,
+            });
+            let flows: Vec<Flow> = flows.collect();
+            let slots = 1_024;
+            let call = Shape { ports, slots }.call(&flows);
+            let cells = cells_by_slot(call.ports, &built(&call));
+            assert!(is_halved(&cells), "{call:?}");
         }
     }
 }
@@ -76,15 +79,15 @@ fn the_total_strays_half_as_far_as_a_flow_can() {
     for k in 0..=6 {
         let slots = 1 << k;
         let frame = |cells: u16| {
-            let matrix = vec![cells];
-            let mut bytes = vec![0; slots as usize];
-            build(1, slots, &matrix, &mut bytes).unwrap();
+            let list = vec![1, 1, cells];
+            let mut entries = vec![0; slots as usize];
+            build(1, slots, &list, &mut entries).unwrap();
             let ports = 1;
             Frame {
                 ports,
                 slots,
-                matrix,
-                bytes,
+                list,
+                entries,
             }
         };
         let loads = 0..=slots as u16;
@@ -115,8 +118,34 @@ fn every_block_size_unbalanced_in_its_total_alone() {
                 slot: block.slot as u64,
                 size: size as u64,
             };
-            let found = inspect(call.ports, call.slots, &call.matrix, &frame);
+            let found = inspect(call.ports, call.slots, &call.list, &frame);
             assert_eq!(found, fault, "{shape:?}");
+        }
+    }
+}
+
+/// The same by some flows, by an input or by an output alone.
+#[test]
+fn every_block_size_unbalanced_in_one_class_alone() {
+    let mut random = Random::new(5);
+    for (by, k) in Uneven::ALL
+        .iter()
+        .flat_map(|&by| (2..=10).map(move |k| (by, k)))
+    {
+        for turn in 0..12 {
+            let size = 1 << k;
+            let shape = Shape {
+                ports: [2, 3, 16, 5][turn % 4],
+                slots: if turn < 8 { 1_024 } else { size },
+            };
+            let block = Block::of_size(size, shape.slots, &mut random);
+            let (call, frame) = uneven(by, shape, block, &mut random);
+            let fault = Inspection::UnbalancedBlock {
+                slot: block.slot as u64,
+                size: size as u64,
+            };
+            let found = inspect(call.ports, call.slots, &call.list, &frame);
+            assert_eq!(found, fault, "{by:?} {shape:?}");
         }
     }
 }
@@ -124,13 +153,13 @@ fn every_block_size_unbalanced_in_its_total_alone() {
 /// Four cells in one slot and none in the other.
 #[test]
 fn a_block_of_two_slots() {
-    let matrix = [1, 0, 0, 0, 0, 1, 0, 0, 0, 0, 1, 0, 0, 0, 0, 1];
+    let list = [1, 1, 1, 2, 2, 1, 3, 3, 1, 4, 4, 1];
     let fault = Inspection::UnbalancedBlock { slot: 1, size: 2 };
-    assert_eq!(inspect(4, 2, &matrix, &[1, 2, 3, 4, 0, 0, 0, 0]), fault);
-    assert_eq!(inspect(4, 2, &matrix, &[0, 0, 0, 0, 1, 2, 3, 4]), fault);
-    assert_eq!(inspect(4, 2, &matrix, &[1, 2, 0, 4, 0, 0, 3, 0]), fault);
+    assert_eq!(inspect(4, 2, &list, &[1, 2, 3, 4, 0, 0, 0, 0]), fault);
+    assert_eq!(inspect(4, 2, &list, &[0, 0, 0, 0, 1, 2, 3, 4]), fault);
+    assert_eq!(inspect(4, 2, &list, &[1, 2, 0, 4, 0, 0, 3, 0]), fault);
     assert_eq!(
-        inspect(4, 2, &matrix, &[1, 0, 0, 4, 0, 2, 3, 0]),
+        inspect(4, 2, &list, &[1, 0, 0, 4, 0, 2, 3, 0]),
         Inspection::Clean
     );
 }

@@ -1,17 +1,20 @@
 //! Odd counts settled, worked by hand.
 
+use loads::{flows_of_matrix, list_of};
 use reference::build;
 use reference::work::{odd_counts, settled};
 
-/// Pairs (4, 1) and (4, 2) of the whole frame, and in each half the four pairs that it has.
-const TABLE_7_FRAME: [u8; 16] = [1, 0, 0, 4, 2, 0, 0, 1, 1, 0, 0, 2, 2, 0, 0, 4];
+/// Flows 3 and 4 of the whole frame, and in each half the four flows that it has.
+const TABLE_7_FRAME: [u16; 16] = [1, 0, 0, 5, 2, 0, 0, 3, 1, 0, 0, 4, 2, 0, 0, 5];
 
 #[test]
 fn counted_in_frames() {
-    let cases: [(u64, &[u8], u64); 8] = [
+    let cases: [(u64, &[u16], u64); 9] = [
         (1, &[1], 0),
-        (2, &[2, 1], 0),
-        (2, &[1, 2, 2, 1], 4),
+        (2, &[2, 3], 0),
+        (2, &[1, 4, 2, 3], 4),
+        // Two flows of one pair, each odd in the whole frame and in the half that has its cell.
+        (1, &[1, 0, 512, 0], 4),
         // Three cells in all, two in the first half, one in the second.
         (1, &[1, 1, 1, 0], 2),
         (1, &[1, 0, 1, 0], 2),
@@ -27,30 +30,33 @@ fn counted_in_frames() {
 
 #[test]
 fn counted_in_one_block() {
-    assert_eq!(odd_counts(4, &TABLE_7_FRAME), 2);
-    assert_eq!(odd_counts(4, &TABLE_7_FRAME[..8]), 4);
-    assert_eq!(odd_counts(4, &TABLE_7_FRAME[..4]), 2);
+    assert_eq!(odd_counts(&TABLE_7_FRAME), 2);
+    assert_eq!(odd_counts(&TABLE_7_FRAME[..8]), 4);
+    assert_eq!(odd_counts(&TABLE_7_FRAME[..4]), 2);
 }
 
 #[test]
 fn answered_by_build() {
-    let table_7 = [2, 2, 0, 0, 0, 0, 0, 0, 0, 0, 0, 0, 1, 1, 0, 2];
-    let own_numbers = [1, 0, 0, 0, 0, 1, 0, 0, 0, 0, 1, 0, 0, 0, 0, 1];
-    let cases: [(u64, u64, &[u16], u64); 8] = [
-        (1, 1, &[1], 0),
-        (2, 2, &[1, 1, 1, 1], 4),
-        (1, 4, &[3], 2),
+    let table_7 = [1, 1, 2, 1, 2, 2, 4, 1, 1, 4, 2, 1, 4, 4, 2];
+    let own_numbers = [1, 1, 1, 2, 2, 1, 3, 3, 1, 4, 4, 1];
+    let every_pair = list_of(&flows_of_matrix(16, &[1; 256]));
+    let cases: [(u64, u64, &[u16], u64); 9] = [
+        (1, 1, &[1, 1, 1], 0),
+        (2, 2, &list_of(&flows_of_matrix(2, &[1; 4])), 4),
+        (1, 4, &[1, 1, 3], 2),
+        // Sound and picture: the odd counts of each.
+        (1, 4, &[1, 1, 3, 1, 1, 1], 4),
         (4, 4, &table_7, 10),
         // Each cell in a block of four slots and in one of two.
         (4, 4, &own_numbers, 8),
-        (16, 1_024, &[0; 256], 0),
-        (16, 1, &[0; 256], 0),
+        (16, 1_024, &[], 0),
+        (16, 1, &every_pair[..3], 0),
         // Each cell in a block of 16 slots, of eight, of four and of two.
-        (16, 16, &[1; 256], 1_024),
+        (16, 16, &every_pair, 1_024),
     ];
-    for (ports, slots, matrix, number) in cases {
-        let mut frame = vec![0xa5; (ports * slots) as usize];
-        let answer = build(ports, slots, matrix, &mut frame);
+    for (ports, slots, list, number) in cases {
+        let mut frame = vec![0xa5a5; (ports * slots) as usize];
+        let answer = build(ports, slots, list, &mut frame);
         assert_eq!(answer, Ok(number), "{ports} x {slots}");
     }
 }
