@@ -1,6 +1,6 @@
 /* Makes calls through the header, as records on standard input ask for them, and answers each on standard output.
  *
- * A record is a struct record, the matrix and the frame. An answer is a struct answer and, after Build, the frame.
+ * A record is a struct record, the list and the frame. An answer is a struct answer and, after Build, the frame.
  */
 #include <stdint.h>
 #include <stdio.h>
@@ -12,15 +12,16 @@
 #define MARGIN 64
 #define BUFFER 65536
 
-enum call { ADMIT, BUILD, INSPECT, SLOT_VIEW, COUNT_PAIR, COUNT_INPUT, COUNT_OUTPUT };
+enum call { ADMIT, BUILD, INSPECT, SLOT_VIEW, COUNT_FLOW, COUNT_INPUT, COUNT_OUTPUT };
 
 /* What a call may have written to and must not have. */
-enum harm { NONE, MATRIX, AROUND_MATRIX, FRAME, AROUND_FRAME };
+enum harm { NONE, LIST, AROUND_LIST, FRAME, AROUND_FRAME };
 
 struct record {
-    uint64_t call, ports, slots, matrix_length, frame_length;
+    uint64_t call, ports, slots, list_length, frame_length;
     uint64_t slot; /* Service count: the start */
-    uint64_t length, input, output;
+    uint64_t length;
+    uint64_t whose; /* Service count: the flow or the port */
 };
 
 struct answer {
@@ -83,44 +84,49 @@ static int same_margins(const struct lent *lent)
     return memcmp(lent->whole, lent->copy, MARGIN) == 0 && memcmp(lent->whole + end, lent->copy + end, MARGIN) == 0;
 }
 
-static enum harm harm_done(uint64_t call, const struct lent *matrix, const struct lent *frame)
+static enum harm harm_done(uint64_t call, const struct lent *list, const struct lent *frame)
 {
-    if (!same_part(matrix))
-        return MATRIX;
-    if (!same_margins(matrix))
-        return AROUND_MATRIX;
+    if (!same_part(list))
+        return LIST;
+    if (!same_margins(list))
+        return AROUND_LIST;
     if (call != BUILD && !same_part(frame))
         return FRAME;
     return same_margins(frame) ? NONE : AROUND_FRAME;
 }
 
-static size_t make_count(const struct record *r, const uint8_t *frame, size_t *cells, int64_t *lead)
+/* A call that counts; all three take the same. */
+typedef size_t count_call(size_t ports, size_t slots, const uint16_t *list, size_t list_length, const uint16_t *frame, size_t frame_length,
+                          size_t whose, size_t start, size_t length, size_t *cells, int64_t *lead);
+
+static count_call *count_of(uint64_t call)
 {
-    switch (r->call) {
-    case COUNT_PAIR:
-        return frame_builder_count_pair(r->ports, r->slots, frame, r->frame_length, r->input, r->output, r->slot, r->length, cells, lead);
+    switch (call) {
+    case COUNT_FLOW:
+        return frame_builder_count_flow;
     case COUNT_INPUT:
-        return frame_builder_count_input(r->ports, r->slots, frame, r->frame_length, r->input, r->slot, r->length, cells, lead);
+        return frame_builder_count_input;
     case COUNT_OUTPUT:
-        return frame_builder_count_output(r->ports, r->slots, frame, r->frame_length, r->output, r->slot, r->length, cells, lead);
+        return frame_builder_count_output;
     }
     exit(2);
 }
 
-static size_t make_call(const struct record *r, const uint16_t *matrix, uint8_t *frame, size_t *first, size_t *second)
+static size_t make_call(const struct record *r, const uint16_t *list, uint16_t *frame, size_t *first, size_t *second)
 {
     switch (r->call) {
     case ADMIT:
-        return frame_builder_admit(r->ports, r->slots, matrix, r->matrix_length, first, second);
+        return frame_builder_admit(r->ports, r->slots, list, r->list_length, first, second);
     case BUILD:
-        return frame_builder_build(r->ports, r->slots, matrix, r->matrix_length, frame, r->frame_length, first, second);
+        return frame_builder_build(r->ports, r->slots, list, r->list_length, frame, r->frame_length, first, second);
     case INSPECT:
-        return frame_builder_inspect(r->ports, r->slots, matrix, r->matrix_length, frame, r->frame_length, first, second);
+        return frame_builder_inspect(r->ports, r->slots, list, r->list_length, frame, r->frame_length, first, second);
     case SLOT_VIEW:
         return frame_builder_slot_view(r->ports, r->slots, frame, r->frame_length, r->slot, first, second);
     }
     int64_t lead = INT64_MAX;
-    size_t number = make_count(r, frame, first, &lead);
+    size_t number = count_of(r->call)(r->ports, r->slots, list, r->list_length, frame, r->frame_length, r->whose, r->slot, r->length,
+                                      first, &lead);
     *second = (size_t)lead;
     return number;
 }
@@ -128,16 +134,16 @@ static size_t make_call(const struct record *r, const uint16_t *matrix, uint8_t 
 /* Makes one call and answers it. */
 static void respond(const struct record *record)
 {
-    struct lent matrix = lend(record->matrix_length * sizeof(uint16_t));
-    struct lent frame = lend(record->frame_length);
+    struct lent list = lend(record->list_length * sizeof(uint16_t));
+    struct lent frame = lend(record->frame_length * sizeof(uint16_t));
     size_t first = SIZE_MAX, second = SIZE_MAX;
-    size_t number = make_call(record, part_of(&matrix), part_of(&frame), &first, &second);
-    struct answer answer = {number, first, second, harm_done(record->call, &matrix, &frame)};
+    size_t number = make_call(record, part_of(&list), part_of(&frame), &first, &second);
+    struct answer answer = {number, first, second, harm_done(record->call, &list, &frame)};
     fwrite(&answer, sizeof answer, 1, stdout);
     if (record->call == BUILD)
         fwrite(part_of(&frame), 1, frame.length, stdout);
     fflush(stdout);
-    give_back(&matrix);
+    give_back(&list);
     give_back(&frame);
 }
 

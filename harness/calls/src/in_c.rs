@@ -14,7 +14,7 @@ enum Call {
     Build,
     Inspect,
     SlotView,
-    CountPair,
+    CountFlow,
     CountInput,
     CountOutput,
 }
@@ -25,13 +25,13 @@ struct Record<'r> {
     call: Call,
     ports: u64,
     slots: u64,
-    matrix: &'r [u16],
-    frame: &'r [u8],
+    list: &'r [u16],
+    frame: &'r [u16],
     /// Service count: the start.
     slot: u64,
     length: u64,
-    input: u64,
-    output: u64,
+    /// The flow or the port that is counted.
+    whose: u64,
 }
 
 impl Record<'_> {
@@ -40,16 +40,15 @@ impl Record<'_> {
             self.call as u64,
             self.ports,
             self.slots,
-            self.matrix.len() as u64,
+            self.list.len() as u64,
             self.frame.len() as u64,
             self.slot,
             self.length,
-            self.input,
-            self.output,
+            self.whose,
         ];
         let mut bytes: Vec<u8> = numbers.into_iter().flat_map(u64::to_ne_bytes).collect();
-        bytes.extend(self.matrix.iter().copied().flat_map(u16::to_ne_bytes));
-        bytes.extend(self.frame);
+        let numbers = self.list.iter().chain(self.frame);
+        bytes.extend(numbers.copied().flat_map(u16::to_ne_bytes));
         bytes
     }
 }
@@ -57,8 +56,8 @@ impl Record<'_> {
 /// What a call wrote to and must not have, as `harness/c/calls.c` numbers it.
 const HARMS: [&str; 5] = [
     "nothing",
-    "the matrix",
-    "bytes around the matrix",
+    "the list",
+    "bytes around the list",
     "the frame",
     "bytes around the frame",
 ];
@@ -78,7 +77,7 @@ impl Default for InC {
 }
 
 impl InC {
-    /// A builder that must be sent back: Build writes one byte past the frame.
+    /// A builder that must be sent back: Build writes one entry past the frame.
     pub fn writing_outside() -> InC {
         InC::over(env!("CALLS_WRITING_OUTSIDE"))
     }
@@ -91,7 +90,7 @@ impl InC {
     }
 
     /// The answer's number and its two values, a count's cells and lead; a frame lent for writing is written.
-    fn make(&self, record: &[u8], written: &mut [u8]) -> [u64; 3] {
+    fn make(&self, record: &[u8], written: &mut [u16]) -> [u64; 3] {
         let idle = self.idle.lock().expect("no thread panics here").pop();
         let mut process = idle.unwrap_or_else(|| Process::start(self.program));
         let [number, first, second, harm] = process.ask(record, written);
@@ -126,7 +125,7 @@ impl Process {
         }
     }
 
-    fn ask(&mut self, record: &[u8], written: &mut [u8]) -> [u64; 4] {
+    fn ask(&mut self, record: &[u8], written: &mut [u16]) -> [u64; 4] {
         let sent = self.input.write_all(record);
         sent.expect("the C program reads whole records");
         let answer = [(); 4].map(|()| {
@@ -135,8 +134,12 @@ impl Process {
             read.expect("the C program answers");
             u64::from_ne_bytes(number)
         });
-        let read = self.output.read_exact(written);
+        let mut bytes = vec![0; 2 * written.len()];
+        let read = self.output.read_exact(&mut bytes);
         read.expect("the C program sends the frame back");
+        for (entry, bytes) in written.iter_mut().zip(bytes.chunks_exact(2)) {
+            *entry = u16::from_ne_bytes([bytes[0], bytes[1]]);
+        }
         answer
     }
 }
@@ -154,24 +157,26 @@ fn refusal_of(numbers: [u64; 3]) -> Refusal {
     match numbers {
         [1, 0, 0] => Refusal::Ports,
         [2, 0, 0] => Refusal::Slots,
-        [3, 0, 0] => Refusal::MatrixLength,
+        [3, 0, 0] => Refusal::ListLength,
         [4, 0, 0] => Refusal::FrameLength,
         [5, port, cells] => Refusal::InputLoad { port, cells },
         [6, port, cells] => Refusal::OutputLoad { port, cells },
         [11, 0, 0] => Refusal::SlotNumber,
-        [12, 0, 0] => Refusal::PortNumber,
+        [12, 0, 0] => Refusal::FlowOrPort,
         [13, 0, 0] => Refusal::RunLength,
+        [21, 0, 0] => Refusal::TooManyFlows,
+        [22, 0, 0] => Refusal::FlowPort,
         other => panic!("{other:?} is no answer of this call"),
     }
 }
 
 impl Calls for InC {
-    fn admit(&self, ports: u64, slots: u64, matrix: &[u16]) -> Answer {
+    fn admit(&self, ports: u64, slots: u64, list: &[u16]) -> Answer {
         let record = Record {
             call: Call::Admit,
             ports,
             slots,
-            matrix,
+            list,
             ..Record::default()
         };
         match self.make(&record.bytes(), &mut []) {
@@ -180,12 +185,12 @@ impl Calls for InC {
         }
     }
 
-    fn build(&self, ports: u64, slots: u64, matrix: &[u16], frame: &mut [u8]) -> Built {
+    fn build(&self, ports: u64, slots: u64, list: &[u16], frame: &mut [u16]) -> Built {
         let record = Record {
             call: Call::Build,
             ports,
             slots,
-            matrix,
+            list,
             frame,
             ..Record::default()
         };
@@ -195,20 +200,20 @@ impl Calls for InC {
         }
     }
 
-    fn inspect(&self, ports: u64, slots: u64, matrix: &[u16], frame: &[u8]) -> Inspection {
+    fn inspect(&self, ports: u64, slots: u64, list: &[u16], frame: &[u16]) -> Inspection {
         let record = Record {
             call: Call::Inspect,
             ports,
             slots,
-            matrix,
+            list,
             frame,
             ..Record::default()
         };
         match self.make(&record.bytes(), &mut []) {
             [0, 0, 0] => Inspection::Clean,
-            [101, slot, input] => Inspection::ByteTooLarge { slot, input },
+            [101, slot, input] => Inspection::WrongEntry { slot, input },
             [102, slot, output] => Inspection::OutputTwice { slot, output },
-            [103, input, output] => Inspection::PairCount { input, output },
+            [103, flow, 0] => Inspection::FlowCount { flow },
             [104, slot, size] => Inspection::UnbalancedBlock { slot, size },
             refused => Inspection::Refused(refusal_of(refused)),
         }
@@ -218,10 +223,10 @@ impl Calls for InC {
         &self,
         ports: u64,
         slots: u64,
-        frame: &'f [u8],
+        frame: &'f [u16],
         slot: u64,
         number: &mut u64,
-    ) -> &'f [u8] {
+    ) -> &'f [u16] {
         let record = Record {
             call: Call::SlotView,
             ports,
@@ -245,26 +250,25 @@ impl Calls for InC {
         &self,
         ports: u64,
         slots: u64,
-        frame: &[u8],
+        list: &[u16],
+        frame: &[u16],
         class: Class,
-        start: u64,
-        length: u64,
+        (start, length): (u64, u64),
     ) -> Service {
-        let (call, input, output) = match class {
-            Class::Pair { input, output } => (Call::CountPair, input, output),
-            Class::Input { port } => (Call::CountInput, port, 0),
-            Class::Output { port } => (Call::CountOutput, 0, port),
+        let (call, whose) = match class {
+            Class::Flow { number } => (Call::CountFlow, number),
+            Class::Input { port } => (Call::CountInput, port),
+            Class::Output { port } => (Call::CountOutput, port),
         };
         let record = Record {
             call,
             ports,
             slots,
+            list,
             frame,
             slot: start,
             length,
-            input,
-            output,
-            ..Record::default()
+            whose,
         };
         match self.make(&record.bytes(), &mut []) {
             [0, cells, lead] => Ok(Count {

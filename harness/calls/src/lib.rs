@@ -19,36 +19,36 @@ pub type Built = Result<u64, Refusal>;
 /// What Service count answers.
 pub type Service = Result<Count, Refusal>;
 
-/// The calls a program makes on a frame builder.
+/// The calls a program makes on a frame builder; a list is its numbers, three to a flow, however many there are.
 pub trait Calls {
     /// Says whether the load would be built.
-    fn admit(&self, ports: u64, slots: u64, matrix: &[u16]) -> Answer;
+    fn admit(&self, ports: u64, slots: u64, list: &[u16]) -> Answer;
 
     /// Fills the frame and says how many odd counts were settled, or refuses and leaves it as it was.
-    fn build(&self, ports: u64, slots: u64, matrix: &[u16], frame: &mut [u8]) -> Built;
+    fn build(&self, ports: u64, slots: u64, list: &[u16], frame: &mut [u16]) -> Built;
 
-    /// Looks a frame from anywhere over against its load.
-    fn inspect(&self, ports: u64, slots: u64, matrix: &[u16], frame: &[u8]) -> Inspection;
+    /// Looks a frame from anywhere over against its list.
+    fn inspect(&self, ports: u64, slots: u64, list: &[u16], frame: &[u16]) -> Inspection;
 
     /// The slot's own part of the frame, empty on refusal; the refusal's number goes to `number`.
     fn slot_view<'f>(
         &self,
         ports: u64,
         slots: u64,
-        frame: &'f [u8],
+        frame: &'f [u16],
         slot: u64,
         number: &mut u64,
-    ) -> &'f [u8];
+    ) -> &'f [u16];
 
-    /// Counts the cells of a class in a run of the repeating frame, with their lead.
+    /// Counts the cells of a class in a run of the repeating frame, given by its start and its length, with their lead.
     fn service_count(
         &self,
         ports: u64,
         slots: u64,
-        frame: &[u8],
+        list: &[u16],
+        frame: &[u16],
         class: Class,
-        start: u64,
-        length: u64,
+        run: (u64, u64),
     ) -> Service;
 }
 
@@ -63,26 +63,26 @@ pub trait SheetProgram {
 pub struct Reference;
 
 impl Calls for Reference {
-    fn admit(&self, ports: u64, slots: u64, matrix: &[u16]) -> Answer {
-        reference::admit(ports, slots, matrix)
+    fn admit(&self, ports: u64, slots: u64, list: &[u16]) -> Answer {
+        reference::admit(ports, slots, list)
     }
 
-    fn build(&self, ports: u64, slots: u64, matrix: &[u16], frame: &mut [u8]) -> Built {
-        reference::build(ports, slots, matrix, frame)
+    fn build(&self, ports: u64, slots: u64, list: &[u16], frame: &mut [u16]) -> Built {
+        reference::build(ports, slots, list, frame)
     }
 
-    fn inspect(&self, ports: u64, slots: u64, matrix: &[u16], frame: &[u8]) -> Inspection {
-        reference::inspect(ports, slots, matrix, frame)
+    fn inspect(&self, ports: u64, slots: u64, list: &[u16], frame: &[u16]) -> Inspection {
+        reference::inspect(ports, slots, list, frame)
     }
 
     fn slot_view<'f>(
         &self,
         ports: u64,
         slots: u64,
-        frame: &'f [u8],
+        frame: &'f [u16],
         slot: u64,
         number: &mut u64,
-    ) -> &'f [u8] {
+    ) -> &'f [u16] {
         let view = reference::slot_view(ports, slots, frame, slot);
         *number = view.as_ref().map_or_else(|refusal| refusal.number(), |_| 0);
         view.map_or(&[], |range| &frame[range])
@@ -92,12 +92,12 @@ impl Calls for Reference {
         &self,
         ports: u64,
         slots: u64,
-        frame: &[u8],
+        list: &[u16],
+        frame: &[u16],
         class: Class,
-        start: u64,
-        length: u64,
+        (start, length): (u64, u64),
     ) -> Service {
-        reference::service_count(ports, slots, frame, class, start, length)
+        reference::service_count(ports, slots, list, frame, class, start, length)
     }
 }
 

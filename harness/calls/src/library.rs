@@ -1,20 +1,59 @@
 //! The proved calls, through crate `frame_builder`, and the program of crate `frame`.
 
-use frame_builder::{Fault, Who};
+use frame_builder::{Fault, Flow, Who};
 
 use crate::{
-    program, Answer, Built, Calls, Class, Count, Inspection, Refusal, Service, SheetProgram,
+    program, Answer, Built, Calls, Class, Count, InC, Inspection, Refusal, Service, SheetProgram,
 };
 
-/// The proved frame builder.
-#[derive(Clone, Copy, Debug, Default)]
-pub struct Library;
+/// The numbers of a flow in a list.
+const FLOW_NUMBERS: usize = 3;
+
+/// Flows kept on either side of a list that is lent.
+const MARGIN: usize = 8;
+
+/// What the margins have, which no list has at its ends.
+const MARK: Flow = Flow::new(0xa5a5, 0x5a5a, 0xa5a5);
+
+/// The proved frame builder. A list that is not of whole flows is no slice of flows, so that a call with one goes through C.
+#[derive(Debug, Default)]
+pub struct Library {
+    in_c: InC,
+}
+
+/// The flows of a list, lent between margins that show writes beside them.
+struct Lent {
+    whole: Vec<Flow>,
+}
+
+impl Lent {
+    /// Nothing where the list is not of whole flows.
+    fn of(list: &[u16]) -> Option<Lent> {
+        let numbers = list.chunks_exact(FLOW_NUMBERS);
+        if !numbers.remainder().is_empty() {
+            return None;
+        }
+        let flows = numbers.map(|flow| Flow::new(flow[0], flow[1], flow[2]));
+        let margin = || std::iter::repeat_n(MARK, MARGIN);
+        let whole = margin().chain(flows).chain(margin()).collect();
+        Some(Lent { whole })
+    }
+
+    fn flows(&self) -> &[Flow] {
+        &self.whole[MARGIN..self.whole.len() - MARGIN]
+    }
+
+    /// Fails where somebody has written to the list or beside it.
+    fn give_back(self, list: &[u16]) {
+        let unwritten = Lent::of(list).is_some_and(|lent| lent.whole == self.whole);
+        assert!(unwritten, "wrote to the list");
+    }
+}
 
 fn refusal_of(refusal: frame_builder::Refusal) -> Refusal {
     match refusal {
         frame_builder::Refusal::Ports => Refusal::Ports,
         frame_builder::Refusal::Slots => Refusal::Slots,
-        frame_builder::Refusal::MatrixLength => Refusal::MatrixLength,
         frame_builder::Refusal::FrameLength => Refusal::FrameLength,
         frame_builder::Refusal::InputLoad { port, cells } => Refusal::InputLoad {
             port: port as u64,
@@ -25,14 +64,16 @@ fn refusal_of(refusal: frame_builder::Refusal) -> Refusal {
             cells: cells as u64,
         },
         frame_builder::Refusal::SlotNumber => Refusal::SlotNumber,
-        frame_builder::Refusal::PortNumber => Refusal::PortNumber,
+        frame_builder::Refusal::FlowOrPort => Refusal::FlowOrPort,
         frame_builder::Refusal::RunLength => Refusal::RunLength,
+        frame_builder::Refusal::TooManyFlows => Refusal::TooManyFlows,
+        frame_builder::Refusal::FlowPort => Refusal::FlowPort,
     }
 }
 
 fn inspection_of(fault: Fault) -> Inspection {
     match fault {
-        Fault::ByteTooLarge { slot, input } => Inspection::ByteTooLarge {
+        Fault::WrongEntry { slot, input } => Inspection::WrongEntry {
             slot: slot as u64,
             input: input as u64,
         },
@@ -40,10 +81,7 @@ fn inspection_of(fault: Fault) -> Inspection {
             slot: slot as u64,
             output: output as u64,
         },
-        Fault::PairCount { input, output } => Inspection::PairCount {
-            input: input as u64,
-            output: output as u64,
-        },
+        Fault::FlowCount { flow } => Inspection::FlowCount { flow: flow as u64 },
         Fault::UnbalancedBlock { slot, size } => Inspection::UnbalancedBlock {
             slot: slot as u64,
             size: size as u64,
@@ -53,10 +91,7 @@ fn inspection_of(fault: Fault) -> Inspection {
 
 fn who_of(class: Class) -> Who {
     match class {
-        Class::Pair { input, output } => Who::Pair {
-            input: input as usize,
-            output: output as usize,
-        },
+        Class::Flow { number } => Who::Flow(number as usize),
         Class::Input { port } => Who::Input(port as usize),
         Class::Output { port } => Who::Output(port as usize),
     }
@@ -70,18 +105,31 @@ fn count_of(count: frame_builder::Count) -> Count {
 }
 
 impl Calls for Library {
-    fn admit(&self, ports: u64, slots: u64, matrix: &[u16]) -> Answer {
-        frame_builder::admit(ports as usize, slots as usize, matrix).map_err(refusal_of)
+    fn admit(&self, ports: u64, slots: u64, list: &[u16]) -> Answer {
+        let Some(lent) = Lent::of(list) else {
+            return self.in_c.admit(ports, slots, list);
+        };
+        let answer = frame_builder::admit(ports as usize, slots as usize, lent.flows());
+        lent.give_back(list);
+        answer.map_err(refusal_of)
     }
 
-    fn build(&self, ports: u64, slots: u64, matrix: &[u16], frame: &mut [u8]) -> Built {
-        frame_builder::build(ports as usize, slots as usize, matrix, frame)
-            .map(|settled| settled as u64)
-            .map_err(refusal_of)
+    fn build(&self, ports: u64, slots: u64, list: &[u16], frame: &mut [u16]) -> Built {
+        let Some(lent) = Lent::of(list) else {
+            return self.in_c.build(ports, slots, list, frame);
+        };
+        let answer = frame_builder::build(ports as usize, slots as usize, lent.flows(), frame);
+        lent.give_back(list);
+        answer.map(|settled| settled as u64).map_err(refusal_of)
     }
 
-    fn inspect(&self, ports: u64, slots: u64, matrix: &[u16], frame: &[u8]) -> Inspection {
-        match frame_builder::inspect(ports as usize, slots as usize, matrix, frame) {
+    fn inspect(&self, ports: u64, slots: u64, list: &[u16], frame: &[u16]) -> Inspection {
+        let Some(lent) = Lent::of(list) else {
+            return self.in_c.inspect(ports, slots, list, frame);
+        };
+        let answer = frame_builder::inspect(ports as usize, slots as usize, lent.flows(), frame);
+        lent.give_back(list);
+        match answer {
             Ok(frame_builder::Inspection::Clean) => Inspection::Clean,
             Ok(frame_builder::Inspection::Faulty(fault)) => inspection_of(fault),
             Err(refusal) => Inspection::Refused(refusal_of(refusal)),
@@ -92,10 +140,10 @@ impl Calls for Library {
         &self,
         ports: u64,
         slots: u64,
-        frame: &'f [u8],
+        frame: &'f [u16],
         slot: u64,
         number: &mut u64,
-    ) -> &'f [u8] {
+    ) -> &'f [u16] {
         let view = frame_builder::slot_view(ports as usize, slots as usize, frame, slot as usize);
         *number = view.map_or_else(|refusal| refusal.number() as u64, |_| 0);
         view.unwrap_or_default()
@@ -105,16 +153,20 @@ impl Calls for Library {
         &self,
         ports: u64,
         slots: u64,
-        frame: &[u8],
+        list: &[u16],
+        frame: &[u16],
         class: Class,
-        start: u64,
-        length: u64,
+        (start, length): (u64, u64),
     ) -> Service {
-        let (ports, slots) = (ports as usize, slots as usize);
-        let (start, length) = (start as usize, length as usize);
-        frame_builder::service_count(ports, slots, frame, who_of(class), start, length)
-            .map(count_of)
-            .map_err(refusal_of)
+        let Some(lent) = Lent::of(list) else {
+            let in_c = &self.in_c;
+            return in_c.service_count(ports, slots, list, frame, class, (start, length));
+        };
+        let (flows, who) = (lent.flows(), who_of(class));
+        let [ports, slots, start, length] = [ports, slots, start, length].map(|n| n as usize);
+        let answer = frame_builder::service_count(ports, slots, flows, frame, who, start, length);
+        lent.give_back(list);
+        answer.map(count_of).map_err(refusal_of)
     }
 }
 

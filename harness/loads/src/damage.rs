@@ -84,7 +84,8 @@ pub fn damage(
             }
         }
         Damage::Junk => {
-            *call = load_of_shape(LoadKind::Junk, shape, random);
+            let kinds = [LoadKind::Junk, LoadKind::Junk, LoadKind::TooManyFlows];
+            *call = load_of_shape(random.pick(&kinds), shape, random);
             frame.resize(call.frame_length, 0);
         }
     }
@@ -239,9 +240,10 @@ fn swap_flows(flows: &[Flow], block: &mut [u16], random: &mut Random) {
     }
 }
 
-/// The numbers of two flows of one pair, or of one input where no pair has two.
+/// The numbers of two flows with cells of one pair, or of one input where no pair has two.
 fn two_flows(flows: &[Flow], random: &mut Random) -> Option<[u16; 2]> {
-    let order = random.permutation(flows.len());
+    let mut order = random.permutation(flows.len());
+    order.retain(|&place| flows[place].cells > 0);
     let pair = |flow: &Flow| (flow.input, flow.output);
     let two_with = |same: &dyn Fn(&Flow, &Flow) -> bool| {
         let mut couples = order.iter().enumerate().flat_map(|(place, one)| {

@@ -1,4 +1,4 @@
-//! The frame builder a careful programmer would write first: arrays, halves and walks.
+//! The frame builder a careful programmer would write first: lists of counts, halves and walks.
 
 #![forbid(unsafe_code)]
 
@@ -9,18 +9,14 @@ const MOST_FLOWS: usize = 512;
 /// The numbers of a flow in a list: its input, its output, its cells.
 const FLOW_NUMBERS: usize = 3;
 
-/// The cells of each flow in a block.
-type Counts = [u16; MOST_FLOWS];
-
 /// At each odd count its partner among its input's counts, or among its output's.
-type Partners = [Option<u16>; MOST_FLOWS];
+type Partners = Vec<Option<u16>>;
 
 /// The switch and the ports of its flows, which are counted from 0.
 struct Switch {
     ports: usize,
-    flows: usize,
-    inputs: [u8; MOST_FLOWS],
-    outputs: [u8; MOST_FLOWS],
+    inputs: Vec<u8>,
+    outputs: Vec<u8>,
 }
 
 /// Fills the frame and says how many odd counts were settled; says nothing, the frame untouched, if the load is refused.
@@ -63,24 +59,18 @@ fn is_overloaded(ports: usize, slots: usize, list: &[u16]) -> bool {
 }
 
 /// The ports of the flows of a list, and their cells.
-fn read_list(ports: usize, list: &[u16]) -> (Switch, Counts) {
-    let mut switch = Switch {
+fn read_list(ports: usize, list: &[u16]) -> (Switch, Vec<u16>) {
+    let flows = || list.chunks_exact(FLOW_NUMBERS);
+    let switch = Switch {
         ports,
-        flows: list.len() / FLOW_NUMBERS,
-        inputs: [0; MOST_FLOWS],
-        outputs: [0; MOST_FLOWS],
+        inputs: flows().map(|flow| flow[0] as u8 - 1).collect(),
+        outputs: flows().map(|flow| flow[1] as u8 - 1).collect(),
     };
-    let mut counts = [0; MOST_FLOWS];
-    for (place, flow) in list.chunks_exact(FLOW_NUMBERS).enumerate() {
-        switch.inputs[place] = flow[0] as u8 - 1;
-        switch.outputs[place] = flow[1] as u8 - 1;
-        counts[place] = flow[2];
-    }
-    (switch, counts)
+    (switch, flows().map(|flow| flow[2]).collect())
 }
 
 /// Fills a block, and says how many counts of it and of the blocks within it are odd.
-fn fill_block(switch: &Switch, counts: &Counts, block: &mut [u16]) -> usize {
+fn fill_block(switch: &Switch, counts: &[u16], block: &mut [u16]) -> usize {
     if block.len() == switch.ports {
         fill_slot(switch, counts, block);
         return 0;
@@ -90,32 +80,28 @@ fn fill_block(switch: &Switch, counts: &Counts, block: &mut [u16]) -> usize {
     odd + fill_block(switch, &first, front) + fill_block(switch, &second, back)
 }
 
-fn fill_slot(switch: &Switch, counts: &Counts, slot: &mut [u16]) {
+fn fill_slot(switch: &Switch, counts: &[u16], slot: &mut [u16]) {
     slot.fill(0);
-    for flow in 0..switch.flows {
-        if counts[flow] == 1 {
-            slot[usize::from(switch.inputs[flow])] = flow as u16 + 1;
+    for (flow, (&count, &input)) in (1..).zip(counts.iter().zip(&switch.inputs)) {
+        if count == 1 {
+            slot[usize::from(input)] = flow;
         }
     }
 }
 
 /// Shares the counts between the two halves of a block, and says how many are odd.
-fn halve(switch: &Switch, counts: &Counts) -> (Counts, Counts, usize) {
-    let partners =
-        [&switch.inputs, &switch.outputs].map(|ends| find_partners(switch, ends, counts));
-    let mut first = [0; MOST_FLOWS];
-    for flow in 0..switch.flows {
-        first[flow] = counts[flow] / 2;
-    }
-    let mut second = first;
-    let mut settled = [false; MOST_FLOWS];
-    let mut group = Group::new();
+fn halve(switch: &Switch, counts: &[u16]) -> (Vec<u16>, Vec<u16>, usize) {
+    let partners = [&switch.inputs, &switch.outputs].map(|ends| find_partners(ends, counts));
+    let mut first: Vec<u16> = counts.iter().map(|count| count / 2).collect();
+    let mut second = first.clone();
+    let mut settled = vec![false; counts.len()];
+    let mut group = Group::default();
     let mut larger_first = true;
     let mut odd = 0;
-    for flow in 0..switch.flows {
+    for flow in 0..counts.len() {
         if counts[flow] % 2 == 1 && !settled[flow] {
             group.gather(flow, &partners, &mut settled);
-            odd += group.size;
+            odd += group.size();
             let own_first = !group.is_odd() || group.own_is_larger() == larger_first;
             if own_first {
                 group.share_out(&mut first, &mut second);
@@ -130,38 +116,28 @@ fn halve(switch: &Switch, counts: &Counts) -> (Counts, Counts, usize) {
     (first, second, odd)
 }
 
-/// Counts joined by partnership. Those on the side of the group's first count favour the same half as that count does, those
-/// on the other side the other half.
+/// Counts joined by partnership: those that favour the same half as the group's first count does, and those that favour the other
+/// half.
+#[derive(Default)]
 struct Group {
-    flows: [u16; MOST_FLOWS],
-    is_own: [bool; MOST_FLOWS],
-    size: usize,
-    own: usize,
+    own: Vec<u16>,
+    other: Vec<u16>,
 }
 
 impl Group {
-    fn new() -> Group {
-        Group {
-            flows: [0; MOST_FLOWS],
-            is_own: [false; MOST_FLOWS],
-            size: 0,
-            own: 0,
-        }
-    }
-
     /// Begins a group anew with its first count, and walks from there both ways.
-    fn gather(&mut self, first: usize, partners: &[Partners; 2], settled: &mut [bool; MOST_FLOWS]) {
-        self.size = 0;
-        self.own = 0;
+    fn gather(&mut self, first: usize, partners: &[Partners; 2], settled: &mut [bool]) {
+        self.own.clear();
+        self.other.clear();
         settled[first] = true;
-        self.add(first, true);
+        self.own.push(first as u16);
         let [at_input, at_output] = partners;
         self.walk(first, [at_input, at_output], settled);
         self.walk(first, [at_output, at_input], settled);
     }
 
     /// Walks a chain of partners from the first count on, which are on either side in turn.
-    fn walk(&mut self, first: usize, partners: [&Partners; 2], settled: &mut [bool; MOST_FLOWS]) {
+    fn walk(&mut self, first: usize, partners: [&Partners; 2], settled: &mut [bool]) {
         let mut flow = first;
         let mut step = 0;
         while let Some(next) = partners[step % 2][flow].map(usize::from) {
@@ -169,55 +145,54 @@ impl Group {
                 return;
             }
             settled[next] = true;
-            self.add(next, step % 2 == 1);
+            if step % 2 == 0 {
+                self.other.push(next as u16);
+            } else {
+                self.own.push(next as u16);
+            }
             flow = next;
             step += 1;
         }
     }
 
-    fn add(&mut self, flow: usize, is_own: bool) {
-        self.flows[self.size] = flow as u16;
-        self.is_own[self.size] = is_own;
-        self.size += 1;
-        self.own += usize::from(is_own);
+    fn size(&self) -> usize {
+        self.own.len() + self.other.len()
     }
 
     fn is_odd(&self) -> bool {
-        self.size % 2 == 1
+        self.size() % 2 == 1
     }
 
     /// Whether more counts are on the side of the first than on the other.
     fn own_is_larger(&self) -> bool {
-        2 * self.own > self.size
+        self.own.len() > self.other.len()
     }
 
     /// Gives an extra cell of each count on the side of the first to the one half, and of each other count to the other half.
-    fn share_out(&self, to_own: &mut Counts, to_other: &mut Counts) {
-        let flows = self.flows.iter().zip(&self.is_own);
-        for (&flow, &is_own) in flows.take(self.size) {
-            if is_own {
-                to_own[usize::from(flow)] += 1;
-            } else {
-                to_other[usize::from(flow)] += 1;
-            }
+    fn share_out(&self, to_own: &mut [u16], to_other: &mut [u16]) {
+        for &flow in &self.own {
+            to_own[usize::from(flow)] += 1;
+        }
+        for &flow in &self.other {
+            to_other[usize::from(flow)] += 1;
         }
     }
 }
 
 /// Partners the odd counts of each input, or of each output, first with second and so on, in one pass over the flows.
-fn find_partners(switch: &Switch, ends: &[u8; MOST_FLOWS], counts: &Counts) -> Partners {
-    let mut partners = [None; MOST_FLOWS];
+fn find_partners(ends: &[u8], counts: &[u16]) -> Partners {
+    let mut partners = vec![None; counts.len()];
     let mut waiting = [None; MOST_PORTS];
-    for flow in 0..switch.flows {
-        if counts[flow] % 2 == 1 {
-            join(flow, &mut waiting[usize::from(ends[flow])], &mut partners);
+    for (flow, (&count, &end)) in counts.iter().zip(ends).enumerate() {
+        if count % 2 == 1 {
+            join(flow, &mut waiting[usize::from(end)], &mut partners);
         }
     }
     partners
 }
 
 /// Partners a count with the one waiting at its port, or leaves it waiting.
-fn join(flow: usize, waiting: &mut Option<usize>, partners: &mut Partners) {
+fn join(flow: usize, waiting: &mut Option<usize>, partners: &mut [Option<u16>]) {
     match waiting.take() {
         Some(other) => {
             partners[flow] = Some(other as u16);

@@ -93,25 +93,28 @@ fn split(ports: u64, counts: &[Count]) -> [Vec<Count>; 2] {
     })
 }
 
-/// Rule 3: for each count of a block, in the order of their flows, the places of those it is partnered with.
-fn partnerships(ports: u64, counts: &[Count]) -> Vec<Vec<usize>> {
-    let mut partners = vec![Vec::new(); counts.len()];
+/// The places, among the counts of a block, of a count's partners: at its input and at its output.
+type Partners = [Option<usize>; 2];
+
+/// Rule 3: the partners of each count of a block.
+fn partnerships(ports: u64, counts: &[Count]) -> Vec<Partners> {
+    let mut partners = vec![[None; 2]; counts.len()];
     let odd = (0..counts.len()).filter(|&place| counts[place].is_odd());
     let odd: Vec<usize> = odd.collect();
     for port in 1..=ports {
-        join_partners(&odd, |place| counts[place].input == port, &mut partners);
-        join_partners(&odd, |place| counts[place].output == port, &mut partners);
+        let at_input = odd.iter().filter(|&&place| counts[place].input == port);
+        let at_output = odd.iter().filter(|&&place| counts[place].output == port);
+        join_partners(&at_input.copied().collect::<Vec<_>>(), 0, &mut partners);
+        join_partners(&at_output.copied().collect::<Vec<_>>(), 1, &mut partners);
     }
     partners
 }
 
 /// At one input or output: first odd count with second, third with fourth, by rising flow number.
-fn join_partners(odd: &[usize], is_there: impl Fn(usize) -> bool, partners: &mut [Vec<usize>]) {
-    let there = odd.iter().copied().filter(|&place| is_there(place));
-    let there: Vec<usize> = there.collect();
-    for couple in there.chunks_exact(2) {
-        partners[couple[0]].push(couple[1]);
-        partners[couple[1]].push(couple[0]);
+fn join_partners(odd: &[usize], side: usize, partners: &mut [Partners]) {
+    for couple in odd.chunks_exact(2) {
+        partners[couple[0]][side] = Some(couple[1]);
+        partners[couple[1]][side] = Some(couple[0]);
     }
 }
 
@@ -124,7 +127,7 @@ struct Group {
 }
 
 /// The groups, taken by their first flow.
-fn groups(counts: &[Count], partners: &[Vec<usize>]) -> Vec<Group> {
+fn groups(counts: &[Count], partners: &[Partners]) -> Vec<Group> {
     let mut found = vec![false; counts.len()];
     let mut groups = Vec::new();
     for first in 0..counts.len() {
@@ -135,7 +138,7 @@ fn groups(counts: &[Count], partners: &[Vec<usize>]) -> Vec<Group> {
     groups
 }
 /// Goes out from the first count one partnership at a time, until nobody new is reached.
-fn search_group(first: usize, partners: &[Vec<usize>], found: &mut [bool]) -> Group {
+fn search_group(first: usize, partners: &[Partners], found: &mut [bool]) -> Group {
     let [mut even, mut odd] = [Vec::new(), Vec::new()];
     let mut reached = vec![first];
     found[first] = true;
@@ -149,9 +152,9 @@ fn search_group(first: usize, partners: &[Vec<usize>], found: &mut [bool]) -> Gr
 }
 
 /// The partners of these counts that were not found before.
-fn further(reached: &[usize], partners: &[Vec<usize>], found: &mut [bool]) -> Vec<usize> {
-    let all = reached.iter().flat_map(|&place| &partners[place]);
-    all.copied()
+fn further(reached: &[usize], partners: &[Partners], found: &mut [bool]) -> Vec<usize> {
+    let all = reached.iter().flat_map(|&place| partners[place]);
+    all.flatten()
         .filter(|&partner| !std::mem::replace(&mut found[partner], true))
         .collect()
 }

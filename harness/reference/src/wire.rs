@@ -51,16 +51,15 @@ pub struct Frame {
 }
 
 impl Frame {
-    /// What they are given in each slot, counted with the frame's own list.
-    fn each_slot(&self, whose: Whose) -> Vec<Slot> {
+    /// Adds what they are given in each slot, counted with the frame's own list.
+    fn count(&self, whose: Whose, given: &mut Vec<Slot>) {
         let flows = flows_of(&self.list);
         let load = whose.load_in(&flows);
         let slots = self.entries.chunks(self.ports as usize);
-        let given = slots.map(|slot| Slot {
+        given.extend(slots.map(|slot| Slot {
             load,
             cells: whose.cells_in_slot(&flows, slot),
-        });
-        given.collect()
+        }));
     }
 }
 
@@ -98,13 +97,12 @@ impl Course {
     /// Counts the entries of a chain, those of each frame with its own list.
     pub fn of(chain: &[Frame], whose: impl Into<Whose>) -> Course {
         let whose = whose.into();
-        Course {
-            slots: chain.first().map_or(1, |frame| frame.slots),
-            given: chain
-                .iter()
-                .flat_map(|frame| frame.each_slot(whose))
-                .collect(),
+        let slots = chain.first().map_or(1, |frame| frame.slots);
+        let mut given = Vec::with_capacity(chain.len() * slots as usize);
+        for frame in chain {
+            frame.count(whose, &mut given);
         }
+        Course { slots, given }
     }
 
     /// The k of 2^k slots.
@@ -179,15 +177,15 @@ impl Course {
     }
 
     /// Of the runs that may begin where they do, the one whose lead times the sign is greatest, after that product.
-    fn greatest(&self, sign: i128, may_begin: impl Fn(usize) -> bool) -> (i128, Run) {
-        let slots = i128::from(self.slots);
+    fn greatest(&self, sign: i64, may_begin: impl Fn(usize) -> bool) -> (i64, Run) {
+        let slots = self.slots as i64;
         let (mut lead, mut least) = (0, (0, 0));
         let (mut greatest, mut start, mut end) = (0, 0, 0);
         for (place, slot) in (0..).zip(&self.given) {
             if lead < least.0 && may_begin(place) {
                 least = (lead, place);
             }
-            lead += sign * (slots * i128::from(slot.cells) - i128::from(slot.load));
+            lead += sign * (slots * slot.cells as i64 - slot.load as i64);
             if lead - least.0 > greatest {
                 (greatest, start, end) = (lead - least.0, least.1, place + 1);
             }
@@ -198,7 +196,7 @@ impl Course {
 }
 
 /// The run with the greater number before it.
-fn further(one: (i128, Run), other: (i128, Run)) -> Run {
+fn further(one: (i64, Run), other: (i64, Run)) -> Run {
     if one.0 < other.0 {
         other.1
     } else {

@@ -1,11 +1,14 @@
 //! Cases of demand 3: lists of Build calls on one buffer and the chain the wire carries.
 
 use calls::Calls;
-use loads::{load_of_shape, random_shape, Call, Company, Flow, LoadKind, Random, Seam, Shape};
+use loads::{
+    load_of_shape, random_shape, Call, Company, Followed, LoadKind, Random, Seam, Shape,
+    FLOW_NUMBERS,
+};
 use reference::wire::{Course, Frame, Whose};
 
-use crate::build_case::{build_and_compare, lend_bytes, wire_frame};
-use crate::hits::Hits;
+use crate::build_case::{build_and_compare, lend, wire_frame};
+use crate::hits::{Hits, CHAIN_CHANGED};
 use crate::queue_case::check_queue;
 use crate::share_case::{
     check_share, class_of, every_class, expect_chain, expect_share, random_class,
@@ -13,7 +16,7 @@ use crate::share_case::{
 use crate::verdict::Verdict;
 use crate::wait_case::{check_first_waits, check_waits};
 
-/// The pairs, inputs and outputs whose queues and other runs are looked at on a chain, besides those of the total.
+/// The flows, inputs and outputs whose queues and other runs are looked at on a chain, besides those of the total.
 const CLASSES: usize = 8;
 
 loads::kinds! {
@@ -36,8 +39,9 @@ pub fn check_chain(
     let flow = flow_on_chain(shape, random);
     let chain = carry(candidate, kind, shape, flow, random, hits)?;
     expect_chain(&chain)?;
-    check_every_class(&chain, shape.ports as u64, hits)?;
-    for whose in counted_on_chain(shape, flow, random) {
+    let flows = most_flows(&chain);
+    check_every_class(&chain, shape.ports as u64, flows, hits)?;
+    for whose in counted_on_chain(shape, flows, flow, random) {
         let course = Course::of(&chain, whose);
         check_share(&course, whose, random, hits)?;
         check_queue(&course, whose, random, hits)?;
@@ -49,23 +53,31 @@ pub fn check_chain(
     check_waits(&course, class.into(), flow.cells.into(), random, hits)
 }
 
-/// The frames that the wire carries during a list of calls.
+/// The flows of the longest list of a chain: a number above is in no list.
+fn most_flows(chain: &[Frame]) -> usize {
+    let flows = chain.iter().map(|frame| frame.list.len() / FLOW_NUMBERS);
+    flows.max().unwrap_or_default()
+}
+
+/// The frames that the wire carries during a list of calls, each of which has another list of flows than the one before.
 fn carry(
     candidate: &dyn Calls,
     kind: ChainKind,
     shape: Shape,
-    flow: Option<Flow>,
+    flow: Option<Followed>,
     random: &mut Random,
     hits: &mut Hits,
 ) -> Result<Vec<Frame>, String> {
-    let mut buffer = lend_bytes(&random.bytes(shape.frame_length()), random);
+    let mut buffer = lend(&random.entries(shape.frame_length()), random);
     let mut chain: Vec<Frame> = Vec::new();
     let mut accepted: Option<Call> = None;
+    let mut before = Vec::new();
     for later in (0..random.between(1, 12)).rev() {
-        let call = match flow {
-            Some(flow) if later < 2 => last_load(flow, later, shape, random),
-            _ => next_call(kind, shape, flow, random),
-        };
+        let mut call = call_on_chain(kind, shape, flow, later, random);
+        while call.list == before {
+            call = call_on_chain(kind, shape, flow, later, random);
+        }
+        before.clone_from(&call.list);
         let refused = build_and_compare(candidate, &call, &mut buffer, random, hits)?.is_err();
         hits.add(event_of(refused, accepted.is_some()));
         if !refused {
@@ -74,15 +86,32 @@ fn carry(
         let Some(last) = &accepted else { continue };
         let times = times_carried(last, shape, refused, random, hits);
         let frame = wire_frame(last, buffer.part());
+        if chain.last().is_some_and(|last| last.list != frame.list) {
+            hits.add(CHAIN_CHANGED);
+        }
         chain.extend(std::iter::repeat_n(frame, times));
     }
     Ok(chain)
 }
 
-/// Holds every pair, input and output of a chain to the bounds on the run that strays furthest, and the first in its queue to
-/// the longest wait.
-fn check_every_class(chain: &[Frame], ports: u64, hits: &mut Hits) -> Verdict {
-    every_class(ports).try_for_each(|class| {
+/// A call with so many to come after it.
+fn call_on_chain(
+    kind: ChainKind,
+    shape: Shape,
+    flow: Option<Followed>,
+    later: u64,
+    random: &mut Random,
+) -> Call {
+    match flow {
+        Some(flow) if later < 2 => last_load(flow, later, shape, random),
+        _ => next_call(kind, shape, flow, random),
+    }
+}
+
+/// Holds every flow, input and output of a chain to the bounds on the run that strays furthest, and the first in its queue to the
+/// longest wait.
+fn check_every_class(chain: &[Frame], ports: u64, flows: usize, hits: &mut Hits) -> Verdict {
+    every_class(ports, flows).try_for_each(|class| {
         let course = Course::of(chain, class);
         expect_share(&course, class.into(), course.furthest_run())?;
         check_first_waits(&course, class.into(), hits)
@@ -90,24 +119,24 @@ fn check_every_class(chain: &[Frame], ports: u64, hits: &mut Hits) -> Verdict {
 }
 
 /// In one chain of three a flow that has the cells of a seam, and in another one with other cells.
-fn flow_on_chain(shape: Shape, random: &mut Random) -> Option<Flow> {
-    let seam = Seam::of_shape(shape)?;
+fn flow_on_chain(shape: Shape, random: &mut Random) -> Option<Followed> {
+    let seam = Seam::of_slots(shape.slots)?;
     let cells = match random.below(3) {
         0 => seam.cells,
         1 => seam.other_cells(random),
         _ => return None,
     };
-    Some(Flow::random(shape, cells, random))
+    Some(Followed::random(cells, random))
 }
 
 /// A load of the seam: the flow alone at its ports, or beside a partner.
-pub fn straying_load(flow: Flow, shape: Shape, random: &mut Random) -> Call {
+pub fn straying_load(flow: Followed, shape: Shape, random: &mut Random) -> Call {
     let company = random.pick(&[Company::Nobody, Company::Partner]);
     flow.load(company, shape, random)
 }
 
 /// The last two loads of a chain with such a flow, by how many calls come after: the two of the seam, one after the other.
-fn last_load(flow: Flow, later: u64, shape: Shape, random: &mut Random) -> Call {
+fn last_load(flow: Followed, later: u64, shape: Shape, random: &mut Random) -> Call {
     let company = match later {
         0 => Company::Partner,
         _ => Company::Nobody,
@@ -116,9 +145,14 @@ fn last_load(flow: Flow, later: u64, shape: Shape, random: &mut Random) -> Call 
 }
 
 /// The total, and any classes, with the flow of the seam where there is one.
-fn counted_on_chain(shape: Shape, flow: Option<Flow>, random: &mut Random) -> Vec<Whose> {
+fn counted_on_chain(
+    shape: Shape,
+    flows: usize,
+    flow: Option<Followed>,
+    random: &mut Random,
+) -> Vec<Whose> {
     let straying = flow.map(class_of);
-    let any = std::iter::repeat_with(|| random_class(shape.ports as u64, random));
+    let any = std::iter::repeat_with(|| random_class(shape.ports as u64, flows, random));
     let classes = straying.into_iter().chain(any).take(CLASSES);
     let classes = classes.map(Whose::Class);
     [Whose::Total].into_iter().chain(classes).collect()
@@ -134,12 +168,13 @@ fn chain_shape(kind: ChainKind, random: &mut Random) -> Shape {
 }
 
 /// A call that fits, is overloaded, is junk, or asks for another shape of the same length.
-fn next_call(kind: ChainKind, shape: Shape, flow: Option<Flow>, random: &mut Random) -> Call {
+fn next_call(kind: ChainKind, shape: Shape, flow: Option<Followed>, random: &mut Random) -> Call {
     if let Some(flow) = flow.filter(|_| random.one_in(2)) {
         return straying_load(flow, shape, random);
     }
     match random.below(10) {
-        0 | 1 => load_of_shape(random.pick(&LoadKind::OVERLOADED), shape, random),
+        0 => load_of_shape(random.pick(&LoadKind::OVERLOADED), shape, random),
+        1 => load_of_shape(random.pick(&LoadKind::ILL_FORMED), shape, random),
         2 => load_of_shape(LoadKind::Junk, shape, random),
         3 => load_of_shape(LoadKind::Scattered, other_shape(shape), random),
         _ if kind == ChainKind::Adversarial => {

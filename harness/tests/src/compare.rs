@@ -11,6 +11,7 @@ const USAGE: &str = "compare [--count CASES_PER_KIND] [--seed SEED] [--kind NAME
 const COUNT: u64 = 2_000;
 
 fn main() -> ExitCode {
+    let library = Library::default();
     let settings = read_settings(std::env::args().skip(1), COUNT);
-    run_as_told(settings, USAGE, |settings| run(&Library, settings))
+    run_as_told(settings, USAGE, |settings| run(&library, settings))
 }

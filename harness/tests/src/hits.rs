@@ -5,9 +5,26 @@ use std::collections::BTreeMap;
 
 use crate::kind::Kind;
 
-/// A load that fits was built, and its odd counts settled were as many as the reference's, its frame the same in every byte.
+/// A load that fits was built, and its odd counts settled were as many as the reference's, its frame the same in every entry.
 pub const SAME_FRAME: &str =
-    "frame compared with the reference's, byte for byte and in its odd counts settled";
+    "frame compared with the reference's, entry by entry and in its odd counts settled";
+
+/// A frame that was built was damaged, or its list was, and then inspected.
+pub const DAMAGED: &str = "frame built, damaged and inspected";
+
+/// A list without flows was built.
+pub const NO_FLOWS: &str = "build of no flows";
+/// A list with as many flows as there may be was built.
+pub const MOST: &str = "build of 512 flows";
+/// A list with several flows on some pair was built.
+pub const SEVERAL_ON_A_PAIR: &str = "build of several flows on a pair";
+/// A list with a flow without cells was built.
+pub const WITHOUT_CELLS: &str = "build of a flow without cells";
+/// A list with one flow for each pair in matrix order was built.
+pub const IN_MATRIX_ORDER: &str = "build of one flow for each pair in matrix order";
+
+/// Two frames followed on each other that were built from different lists.
+pub const CHAIN_CHANGED: &str = "chain frame of another list than the one before";
 
 /// Some block of a built frame had an odd count.
 pub const ODD_SETTLED: &str = "build with odd counts settled";
@@ -30,6 +47,13 @@ pub const TOTAL_REACHED: &str = "half the sharp bound reached by the total";
 /// A block of 2^k slots had halves that differed by more than one cell in all, and the frame had no other fault before it.
 pub const TOTAL_UNBALANCED: &str = "block of 2^k slots unbalanced in its total alone";
 
+/// The same in the cells of some flows alone.
+pub const FLOW_UNBALANCED: &str = "block of 2^k slots unbalanced in some flows alone";
+/// The same in the cells of an input alone.
+pub const INPUT_UNBALANCED: &str = "block of 2^k slots unbalanced in an input alone";
+/// The same in the cells of an output alone.
+pub const OUTPUT_UNBALANCED: &str = "block of 2^k slots unbalanced in an output alone";
+
 /// The longest run of a chain with fewer than so many cells was held to both bounds.
 pub const WAIT_COMPARED: &str = "longest wait compared";
 /// A queue was run cell by cell, and each held to the sharp bound.
@@ -45,7 +69,10 @@ pub const PACED_COMPARED: &str = "longest wait of a paced queue compared";
 pub const PACED_REACHED: &str = "longest wait of a paced queue as long as is allowed";
 
 /// What is counted for each k from 1 to 10; with k = 0 nothing strays.
-pub const FOR_EACH_K: [&str; 12] = [
+pub const FOR_EACH_K: [&str; 15] = [
+    FLOW_UNBALANCED,
+    INPUT_UNBALANCED,
+    OUTPUT_UNBALANCED,
     TOTAL_UNBALANCED,
     RUN_REACHED,
     TOTAL_REACHED,
@@ -209,11 +236,17 @@ impl Hits {
     pub fn required() -> Vec<String> {
         let mut names = outcomes();
         names.push("sheet frame".into());
-        names.extend(refusal_names("sheet", &[1, 2, 5, 6, 7, 8, 9, 10]));
+        names.extend(refusal_names("sheet", &[1, 2, 5, 6, 7, 8, 10, 21]));
+        names.extend(FLOW_LINES.map(str::to_string));
+        names.extend(SORTS_OF_LIST.map(str::to_string));
+        names.push(DAMAGED.into());
         names.extend((1..=16).map(|ports| format!("build with {ports} ports")));
         names.extend((0..=10).map(|k| format!("build with {} slots", 1 << k)));
         names.extend(CHAIN_EVENTS.map(str::to_string));
         names.extend((0..=10).map(|k| format!("leads of a frame of {} slots", 1 << k)));
+        for name in [FLOW_UNBALANCED, INPUT_UNBALANCED, OUTPUT_UNBALANCED] {
+            names.extend((2..=10).map(|k| name_at(name, k)));
+        }
         names.extend((1..=10).map(|k| name_at(TOTAL_UNBALANCED, k)));
         names.extend((1..=10).map(|k| name_at(RUN_REACHED, k)));
         names.extend((1..=10).map(|k| name_at(TOTAL_REACHED, k)));
@@ -244,16 +277,16 @@ pub fn outcomes() -> Vec<String> {
     let mut names = vec!["inspect clean".to_string()];
     names.extend(["admit", "build", "view", "count"].map(|call| format!("{call} accepted")));
     names.extend([ODD_SETTLED, NONE_SETTLED].map(str::to_string));
-    for fault in ["byte too large", "output twice", "pair count"] {
+    for fault in ["wrong entry", "output twice", "flow count"] {
         names.push(format!("inspect {fault}"));
     }
     names.extend((1..=10).map(|k| format!("inspect unbalanced block of {}", 1 << k)));
-    names.extend(refusal_names("admit", &[1, 2, 3, 5, 6]));
-    names.extend(refusal_names("build", &[1, 2, 3, 4, 5, 6]));
-    names.extend(refusal_names("inspect", &[1, 2, 3, 4]));
+    names.extend(refusal_names("admit", &[1, 2, 3, 21, 22, 5, 6]));
+    names.extend(refusal_names("build", &[1, 2, 3, 21, 22, 4, 5, 6]));
+    names.extend(refusal_names("inspect", &[1, 2, 3, 21, 22, 4]));
     names.extend(refusal_names("view", &[1, 2, 4, 11]));
-    names.extend(refusal_names("count", &[1, 2, 4, 11, 12, 13]));
-    names.extend(["pair", "input", "output"].map(|class| format!("count of {class}")));
+    names.extend(refusal_names("count", &[1, 2, 3, 21, 22, 4, 11, 12, 13]));
+    names.extend(["flow", "input", "output"].map(|class| format!("count of {class}")));
     names.extend(["above 0", "0", "below 0"].map(|lead| format!("count with lead {lead}")));
     names
 }
@@ -266,8 +299,26 @@ fn refusal_names(call: &str, numbers: &[u64]) -> Vec<String> {
         .collect()
 }
 
+/// The names of sheets by their flow lines.
+pub const FLOW_LINES: [&str; 4] = [
+    "sheet of 0 flow lines",
+    "sheet of 1 to 511 flow lines",
+    "sheet of 512 flow lines",
+    "sheet of 513 flow lines or more",
+];
+
+/// What the lists that are built must have been like.
+const SORTS_OF_LIST: [&str; 5] = [
+    NO_FLOWS,
+    MOST,
+    SEVERAL_ON_A_PAIR,
+    WITHOUT_CELLS,
+    IN_MATRIX_ORDER,
+];
+
 /// What the chains of calls must have come upon.
-const CHAIN_EVENTS: [&str; 6] = [
+const CHAIN_EVENTS: [&str; 7] = [
+    CHAIN_CHANGED,
     "chain call accepted",
     "chain call refused",
     "chain call refused before any accepted",

@@ -17,7 +17,7 @@ fn main() -> ExitCode {
     words.retain(|word| word != "--million");
     let calls = if million { 1_000_000 } else { CALLS };
     let settings = read_settings(words.into_iter(), calls / HostileKind::ALL.len() as u64);
-    let in_c = InC::default();
+    let (in_c, library) = (InC::default(), Library::default());
     let faces = [
         Face {
             name: "C",
@@ -25,7 +25,7 @@ fn main() -> ExitCode {
         },
         Face {
             name: "Rust",
-            calls: &Library,
+            calls: &library,
         },
     ];
     run_as_told(settings, USAGE, |settings| run_hostile(&faces, settings))

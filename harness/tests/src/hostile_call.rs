@@ -4,19 +4,19 @@ use std::fmt::{self, Display, Formatter};
 
 use calls::Class;
 use loads::{
-    damage, hostile_length, hostile_number, load_of_shape, random_shape, Call, Damage, LengthKind,
-    LoadKind, Random, Shape, HOSTILE,
+    damage, hostile_length, hostile_number, hostile_port, load_of_shape, random_shape, Call,
+    Damage, LengthKind, LoadKind, Random, Shape, FLOW_NUMBERS, HOSTILE, MOST_FLOWS,
 };
 
 use crate::hits::Hits;
-use crate::query_case::any_bytes;
+use crate::query_case::any_entries;
 use crate::share_case::random_class;
 
-/// The most counts of an overlong matrix, four of sixteen ports.
-const MOST_COUNTS: usize = 4 * 256;
+/// The most numbers of an overlong list, those of four of the longest.
+const MOST_NUMBERS: usize = 4 * MOST_FLOWS * FLOW_NUMBERS;
 
-/// The most bytes of an overlong frame, two of the longest.
-const MOST_BYTES: usize = 2 * 16_384;
+/// The most entries of an overlong frame, two of the longest.
+const MOST_ENTRIES: usize = 2 * 16_384;
 
 loads::kinds! {
     /// The call that is made.
@@ -36,14 +36,7 @@ impl HostileKind {
             HostileKind::Admit | HostileKind::Build | HostileKind::Inspect => &["ports", "slots"],
             HostileKind::View => &["ports", "slots", "slot"],
             HostileKind::Count => &[
-                "ports",
-                "slots",
-                "start",
-                "length",
-                "input of pair",
-                "output of pair",
-                "input",
-                "output",
+                "ports", "slots", "start", "length", "flow", "input", "output",
             ],
         }
     }
@@ -51,9 +44,9 @@ impl HostileKind {
     /// The places for a slice.
     pub fn slices(self) -> &'static [&'static str] {
         match self {
-            HostileKind::Admit => &["matrix"],
-            HostileKind::Build | HostileKind::Inspect => &["matrix", "frame"],
-            HostileKind::View | HostileKind::Count => &["frame"],
+            HostileKind::Admit => &["list"],
+            HostileKind::Build | HostileKind::Inspect | HostileKind::Count => &["list", "frame"],
+            HostileKind::View => &["frame"],
         }
     }
 }
@@ -66,7 +59,7 @@ pub fn name_of(kind: HostileKind, place: &str, given: impl Display) -> String {
 /// What a call is given; not every call takes all of it.
 pub struct Given {
     pub call: Call,
-    pub frame: Vec<u8>,
+    pub frame: Vec<u16>,
     pub class: Class,
     pub slot: u64,
     pub length: u64,
@@ -75,10 +68,10 @@ pub struct Given {
 impl Display for Given {
     fn fmt(&self, to: &mut Formatter<'_>) -> fmt::Result {
         let Call { ports, slots, .. } = self.call;
-        let (counts, bytes) = (self.call.matrix.len(), self.frame.len());
+        let (numbers, entries) = (self.call.list.len(), self.frame.len());
         write!(
             to,
-            "{ports} ports, {slots} slots, {counts} counts, {bytes} bytes, "
+            "{ports} ports, {slots} slots, {numbers} numbers, {entries} entries, "
         )?;
         write!(
             to,
@@ -106,16 +99,16 @@ fn good_call(kind: HostileKind, random: &mut Random) -> Given {
     let shape = random_shape(random);
     let loads = match kind {
         HostileKind::Inspect => &LoadKind::FITTING,
-        _ => &LoadKind::ALL[..LoadKind::ALL.len() - 1],
+        _ => &LoadKind::ALL[..LoadKind::ALL.len() - 4],
     };
     let mut call = load_of_shape(random.pick(loads), shape, random);
     let frame = match kind {
         HostileKind::Admit => Vec::new(),
-        HostileKind::Build => random.bytes(call.frame_length),
+        HostileKind::Build => random.entries(call.frame_length),
         _ => any_frame(shape, &mut call, random),
     };
     Given {
-        class: random_class(call.ports, random),
+        class: random_class(call.ports, call.flows(), random),
         slot: random.between(1, call.slots),
         length: random.between(0, 3 * call.slots),
         call,
@@ -123,9 +116,9 @@ fn good_call(kind: HostileKind, random: &mut Random) -> Given {
     }
 }
 
-/// A frame of any bytes, often built and damaged.
-fn any_frame(shape: Shape, call: &mut Call, random: &mut Random) -> Vec<u8> {
-    let mut frame = any_bytes(call, random);
+/// A frame of any entries, often built and damaged.
+fn any_frame(shape: Shape, call: &mut Call, random: &mut Random) -> Vec<u16> {
+    let mut frame = any_entries(call, random);
     let kind = random.pick(&Damage::ALL[..Damage::ALL.len() - 1]);
     damage(kind, shape, call, &mut frame, random);
     frame
@@ -157,28 +150,38 @@ impl Spoiler<'_> {
 
     fn spoil_slices(&mut self, given: &mut Given) {
         let Call { ports, slots, .. } = given.call;
-        if self.kind.slices().contains(&"matrix") {
-            let matrix = &mut given.call.matrix;
-            let length = self.length(
-                "matrix",
-                ports.wrapping_mul(ports),
-                matrix.len(),
-                MOST_COUNTS,
-            );
-            matrix.resize_with(length, || self.random.draw() as u16);
+        if self.kind.slices().contains(&"list") {
+            self.spoil_list(&mut given.call.list, ports);
         }
         if self.kind.slices().contains(&"frame") {
             let frame = &mut given.frame;
-            let length = self.length("frame", slots.wrapping_mul(ports), frame.len(), MOST_BYTES);
-            frame.resize_with(length, || self.random.draw() as u8);
+            let product = slots.wrapping_mul(ports);
+            let length = self.length("frame", product, frame.len(), MOST_ENTRIES);
+            frame.resize_with(length, || self.random.draw() as u16);
+        }
+    }
+
+    /// A list of another length, whose further numbers are ports of the switch or any, and now and then a flow with another port.
+    fn spoil_list(&mut self, list: &mut Vec<u16>, ports: u64) {
+        let good = list.len();
+        let length = self.length("list", good as u64, good, MOST_NUMBERS);
+        let most = if self.random.one_in(2) {
+            ports.clamp(1, 16)
+        } else {
+            u16::MAX.into()
+        };
+        list.resize_with(length, || self.random.between(1, most) as u16);
+        if list.len() >= FLOW_NUMBERS && self.is_hostile() && self.random.one_in(2) {
+            let flow = self.random.place(list.len() / FLOW_NUMBERS);
+            let place = flow * FLOW_NUMBERS + self.random.place(2);
+            list[place] = hostile_port(list[place], self.random);
         }
     }
 
     fn class(&mut self, class: Class) -> Class {
         match class {
-            Class::Pair { input, output } => Class::Pair {
-                input: self.number("input of pair", input),
-                output: self.number("output of pair", output),
+            Class::Flow { number } => Class::Flow {
+                number: self.number("flow", number),
             },
             Class::Input { port } => Class::Input {
                 port: self.number("input", port),
@@ -204,9 +207,9 @@ impl Spoiler<'_> {
         number
     }
 
-    /// A length next to what the numbers of the call multiply to in 64 bits, or to the good one where that is too long to lend.
-    fn length(&mut self, place: &str, product: u64, good: usize, longest: usize) -> usize {
-        let exact = match product as usize {
+    /// A length next to the one that the call asks for in 64 bits, or to the good one where that is too long to lend.
+    fn length(&mut self, place: &str, asked: u64, good: usize, longest: usize) -> usize {
+        let exact = match asked as usize {
             lent if lent <= longest => lent,
             _ => good,
         };

@@ -3,7 +3,7 @@
 use calls::Calls;
 use loads::{LengthKind, Random, HOSTILE};
 
-use crate::build_case::{admit_and_compare, build_and_compare, lend_bytes};
+use crate::build_case::{admit_and_compare, build_and_compare, lend};
 use crate::hits::{outcomes, Hits};
 use crate::hostile_call::{hostile_call, name_of, Given, HostileKind};
 use crate::inspect_case::inspect_and_compare;
@@ -72,7 +72,7 @@ fn make_call(
     hits: &mut Hits,
 ) -> Verdict {
     let call = &given.call;
-    let mut frame = lend_bytes(&given.frame, random);
+    let mut frame = lend(&given.frame, random);
     match kind {
         HostileKind::Admit => admit_and_compare(calls, call, random, hits),
         HostileKind::Build => {
@@ -87,7 +87,7 @@ fn make_call(
         HostileKind::View => view_and_compare(calls, call, &frame, given.slot, random, hits),
         HostileKind::Count => {
             let run = (given.slot, given.length);
-            count_and_compare(calls, call, &frame, given.class, run, hits)
+            count_and_compare(calls, call, &frame, given.class, run, random, hits)
         }
     }
 }

@@ -1,18 +1,22 @@
 //! Cases of Inspect.
 
 use calls::{Calls, Inspection};
-use loads::{damage, load_of_shape, random_shape, unbalance_total};
-use loads::{Block, Call, Damage, LoadKind, Random, Shape};
+use loads::{damage, load_of_shape, random_shape, unbalance_total, uneven};
+use loads::{Block, Call, Damage, LoadKind, Random, Shape, Uneven};
 
-use crate::build_case::{lend_bytes, lend_matrix};
-use crate::hits::{Hits, TOTAL_UNBALANCED};
+use crate::build_case::lend;
+use crate::hits::{Hits, DAMAGED, FLOW_UNBALANCED, INPUT_UNBALANCED};
+use crate::hits::{OUTPUT_UNBALANCED, TOTAL_UNBALANCED};
 use crate::lent::Lent;
 use crate::verdict::{expect_equal, Verdict};
 
 /// Loads that fit and are dense enough for damage to show.
-const DENSE: [LoadKind; 8] = [
+const DENSE: [LoadKind; 11] = [
     LoadKind::Full,
     LoadKind::Scattered,
+    LoadKind::MostFlows,
+    LoadKind::ManyOdd,
+    LoadKind::OnePair,
     LoadKind::Permutation,
     LoadKind::Apart,
     LoadKind::Groups,
@@ -32,35 +36,73 @@ pub fn check_inspection(
     let mut call = load_of_shape(random.pick(&DENSE), shape, random);
     let mut frame = built(&call);
     damage(kind, shape, &mut call, &mut frame, random);
-    let frame = lend_bytes(&frame, random);
+    if kind != Damage::Whole {
+        hits.add(DAMAGED);
+    }
+    let frame = lend(&frame, random);
     inspect_and_compare(candidate, &call, &frame, random, hits)?;
     Ok(())
 }
 
-/// Unbalances a block of a built frame in its total alone. Inspect must find that block, which is known without an inspector.
+/// Unbalances a block of a built frame in its total alone; Inspect must find that block, which is known without an inspector.
 pub fn check_total(candidate: &dyn Calls, random: &mut Random, hits: &mut Hits) -> Verdict {
-    let size: usize = 1 << random.between(1, 10);
+    let (shape, block) = block_of_frame(1, random);
+    let unbalanced = unbalance_total(shape, block, built, random);
+    expect_block(candidate, unbalanced, block, random, hits)?;
+    hits.add_at(TOTAL_UNBALANCED, block.size.trailing_zeros());
+    Ok(())
+}
+
+/// The same in some flows, in an input or in an output alone.
+pub fn check_uneven(
+    candidate: &dyn Calls,
+    by: Uneven,
+    random: &mut Random,
+    hits: &mut Hits,
+) -> Verdict {
+    let (shape, block) = block_of_frame(2, random);
+    let unbalanced = uneven(by, shape, block, random);
+    expect_block(candidate, unbalanced, block, random, hits)?;
+    let name = match by {
+        Uneven::Flow => FLOW_UNBALANCED,
+        Uneven::Input => INPUT_UNBALANCED,
+        Uneven::Output => OUTPUT_UNBALANCED,
+    };
+    hits.add_at(name, block.size.trailing_zeros());
+    Ok(())
+}
+
+/// A shape of two ports or more, and a block of its frame of 2^least slots or more.
+fn block_of_frame(least: u64, random: &mut Random) -> (Shape, Block) {
+    let size: usize = 1 << random.between(least, 10);
     let shape = Shape {
         ports: random.between(2, 16) as usize,
         slots: size << random.between(0, 10 - u64::from(size.trailing_zeros())),
     };
-    let block = Block::of_size(size, shape.slots, random);
-    let (call, frame) = unbalance_total(shape, block, built, random);
-    let frame = lend_bytes(&frame, random);
+    (shape, Block::of_size(size, shape.slots, random))
+}
+
+/// Holds what Inspect finds in a frame against the reference and against the block that was unbalanced.
+fn expect_block(
+    candidate: &dyn Calls,
+    (call, frame): (Call, Vec<u16>),
+    block: Block,
+    random: &mut Random,
+    hits: &mut Hits,
+) -> Verdict {
+    let frame = lend(&frame, random);
     let given = inspect_and_compare(candidate, &call, &frame, random, hits)?;
     let fault = Inspection::UnbalancedBlock {
         slot: block.slot as u64,
         size: block.size as u64,
     };
-    expect_equal("inspect of an unbalanced total", &given, &fault)?;
-    hits.add_at(TOTAL_UNBALANCED, block.size.trailing_zeros());
-    Ok(())
+    expect_equal("inspect of an unbalanced block", &given, &fault)
 }
 
 /// The reference's frame of a load that fits.
-fn built(call: &Call) -> Vec<u8> {
+fn built(call: &Call) -> Vec<u16> {
     let mut frame = vec![0; call.frame_length];
-    let answer = reference::build(call.ports, call.slots, &call.matrix, &mut frame);
+    let answer = reference::build(call.ports, call.slots, &call.list, &mut frame);
     answer.expect("the load fits");
     frame
 }
@@ -69,17 +111,17 @@ fn built(call: &Call) -> Vec<u8> {
 pub fn inspect_and_compare(
     candidate: &dyn Calls,
     call: &Call,
-    frame: &Lent<u8>,
+    frame: &Lent,
     random: &mut Random,
     hits: &mut Hits,
 ) -> Result<Inspection, String> {
-    let matrix = lend_matrix(&call.matrix, random);
-    let (matrix_before, frame_before) = (matrix.clone(), frame.clone());
-    let given = candidate.inspect(call.ports, call.slots, matrix.part(), frame.part());
-    let right = reference::inspect(call.ports, call.slots, &call.matrix, frame_before.part());
+    let list = lend(&call.list, random);
+    let (list_before, frame_before) = (list.clone(), frame.clone());
+    let given = candidate.inspect(call.ports, call.slots, list.part(), frame.part());
+    let right = reference::inspect(call.ports, call.slots, &call.list, frame_before.part());
     hits.add(name_of(right));
     expect_equal("inspect", &given, &right)?;
-    matrix.expect_same("matrix after inspect", &matrix_before)?;
+    list.expect_same("list after inspect", &list_before)?;
     frame.expect_same("frame after inspect", &frame_before)?;
     Ok(given)
 }
@@ -88,9 +130,9 @@ pub fn inspect_and_compare(
 fn name_of(inspection: Inspection) -> String {
     match inspection {
         Inspection::Clean => "inspect clean".into(),
-        Inspection::ByteTooLarge { .. } => "inspect byte too large".into(),
+        Inspection::WrongEntry { .. } => "inspect wrong entry".into(),
         Inspection::OutputTwice { .. } => "inspect output twice".into(),
-        Inspection::PairCount { .. } => "inspect pair count".into(),
+        Inspection::FlowCount { .. } => "inspect flow count".into(),
         Inspection::UnbalancedBlock { size, .. } => format!("inspect unbalanced block of {size}"),
         Inspection::Refused(refusal) => format!("inspect refusal {}", refusal.number()),
     }

@@ -1,12 +1,12 @@
 //! The kinds of random case.
 
 use calls::{Calls, SheetProgram};
-use loads::{Damage, LoadKind, Random, SheetKind};
+use loads::{Damage, LoadKind, Random, SheetKind, Uneven};
 
 use crate::build_case::{check_admit, check_build};
 use crate::chain_case::{check_chain, ChainKind};
 use crate::hits::Hits;
-use crate::inspect_case::{check_inspection, check_total};
+use crate::inspect_case::{check_inspection, check_total, check_uneven};
 use crate::lead_case::check_leads;
 use crate::query_case::{check_count, check_view, RunKind, ViewKind};
 use crate::row_case::check_row;
@@ -19,6 +19,7 @@ pub enum Kind {
     Admit(LoadKind),
     Build(LoadKind),
     Inspect(Damage),
+    InspectUneven(Uneven),
     InspectTotal,
     View(ViewKind),
     Count(RunKind),
@@ -34,6 +35,7 @@ impl Kind {
         kinds.extend(LoadKind::ALL.iter().copied().map(Kind::Admit));
         kinds.extend(LoadKind::ALL.iter().copied().map(Kind::Build));
         kinds.extend(Damage::ALL.iter().copied().map(Kind::Inspect));
+        kinds.extend(Uneven::ALL.iter().copied().map(Kind::InspectUneven));
         kinds.push(Kind::InspectTotal);
         kinds.extend(ViewKind::ALL.iter().copied().map(Kind::View));
         kinds.extend(RunKind::ALL.iter().copied().map(Kind::Count));
@@ -48,6 +50,7 @@ impl Kind {
             Kind::Admit(kind) => ("admit", kind.name()),
             Kind::Build(kind) => ("build", kind.name()),
             Kind::Inspect(kind) => ("inspect", kind.name()),
+            Kind::InspectUneven(by) => ("inspect", by.name()),
             Kind::InspectTotal => ("inspect", "total"),
             Kind::View(kind) => ("view", kind.name()),
             Kind::Count(kind) => ("count", kind.name()),
@@ -70,6 +73,7 @@ impl Kind {
             Kind::Admit(kind) => check_admit(candidate, kind, random, hits),
             Kind::Build(kind) => check_build(candidate, kind, random, hits),
             Kind::Inspect(kind) => check_inspection(candidate, kind, random, hits),
+            Kind::InspectUneven(by) => check_uneven(candidate, by, random, hits),
             Kind::InspectTotal => check_total(candidate, random, hits),
             Kind::View(kind) => check_view(candidate, kind, random, hits),
             Kind::Count(kind) => check_count(candidate, kind, random, hits),

@@ -1,29 +1,32 @@
 //! Cases of the lead: in a frame that the candidate built, the runs that stray furthest from their share.
 
 use calls::{Calls, Class, Count, Service};
-use loads::{load_of_shape, random_shape, Call, Flow, LoadKind, Random, Seam, Shape};
+use loads::{load_of_shape, random_shape, Call, Followed, LoadKind, Random, Seam, Shape};
 use reference::queue::{pass, Source};
 use reference::wire::{deviation, Course, Run, Whose};
 use reference::LONGEST_RUN;
 
-use crate::build_case::{lend_bytes, wire_frame};
+use crate::build_case::{lend, wire_frame};
 use crate::chain_case::straying_load;
 use crate::hits::{Hits, LEAD_REACHED};
 use crate::lent::Lent;
-use crate::share_case::class_of;
+use crate::share_case::{class_of, every_class};
 use crate::verdict::{expect, expect_equal, Verdict};
 
 /// The slots that a case looks at, all its classes together.
 const SLOTS: usize = 8_192;
 
+/// The most classes that it looks at.
+const CLASSES: usize = 300;
+
 /// A frame that the candidate built, to be counted by it.
 struct Built<'b> {
     candidate: &'b dyn Calls,
     call: &'b Call,
-    frame: &'b Lent<u8>,
+    frame: &'b Lent,
 }
 
-/// Builds a load that fits, and counts the pairs, inputs and outputs of its frame, and all cells of it.
+/// Builds a load that fits, and counts the flows, inputs and outputs of its frame, and all cells of it.
 pub fn check_leads(candidate: &dyn Calls, random: &mut Random, hits: &mut Hits) -> Verdict {
     let shape = random_shape(random);
     let flow = straying_flow(shape, random);
@@ -31,8 +34,8 @@ pub fn check_leads(candidate: &dyn Calls, random: &mut Random, hits: &mut Hits) 
         Some(flow) => straying_load(flow, shape, random),
         None => load_of_shape(random.pick(&LoadKind::FITTING), shape, random),
     };
-    let mut frame = lend_bytes(&random.bytes(call.frame_length), random);
-    let answer = candidate.build(call.ports, call.slots, &call.matrix, frame.part_mut());
+    let mut frame = lend(&random.entries(call.frame_length), random);
+    let answer = candidate.build(call.ports, call.slots, &call.list, frame.part_mut());
     expect(answer.is_ok(), || format!("build: {answer:?}"))?;
     hits.add(format!("leads of a frame of {} slots", call.slots));
     let before = frame.clone();
@@ -42,7 +45,7 @@ pub fn check_leads(candidate: &dyn Calls, random: &mut Random, hits: &mut Hits) 
         frame: &frame,
     };
     let turns = vec![wire_frame(&call, frame.part()); 2];
-    for class in classes_of(shape, flow, random) {
+    for class in classes_of(&call, flow, random) {
         built.check(class, &Course::of(&turns, class), random, hits)?;
     }
     built.check_total(&Course::of(&turns, Whose::Total), random, hits)?;
@@ -50,33 +53,26 @@ pub fn check_leads(candidate: &dyn Calls, random: &mut Random, hits: &mut Hits) 
 }
 
 /// In one case of three, a flow that has the cells of a seam.
-fn straying_flow(shape: Shape, random: &mut Random) -> Option<Flow> {
-    let seam = Seam::of_shape(shape).filter(|_| random.one_in(3));
-    seam.map(|seam| Flow::random(shape, seam.cells, random))
+fn straying_flow(shape: Shape, random: &mut Random) -> Option<Followed> {
+    let seam = Seam::of_slots(shape.slots).filter(|_| random.one_in(3));
+    seam.map(|seam| Followed::random(seam.cells, random))
 }
 
-/// Every pair, input and output in random order, the flow of the seam first; fewer where the frame is long.
-fn classes_of(shape: Shape, flow: Option<Flow>, random: &mut Random) -> Vec<Class> {
-    let ports = 1..=shape.ports as u64;
-    let pairs = ports.clone().flat_map(|input| {
-        let outputs = ports.clone();
-        outputs.map(move |output| Class::Pair { input, output })
-    });
-    let of_ports = ports
-        .clone()
-        .flat_map(|port| [Class::Input { port }, Class::Output { port }]);
-    let mut classes: Vec<Class> = pairs.chain(of_ports).collect();
+/// Every flow, input and output in random order, the flow of the seam first; fewer where there are many or the frame is long.
+fn classes_of(call: &Call, flow: Option<Followed>, random: &mut Random) -> Vec<Class> {
+    let mut classes: Vec<Class> = every_class(call.ports, call.flows()).collect();
     random.shuffle(&mut classes);
     let straying = flow.map(class_of).into_iter();
-    straying.chain(classes).take(SLOTS / shape.slots).collect()
+    let number = (SLOTS / call.slots as usize).min(CLASSES);
+    straying.chain(classes).take(number).collect()
 }
 
 impl Built<'_> {
     fn count(&self, class: Class, start: u64, length: u64) -> Service {
         let Call { ports, slots, .. } = *self.call;
-        let bytes = self.frame.part();
+        let (list, frame, run) = (&self.call.list, self.frame.part(), (start, length));
         self.candidate
-            .service_count(ports, slots, bytes, class, start, length)
+            .service_count(ports, slots, list, frame, class, run)
     }
 
     /// Holds a whole turn to the load, and the runs that get furthest ahead and fall furthest behind to the bounds; the
@@ -142,8 +138,8 @@ impl Built<'_> {
         let start = run.start as u64 % slots + 1;
         let length = run.length as u64;
         let given = self.count(class, start, length);
-        let bytes = self.frame.part();
-        let right = reference::service_count(ports, slots, bytes, class, start, length);
+        let (list, frame) = (&self.call.list, self.frame.part());
+        let right = reference::service_count(ports, slots, list, frame, class, start, length);
         let what = format!("count of {class:?}, {length} slots from {start}");
         expect_equal(&what, &given, &right)?;
         let Count { cells, lead } = given.map_err(|refusal| format!("{what}: {refusal:?}"))?;

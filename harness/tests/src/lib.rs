@@ -27,6 +27,6 @@ pub use hits::Hits;
 pub use hostile_call::HostileKind;
 pub use hostile_case::{run_hostile, Face};
 pub use kind::Kind;
-pub use query_case::any_bytes;
+pub use query_case::any_entries;
 pub use runner::{run, Report, Settings};
 pub use wait_case::{check_each_cell, check_paced, check_waits};

@@ -4,7 +4,7 @@ use calls::{Calls, Class, Count};
 use loads::{junk_number, load_of_shape, random_shape, Call, LoadKind, Random};
 use reference::LONGEST_RUN;
 
-use crate::build_case::lend_bytes;
+use crate::build_case::lend;
 use crate::hits::Hits;
 use crate::lent::Lent;
 use crate::share_case::random_class;
@@ -30,7 +30,7 @@ loads::kinds! {
     }
 }
 
-/// Holds views against the bytes of the frame itself, by place.
+/// Holds views against the entries of the frame itself, by place.
 pub fn check_view(
     candidate: &dyn Calls,
     kind: ViewKind,
@@ -50,11 +50,11 @@ pub fn check_view(
     Ok(())
 }
 
-/// The view must be the frame's own bytes, and the lent number must be written.
+/// The view must be the frame's own entries, and the lent number must be written.
 pub fn view_and_compare(
     candidate: &dyn Calls,
     call: &Call,
-    frame: &Lent<u8>,
+    frame: &Lent,
     slot: u64,
     random: &mut Random,
     hits: &mut Hits,
@@ -89,67 +89,75 @@ pub fn check_count(
 ) -> Verdict {
     let (call, frame) = any_frame(kind == RunKind::Junk, random);
     let run = start_and_length(kind, call.slots, random);
-    let mut class = random_class(call.ports.clamp(1, 16), random);
+    let mut class = random_class(call.ports.clamp(1, 16), call.flows(), random);
     if kind == RunKind::Junk && random.one_in(3) {
-        class = junk_class(call.ports, random);
+        class = junk_class(&call, random);
     }
-    count_and_compare(candidate, &call, &frame, class, run, hits)
+    count_and_compare(candidate, &call, &frame, class, run, random, hits)
 }
 
 /// Counts with the candidate and the reference, in a run given by its start and its length, and compares.
 pub fn count_and_compare(
     candidate: &dyn Calls,
     call: &Call,
-    frame: &Lent<u8>,
+    frame: &Lent,
     class: Class,
-    (start, length): (u64, u64),
+    run: (u64, u64),
+    random: &mut Random,
     hits: &mut Hits,
 ) -> Verdict {
-    let before = frame.clone();
-    let bytes = frame.part();
-    let given = candidate.service_count(call.ports, call.slots, bytes, class, start, length);
-    let right = reference::service_count(call.ports, call.slots, bytes, class, start, length);
+    let list = lend(&call.list, random);
+    let (list_before, frame_before) = (list.clone(), frame.clone());
+    let Call { ports, slots, .. } = *call;
+    let entries = frame.part();
+    let given = candidate.service_count(ports, slots, list.part(), entries, class, run);
+    let right = reference::service_count(ports, slots, &call.list, entries, class, run.0, run.1);
     hits.add(outcome("count", &right));
     if let Ok(Count { lead, .. }) = right {
         hits.add(format!("count of {}", class_name(class)));
         hits.add(format!("count with lead {}", lead_name(lead)));
     }
     expect_equal("count", &given, &right)?;
-    frame.expect_same("frame after count", &before)
+    list.expect_same("list after count", &list_before)?;
+    frame.expect_same("frame after count", &frame_before)
 }
 
-/// A frame of random bytes or a built one, in a shape that may be wrong.
-fn any_frame(junk: bool, random: &mut Random) -> (Call, Lent<u8>) {
+/// A list, and a frame of random entries or its own, in a shape that may be wrong.
+fn any_frame(junk: bool, random: &mut Random) -> (Call, Lent) {
     let shape = random_shape(random);
-    let mut call = load_of_shape(LoadKind::Scattered, shape, random);
-    let mut bytes = any_bytes(&call, random);
+    let kind = random.pick(&[LoadKind::Scattered, LoadKind::Sparse, LoadKind::NoFlows]);
+    let mut call = load_of_shape(kind, shape, random);
+    let mut entries = any_entries(&call, random);
     if junk {
-        call = load_of_shape(LoadKind::Junk, shape, random);
-        bytes.resize(call.frame_length, 1);
+        let kind = random.pick(&[LoadKind::Junk, LoadKind::Junk, LoadKind::TooManyFlows]);
+        call = load_of_shape(kind, shape, random);
+        entries.resize(call.frame_length, 1);
     }
-    let frame = lend_bytes(&bytes, random);
+    let frame = lend(&entries, random);
     (call, frame)
 }
 
-/// Bytes for a frame: any bytes, or any outputs, or those that Build leaves, or one output for all inputs and then nothing.
-pub fn any_bytes(call: &Call, random: &mut Random) -> Vec<u8> {
-    let mut bytes = random.bytes(call.frame_length);
+/// Entries for a frame: any, or any flows and some that are none, or those that Build leaves, or one flow for all inputs and then
+/// nothing.
+pub fn any_entries(call: &Call, random: &mut Random) -> Vec<u16> {
+    let mut entries = random.entries(call.frame_length);
+    let flows = call.flows() as u64;
     match random.below(4) {
-        0 => bytes.fill_with(|| random.between(0, call.ports) as u8),
+        0 => entries.fill_with(|| random.between(0, flows + 1) as u16),
         1 => drop(reference::build(
             call.ports,
             call.slots,
-            &call.matrix,
-            &mut bytes,
+            &call.list,
+            &mut entries,
         )),
         2 => {
-            let (busy, idle) = bytes.split_at_mut(random.place(call.frame_length + 1));
-            busy.fill(random.between(1, call.ports) as u8);
+            let (busy, idle) = entries.split_at_mut(random.place(call.frame_length + 1));
+            busy.fill(random.between(1, flows.max(1)) as u16);
             idle.fill(0);
         }
         _ => {}
     }
-    bytes
+    entries
 }
 
 /// A start slot and a length of the kind.
@@ -188,27 +196,19 @@ fn random_number(good: u64, random: &mut Random) -> u64 {
     }
 }
 
-/// A class that names a port outside the switch, one that may still fit a byte.
-fn junk_class(ports: u64, random: &mut Random) -> Class {
-    let outside = random.pick(&[
-        0,
-        17,
-        255,
-        256,
-        u64::MAX,
-        ports.wrapping_add(1),
-        (1 << 32) + 1,
-    ]);
+/// A class that names a port outside the switch or a flow that is not in the list, one that may still fit a byte or 16 bits.
+fn junk_class(call: &Call, random: &mut Random) -> Class {
+    let far = random.pick(&[0, 17, 255, 256, u64::MAX, (1 << 32) + 1]);
+    let outside = |last: u64, random: &mut Random| random.pick(&[last.wrapping_add(1), far]);
     match random.below(4) {
-        0 => Class::Input { port: outside },
-        1 => Class::Output { port: outside },
-        2 => Class::Pair {
-            input: outside,
-            output: 1,
+        0 => Class::Input {
+            port: outside(call.ports, random),
         },
-        _ => Class::Pair {
-            input: 1,
-            output: outside,
+        1 => Class::Output {
+            port: outside(call.ports, random),
+        },
+        _ => Class::Flow {
+            number: random.pick(&[call.flows() as u64 + 1, 513, 1 << 16, (1 << 16) + 1, far]),
         },
     }
 }
@@ -223,7 +223,7 @@ fn lead_name(lead: i64) -> &'static str {
 
 fn class_name(class: Class) -> &'static str {
     match class {
-        Class::Pair { .. } => "pair",
+        Class::Flow { .. } => "flow",
         Class::Input { .. } => "input",
         Class::Output { .. } => "output",
     }

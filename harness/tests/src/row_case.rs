@@ -1,11 +1,11 @@
 //! Rows of switches: a flow, or all cells together, pass from one to the next, each with a chain of frames of its own.
 
 use calls::Calls;
-use loads::{load_of_total, Call, Company, Flow, Random, Seam, Shape};
+use loads::{load_of_total, Call, Company, Followed, Random, Seam, Shape};
 use reference::queue::{ahead_behind_a_switch, pass_row, Switch};
 use reference::wire::{Course, Frame, Whose};
 
-use crate::build_case::{build_and_compare, lend_bytes, wire_frame};
+use crate::build_case::{build_and_compare, lend, wire_frame};
 use crate::hits::Hits;
 use crate::queue_case::random_bursts;
 use crate::share_case::class_of;
@@ -33,7 +33,7 @@ struct Row {
 /// Who is counted in one switch of a row.
 #[derive(Clone, Copy)]
 enum Counted {
-    Flow { flow: Flow, strays: bool },
+    Flow { flow: Followed, strays: bool },
     Total,
 }
 
@@ -105,7 +105,7 @@ impl Row {
             ports: ports.max(least),
             slots: self.slots,
         };
-        let counted = self.counted(shape, random);
+        let counted = self.counted(random);
         let chain = self.chain(candidate, counted, shape, random, hits)?;
         let latest = random.pick(&[5, 5, 5, self.slots as u64]);
         Ok(Switch {
@@ -114,11 +114,11 @@ impl Row {
         })
     }
 
-    /// The total, or a flow at any two ports of the switch.
-    fn counted(&self, shape: Shape, random: &mut Random) -> Counted {
+    /// The total, or a flow with some number at the switch.
+    fn counted(&self, random: &mut Random) -> Counted {
         match self.passing {
             Passing::Flow { strays } => Counted::Flow {
-                flow: Flow::random(shape, self.cells as u16, random),
+                flow: Followed::random(self.cells as u16, random),
                 strays,
             },
             Passing::Total { .. } => Counted::Total,
@@ -134,7 +134,7 @@ impl Row {
         random: &mut Random,
         hits: &mut Hits,
     ) -> Result<Vec<Frame>, String> {
-        let mut buffer = lend_bytes(&random.bytes(shape.frame_length()), random);
+        let mut buffer = lend(&random.entries(shape.frame_length()), random);
         let mut chain = Vec::new();
         while chain.len() < self.frames {
             let call = counted.load(shape, self.cells, random);

@@ -1,7 +1,7 @@
 //! How far classes and the total stray from their share on a chain.
 
 use calls::Class;
-use loads::{Flow, Random};
+use loads::{Followed, Random};
 use reference::wire::{self, deviation, Course, Frame, Run, Whose};
 
 use crate::hits::{Hits, RUN_REACHED, TOTAL_REACHED};
@@ -43,33 +43,31 @@ pub fn expect_share(course: &Course, whose: Whose, run: Run) -> Verdict {
     })
 }
 
-/// Every pair, input and output of a switch with so many ports.
-pub fn every_class(ports: u64) -> impl Iterator<Item = Class> {
-    let pairs = (1..=ports)
-        .flat_map(move |input| (1..=ports).map(move |output| Class::Pair { input, output }));
+/// Every flow of so many, and every input and output of a switch with so many ports.
+pub fn every_class(ports: u64, flows: usize) -> impl Iterator<Item = Class> {
+    let flows = (1..=flows as u64).map(|number| Class::Flow { number });
     let inputs = (1..=ports).map(|port| Class::Input { port });
     let outputs = (1..=ports).map(|port| Class::Output { port });
-    pairs.chain(inputs).chain(outputs)
+    flows.chain(inputs).chain(outputs)
 }
 
-/// A pair, an input or an output of a switch with so many ports.
-pub fn random_class(ports: u64, random: &mut Random) -> Class {
+/// A flow of so many, or an input or an output of a switch with so many ports.
+pub fn random_class(ports: u64, flows: usize, random: &mut Random) -> Class {
     let port = random.between(1, ports);
-    match random.below(3) {
+    let sorts = if flows > 0 { 4 } else { 2 };
+    match random.below(sorts) {
         0 => Class::Input { port },
         1 => Class::Output { port },
-        _ => Class::Pair {
-            input: random.between(1, ports),
-            output: port,
+        _ => Class::Flow {
+            number: random.between(1, flows as u64),
         },
     }
 }
 
-/// The flow's pair, as Service count names it.
-pub fn class_of(flow: Flow) -> Class {
-    Class::Pair {
-        input: flow.input as u64 + 1,
-        output: flow.output as u64 + 1,
+/// The flow, as Service count names it.
+pub fn class_of(flow: Followed) -> Class {
+    Class::Flow {
+        number: flow.number as u64,
     }
 }
 

@@ -1,9 +1,9 @@
 //! Cases of the sheet program.
 
 use calls::SheetProgram;
-use loads::{sheet, Random, SheetKind};
+use loads::{sheet, Random, SheetKind, MOST_FLOWS};
 
-use crate::hits::Hits;
+use crate::hits::{Hits, FLOW_LINES};
 use crate::verdict::{expect, Verdict};
 
 /// Holds all that is printed for a sheet against what the reference prints.
@@ -17,6 +17,7 @@ pub fn check_sheet(
     let given = candidate.respond(&sheet);
     let right = reference::respond(&sheet);
     hits.add(name_of(&right));
+    hits.add(name_by_lines(&sheet));
     expect(given == right, || {
         let line = first_difference(&given, &right);
         format!(
@@ -34,6 +35,19 @@ fn name_of(response: &[u8]) -> String {
     match number {
         Some(number) => format!("sheet refusal {number}"),
         None => "sheet frame".into(),
+    }
+}
+
+/// The name a sheet goes by there, by how many of its lines begin as flow lines do.
+fn name_by_lines(sheet: &[u8]) -> &'static str {
+    let lines = sheet.split(|&byte| byte == b'\n');
+    let flows = lines.filter(|line| line.starts_with(b"(pair ")).count();
+    let [none, some, most, too_many] = FLOW_LINES;
+    match flows {
+        0 => none,
+        1..MOST_FLOWS => some,
+        MOST_FLOWS => most,
+        _ => too_many,
     }
 }
 

@@ -18,17 +18,21 @@ fn hostile(calls: &(dyn Calls + Sync), kind: &str, count: u64) -> Report {
 /// A builder with this one call replaced is sent back.
 macro_rules! sent_back {
     ($call:ident: $function:ident, $kind:literal) => {
+        sent_back!($call: $function, $kind, 400);
+    };
+    ($call:ident: $function:ident, $kind:literal, $count:literal) => {
         let builder = Broken {
             $call: broken::$function,
             ..Broken::default()
         };
-        assert!(!hostile(&builder, $kind, 400).failures.is_empty());
+        assert!(!hostile(&builder, $kind, $count).failures.is_empty());
     };
 }
 
 #[test]
 fn right_builders_are_not_sent_back() {
-    for builder in [&Reference as &(dyn Calls + Sync), &Library, &InC::default()] {
+    let (in_c, library) = (InC::default(), Library::default());
+    for builder in [&Reference as &(dyn Calls + Sync), &library, &in_c] {
         assert!(hostile(builder, "hostile/", 100).failures.is_empty());
     }
 }
@@ -39,6 +43,7 @@ fn numbers_cut_to_32_bits() {
     sent_back!(inspect: cut_slots, "hostile/inspect");
     sent_back!(slot_view: cut_view, "hostile/view");
     sent_back!(service_count: cut_run, "hostile/count");
+    sent_back!(service_count: cut_flow, "hostile/count", 4_000);
     sent_back!(service_count: cut_lead, "hostile/count");
 }
 
@@ -59,16 +64,33 @@ fn odd_counts_miscounted() {
 
 #[test]
 fn lengths_not_looked_at() {
-    sent_back!(admit: overlong_matrix, "hostile/admit");
+    sent_back!(admit: overlong_list, "hostile/admit");
+    sent_back!(admit: rest_left_out, "hostile/admit");
+    sent_back!(build: first_flows_built, "hostile/build");
 }
 
 #[test]
-fn a_byte_written_on_refusal() {
+fn ports_not_looked_at() {
+    sent_back!(admit: eight_bit_ports, "hostile/admit");
+}
+
+#[test]
+fn entries_not_looked_at() {
+    sent_back!(inspect: other_inputs_let_through, "hostile/inspect");
+    sent_back!(inspect: above_is_idle, "hostile/inspect");
+    sent_back!(service_count: output_by_place, "hostile/count");
+    sent_back!(service_count: flow_by_place, "hostile/count");
+    sent_back!(service_count: flows_of_input_only, "hostile/count");
+    sent_back!(service_count: unknown_flow_is_idle, "hostile/count");
+}
+
+#[test]
+fn an_entry_written_on_refusal() {
     sent_back!(build: marks_refused_frame, "hostile/build");
 }
 
 #[test]
-fn a_byte_written_outside_in_c() {
+fn an_entry_written_outside_in_c() {
     let report = hostile(&InC::writing_outside(), "hostile/build", 4);
     assert_eq!(report.failures.len(), 4);
     let mut failures = report.failures.values();

@@ -1,9 +1,9 @@
-//! Random counts of any bytes, each through C and through Rust, held against the reference with their leads.
+//! Random counts of any entries, each through C and through Rust, held against the reference with their leads.
 
 use calls::{Calls, Class, InC, Library, Reference, Service};
 use loads::{load_of_shape, random_shape, LoadKind, Random};
 use reference::LONGEST_RUN;
-use tests::any_bytes;
+use tests::any_entries;
 
 const COUNTS: usize = 12_500;
 
@@ -11,7 +11,8 @@ const COUNTS: usize = 12_500;
 struct Asked {
     ports: u64,
     slots: u64,
-    frame: Vec<u8>,
+    list: Vec<u16>,
+    frame: Vec<u16>,
     class: Class,
     start: u64,
     length: u64,
@@ -22,13 +23,15 @@ impl Asked {
         let shape = random_shape(random);
         let call = load_of_shape(LoadKind::Scattered, shape, random);
         let (ports, slots) = (call.ports, call.slots);
-        let (input, output) = (number_to(ports, random), number_to(ports, random));
+        let [input, output] = [ports; 2].map(|most| number_to(most, random));
+        let flow = number_to((call.flows() as u64).max(1), random);
         Asked {
             ports,
             slots,
-            frame: any_bytes(&call, random),
+            frame: any_entries(&call, random),
+            list: call.list,
             class: random.pick(&[
-                Class::Pair { input, output },
+                Class::Flow { number: flow },
                 Class::Input { port: input },
                 Class::Output { port: output },
             ]),
@@ -38,15 +41,8 @@ impl Asked {
     }
 
     fn answer(&self, calls: &dyn Calls) -> Service {
-        let (start, length) = (self.start, self.length);
-        calls.service_count(
-            self.ports,
-            self.slots,
-            &self.frame,
-            self.class,
-            start,
-            length,
-        )
+        let (ports, slots, run) = (self.ports, self.slots, (self.start, self.length));
+        calls.service_count(ports, slots, &self.list, &self.frame, self.class, run)
     }
 
     fn name(&self) -> String {
@@ -83,7 +79,7 @@ fn random_length(slots: u64, random: &mut Random) -> u64 {
 
 #[test]
 fn leads_through_c_and_through_rust() {
-    let in_c = InC::default();
+    let (in_c, library) = (InC::default(), Library::default());
     let mut random = Random::new(2_027);
     let (mut accepted, mut very_long, mut wrapped) = (0, 0, 0);
     let (mut ahead, mut behind) = (0, 0);
@@ -92,7 +88,7 @@ fn leads_through_c_and_through_rust() {
         let right = asked.answer(&Reference);
         assert_eq!(asked.answer(&in_c), right, "through C: {}", asked.name());
         assert_eq!(
-            asked.answer(&Library),
+            asked.answer(&library),
             right,
             "through Rust: {}",
             asked.name()

@@ -1,10 +1,10 @@
 //! Builders that would be sent back are sent back.
 
-use calls::{Calls, Class, Inspection, Reference};
-use loads::{load_beside, Random};
+use calls::{Calls, Class, Inspection, Reference, Refusal};
+use loads::{flows_of_matrix, list_of, load_beside, Random, MOST_FLOWS};
 use reference::queue::{ahead_behind_a_switch, pass_row, Depth, Switch};
 use reference::wait::{stretches, Allowed, Stretch};
-use reference::wire::{Course, Frame, Whose};
+use reference::wire::{Course, Frame, Run, Whose};
 use tests::broken::{self, Broken, BuildCall};
 use tests::{check_each_cell, check_paced, check_waits, run, Hits, Settings};
 
@@ -20,27 +20,32 @@ fn failures(builder: &(impl Calls + calls::SheetProgram + Sync), kind: &str) -> 
 }
 
 /// The frame a broken builder hands back for a load it accepts.
-fn frame_of(builder: &Broken, ports: u64, slots: u64, matrix: &[u16]) -> Vec<u8> {
-    let mut frame = vec![0xa5; (ports * slots) as usize];
-    let answer = builder.build(ports, slots, matrix, &mut frame);
+fn frame_of(builder: &Broken, ports: u64, slots: u64, list: &[u16]) -> Vec<u16> {
+    let mut frame = vec![0xa5a5; (ports * slots) as usize];
+    let answer = builder.build(ports, slots, list, &mut frame);
     assert!(answer.is_ok(), "{answer:?}");
     frame
 }
 
 /// The same as the wire carries it.
-fn carried(builder: &Broken, ports: u64, slots: u64, matrix: &[u16]) -> Frame {
+fn carried(builder: &Broken, ports: u64, slots: u64, list: &[u16]) -> Frame {
     Frame {
         ports,
         slots,
-        bytes: frame_of(builder, ports, slots, matrix),
-        matrix: matrix.to_vec(),
+        entries: frame_of(builder, ports, slots, list),
+        list: list.to_vec(),
     }
 }
 
 /// What the inspector finds in a broken builder's frame.
-fn inspected(builder: &Broken, ports: u64, slots: u64, matrix: &[u16]) -> Inspection {
-    let frame = frame_of(builder, ports, slots, matrix);
-    reference::inspect(ports, slots, matrix, &frame)
+fn inspected(builder: &Broken, ports: u64, slots: u64, list: &[u16]) -> Inspection {
+    let frame = frame_of(builder, ports, slots, list);
+    reference::inspect(ports, slots, list, &frame)
+}
+
+/// One flow for each pair of a matrix, in matrix order.
+fn every_pair(ports: usize, matrix: &[u16]) -> Vec<u16> {
+    list_of(&flows_of_matrix(ports, matrix))
 }
 
 /// A builder with this one call replaced, once the runner has sent it back.
@@ -65,25 +70,26 @@ fn the_reference_is_not_sent_back() {
 fn extra_cells_all_to_the_first_half() {
     let builder = sent_back!(build: extra_to_first_half, "build/");
     let fault = Inspection::OutputTwice { slot: 1, output: 2 };
-    assert_eq!(inspected(&builder, 2, 2, &[1, 1, 1, 1]), fault);
+    assert_eq!(inspected(&builder, 2, 2, &every_pair(2, &[1; 4])), fault);
 }
 
 #[test]
 fn partners_at_inputs_only() {
     let builder = sent_back!(build: partners_at_inputs_only, "build/");
     let fault = Inspection::OutputTwice { slot: 1, output: 1 };
-    assert_eq!(inspected(&builder, 2, 2, &[1, 1, 1, 1]), fault);
+    assert_eq!(inspected(&builder, 2, 2, &every_pair(2, &[1; 4])), fault);
 }
 
 #[test]
 fn walk_in_one_direction_only() {
     let builder = sent_back!(build: walk_one_way, "build/");
     let fault = Inspection::OutputTwice { slot: 1, output: 1 };
-    assert_eq!(inspected(&builder, 2, 2, &[1, 1, 1, 0]), fault);
+    let list = every_pair(2, &[1, 1, 1, 0]);
+    assert_eq!(inspected(&builder, 2, 2, &list), fault);
 }
 
 /// One cell from each port to its own number.
-const OWN_NUMBERS: [u16; 16] = [1, 0, 0, 0, 0, 1, 0, 0, 0, 0, 1, 0, 0, 0, 0, 1];
+const OWN_NUMBERS: [u16; 12] = [1, 1, 1, 2, 2, 1, 3, 3, 1, 4, 4, 1];
 
 #[test]
 fn groups_by_another_walk_are_not_sent_back() {
@@ -102,7 +108,7 @@ fn first_count_of_each_group_to_the_first_half() {
     assert_eq!(inspected(&builder, 4, 4, &OWN_NUMBERS), fault);
 
     let frame = carried(&builder, 4, 4, &OWN_NUMBERS);
-    assert_eq!(frame.bytes[..4], [1, 2, 3, 4], "all cells are in slot 1");
+    assert_eq!(frame.entries[..4], [1, 2, 3, 4], "all cells are in slot 1");
     let course = Course::of(&[frame], Whose::Total);
     assert!(!course.has_its_share(course.furthest_run()));
 }
@@ -114,13 +120,13 @@ fn larger_share_always_to_the_first_half() {
     assert_eq!(inspected(&builder, 4, 4, &OWN_NUMBERS), fault);
 }
 
-/// Pair (1, 1), then the partners (2, 2) and (2, 3), then pair (3, 4): two odd groups with an even one between.
+/// Flow 1, then the partners 2 and 3 at input 2, then flow 4: two odd groups with an even one between.
 #[test]
 fn even_groups_counted_in_the_turn() {
     let builder = sent_back!(build: even_groups_in_turn, "build/");
-    let matrix = [1, 0, 0, 0, 0, 1, 1, 0, 0, 0, 0, 1, 0, 0, 0, 0];
+    let list = [1, 1, 1, 2, 2, 1, 2, 3, 1, 3, 4, 1];
     let fault = Inspection::UnbalancedBlock { slot: 1, size: 2 };
-    assert_eq!(inspected(&builder, 4, 2, &matrix), fault);
+    assert_eq!(inspected(&builder, 4, 2, &list), fault);
 }
 
 /// The total stays balanced: only the frame shows the fault.
@@ -139,7 +145,8 @@ fn first_count_takes_the_turn_of_its_group() {
     let builder = sent_back!(build: first_count_takes_turn, "build/");
     let right = Broken::default();
     for (matrix, same) in [([0, 1, 1, 1], true), ([1, 1, 1, 0], false)] {
-        let frames = [&builder, &right].map(|builder| frame_of(builder, 2, 2, &matrix));
+        let list = every_pair(2, &matrix);
+        let frames = [&builder, &right].map(|builder| frame_of(builder, 2, 2, &list));
         assert_eq!(frames[0] == frames[1], same, "{matrix:?}");
     }
 }
@@ -147,57 +154,104 @@ fn first_count_takes_the_turn_of_its_group() {
 #[test]
 fn the_other_tie() {
     let builder = sent_back!(build: other_tie, "build/");
-    assert_eq!(inspected(&builder, 1, 4, &[3]), Inspection::Clean);
+    assert_eq!(inspected(&builder, 1, 4, &[1, 1, 3]), Inspection::Clean);
+}
+
+/// Both lists have one cell of two flows on one pair: only the frame shows the fault.
+#[test]
+fn flows_of_one_pair_swapped() {
+    let builder = sent_back!(build: flows_of_pair_swapped, "build/");
+    let list = [1, 1, 1, 1, 1, 1];
+    assert_eq!(inspected(&builder, 1, 2, &list), Inspection::Clean);
+    assert_eq!(frame_of(&Broken::default(), 1, 2, &list), [1, 2]);
+    assert_eq!(frame_of(&builder, 1, 2, &list), [2, 1]);
+}
+
+/// The flow of the later pair comes first in the list, and so gets its cell first.
+#[test]
+fn counts_by_rising_pair() {
+    let builder = sent_back!(build: pairs_before_numbers, "build/");
+    let list = [2, 1, 1, 1, 1, 1];
+    assert_eq!(inspected(&builder, 2, 2, &list), Inspection::Clean);
+    assert_eq!(frame_of(&Broken::default(), 2, 2, &list), [0, 1, 2, 0]);
+    assert_eq!(frame_of(&builder, 2, 2, &list), [2, 0, 0, 1]);
+}
+
+#[test]
+fn entries_that_are_not_the_flow() {
+    let builder = sent_back!(build: outputs_for_flows, "build/");
+    let fault = Inspection::WrongEntry { slot: 1, input: 1 };
+    assert_eq!(inspected(&builder, 2, 2, &[1, 2, 2]), fault);
+    let builder = sent_back!(build: eight_bit_entries, "build/");
+    let list = [[1, 1, 0].repeat(256), vec![1, 1, 1]].concat();
+    assert_eq!(frame_of(&Broken::default(), 1, 1, &list), [257]);
+    assert_eq!(frame_of(&builder, 1, 1, &list), [1]);
+}
+
+/// 513 flows, the last of them at a port outside, and a number left over.
+#[test]
+fn lists_that_are_too_long() {
+    sent_back!(build: first_flows_built, "build/too-many-flows");
+    sent_back!(admit: overlong_list, "admit/too-many-flows");
+    sent_back!(admit: rest_left_out, "admit/not-whole");
+    let too_many = [1, 1, 0].repeat(MOST_FLOWS + 1);
+    let builder = sent_back!(admit: a_flow_more, "admit/too-many-flows");
+    assert_eq!(builder.admit(1, 1, &too_many), Ok(()));
+    let mut outside = too_many;
+    outside[3 * MOST_FLOWS] = 17;
+    let builder = sent_back!(admit: ports_before_number, "admit/too-many-flows");
+    assert_eq!(builder.admit(1, 1, &outside), Err(Refusal::FlowPort));
+    outside.push(0);
+    let builder = sent_back!(admit: number_before_length, "admit/not-whole");
+    assert_eq!(builder.admit(1, 1, &outside), Err(Refusal::TooManyFlows));
+    assert_eq!(Reference.admit(1, 1, &outside), Err(Refusal::ListLength));
+}
+
+#[test]
+fn lists_that_are_misread() {
+    sent_back!(admit: eight_bit_ports, "admit/port-outside");
+    sent_back!(admit: no_empty_list, "admit/no-flows");
 }
 
 #[test]
 fn idle_frame() {
     let builder = sent_back!(build: idle_frame, "build/");
-    let fault = Inspection::PairCount {
-        input: 1,
-        output: 2,
-    };
-    assert_eq!(inspected(&builder, 2, 4, &[0, 3, 0, 0]), fault);
+    let fault = Inspection::FlowCount { flow: 2 };
+    assert_eq!(inspected(&builder, 2, 4, &[1, 1, 0, 1, 2, 3]), fault);
 }
 
 #[test]
 fn fixed_frame() {
     let builder = sent_back!(build: fixed_frame, "build/");
-    let fault = Inspection::PairCount {
-        input: 1,
-        output: 1,
-    };
-    assert_eq!(inspected(&builder, 2, 4, &[0, 3, 0, 0]), fault);
+    let fault = Inspection::FlowCount { flow: 1 };
+    assert_eq!(inspected(&builder, 1, 4, &[1, 1, 3]), fault);
 }
 
 #[test]
 fn buffer_left_as_found() {
     let builder = sent_back!(build: as_found, "build/");
-    let fault = Inspection::ByteTooLarge { slot: 1, input: 1 };
-    assert_eq!(inspected(&builder, 2, 4, &[0, 3, 0, 0]), fault);
+    let fault = Inspection::WrongEntry { slot: 1, input: 1 };
+    assert_eq!(inspected(&builder, 2, 4, &[1, 2, 3]), fault);
 }
 
 #[test]
 fn all_loads_turned_away() {
     let builder = sent_back!(build: refuse_all, "build/");
-    assert!(builder.build(1, 1, &[1], &mut [0]).is_err());
+    assert!(builder.build(1, 1, &[1, 1, 1], &mut [0]).is_err());
 }
 
 #[test]
 fn first_slots_copied_on() {
     let builder = sent_back!(build: copied_on, "build/");
-    let fault = Inspection::PairCount {
-        input: 1,
-        output: 1,
-    };
-    assert_eq!(inspected(&builder, 1, 4, &[3]), fault);
+    let fault = Inspection::FlowCount { flow: 1 };
+    assert_eq!(inspected(&builder, 1, 4, &[1, 1, 3]), fault);
 }
 
 #[test]
 fn legal_but_bunched() {
     let builder = sent_back!(build: bunched, "build/");
     let fault = Inspection::UnbalancedBlock { slot: 1, size: 16 };
-    assert_eq!(inspected(&builder, 1, 16, &[8]), fault);
+    assert_eq!(inspected(&builder, 1, 16, &[1, 1, 8]), fault);
 
     let course = half_load(&builder, 16, 1);
     assert!(!course.has_its_share(course.furthest_run()));
@@ -206,7 +260,7 @@ fn legal_but_bunched() {
 
 /// What one input is given that sends in half of the slots, its frame carried so many times.
 fn half_load(builder: &Broken, slots: u64, times: usize) -> Course {
-    let frame = carried(builder, 1, slots, &[slots as u16 / 2]);
+    let frame = carried(builder, 1, slots, &[1, 1, slots as u16 / 2]);
     Course::of(&vec![frame; times], Class::Input { port: 1 })
 }
 
@@ -240,29 +294,26 @@ fn waits(chain: &[Frame], whose: impl Into<Whose>) -> Result<(), String> {
     check_waits(&Course::of(chain, whose), whose, 1, &mut random, &mut hits)
 }
 
-const FIRST_PAIR: Class = Class::Pair {
-    input: 1,
-    output: 1,
-};
+const FIRST_FLOW: Class = Class::Flow { number: 1 };
 
-/// Pair (1, 1) alone in 16 slots, then beside pair (1, 2), which has all other slots. Bunched, its cells are at the beginning of
-/// the one frame and at the end of the other.
-fn first_pair(build: BuildCall, cells: u16) -> [Frame; 2] {
+/// Flow 1 alone in 16 slots, then beside flow 2 of the same input, which has all other slots. Bunched, its cells are at the beginning
+/// of the one frame and at the end of the other.
+fn first_flow(build: BuildCall, cells: u16) -> [Frame; 2] {
     let builder = Broken {
         build,
         ..Broken::default()
     };
-    let loads = [[cells, 0, 0, 0], load_beside(16, 16 - cells)];
+    let loads = [[1, 1, cells, 1, 2, 0], load_beside(16, 16 - cells)];
     loads.map(|load| carried(&builder, 2, 16, &load))
 }
 
 #[test]
 fn a_bunched_flow_waits_too_long() {
     for cells in 2..15 {
-        let even = first_pair(reference::build, cells);
-        assert_eq!(waits(&even, FIRST_PAIR), Ok(()));
-        let bunched = first_pair(broken::bunched, cells);
-        let complaint = waits(&bunched, FIRST_PAIR).unwrap_err();
+        let even = first_flow(reference::build, cells);
+        assert_eq!(waits(&even, FIRST_FLOW), Ok(()));
+        let bunched = first_flow(broken::bunched, cells);
+        let complaint = waits(&bunched, FIRST_FLOW).unwrap_err();
         let idle = 2 * (16 - u64::from(cells));
         let said = format!(
             "{cells} cells or more in each frame has fewer than 1 in Run {{ start: {cells}, length: {idle} }}"
@@ -278,13 +329,13 @@ type QueueCheck = fn(&Stretch, Whose, &mut Random, &mut Hits) -> Result<(), Stri
 
 /// Of a hundred queues of a chain, run cell by cell, the number of those in which a cell waits too long.
 fn queues_too_slow(chain: &[Frame], check: QueueCheck) -> usize {
-    let course = Course::of(chain, FIRST_PAIR);
+    let course = Course::of(chain, FIRST_FLOW);
     let stretch = &stretches(&course, 1)[0];
     let mut hits = Hits::default();
     let verdicts = (0..100).map(|seed| {
         check(
             stretch,
-            FIRST_PAIR.into(),
+            FIRST_FLOW.into(),
             &mut Random::new(seed),
             &mut hits,
         )
@@ -295,12 +346,12 @@ fn queues_too_slow(chain: &[Frame], check: QueueCheck) -> usize {
 #[test]
 fn cells_of_a_bunched_flow_wait_too_long() {
     for check in [check_each_cell, check_paced] {
-        assert_eq!(queues_too_slow(&first_pair(reference::build, 8), check), 0);
-        assert!(queues_too_slow(&first_pair(broken::bunched, 8), check) > 10);
+        assert_eq!(queues_too_slow(&first_flow(reference::build, 8), check), 0);
+        assert!(queues_too_slow(&first_flow(broken::bunched, 8), check) > 10);
     }
 }
 
-/// Builders whose pairs, inputs and outputs are as they should be: all cells together wait too long.
+/// Builders whose flows, inputs and outputs are as they should be: all cells together wait too long.
 #[test]
 fn a_total_waits_too_long() {
     let chain = |build| {
@@ -340,17 +391,17 @@ fn an_idle_frame_is_asked_for_nothing() {
 #[test]
 fn loads_added_in_16_bits() {
     let builder = sent_back!(build: sixteen_bit_loads, "build/");
-    let matrix = [65_535, 1, 1, 65_535];
-    assert!(builder.build(2, 4, &matrix, &mut [0; 8]).is_ok());
-    assert!(builder.admit(2, 4, &matrix).is_err());
+    let list = every_pair(2, &[65_535, 1, 1, 65_535]);
+    assert!(builder.build(2, 4, &list, &mut [0; 8]).is_ok());
+    assert!(builder.admit(2, 4, &list).is_err());
     let builder = sent_back!(admit: sixteen_bit_admit, "admit/");
-    assert_eq!(builder.admit(2, 4, &matrix), Ok(()));
+    assert_eq!(builder.admit(2, 4, &list), Ok(()));
 }
 
 /// Three cells in four slots, which have odd counts in the whole block and in its second half.
 #[test]
 fn odd_counts_miscounted() {
-    let settled = |builder: Broken| builder.build(1, 4, &[3], &mut [0; 4]);
+    let settled = |builder: Broken| builder.build(1, 4, &[1, 1, 3], &mut [0; 4]);
     assert_eq!(settled(Broken::default()), Ok(2));
     let builder = sent_back!(build: one_slot_counted, "build/");
     assert_eq!(settled(builder), Ok(5));
@@ -392,6 +443,40 @@ fn inspectors_that_do_not_look() {
 }
 
 #[test]
+fn halves_by_another_count_are_not_sent_back() {
+    let builder = Broken {
+        inspect: broken::right_halves,
+        ..Broken::default()
+    };
+    assert_eq!(failures(&builder, "inspect/"), 0);
+}
+
+/// Flow 1 from input 1 and flow 2 from input 2, both to output 1; the entries of both in the place of the other's.
+#[test]
+fn inspectors_that_do_not_look_at_the_list() {
+    let list = [1, 1, 1, 2, 1, 1];
+    let builder = sent_back!(inspect: other_inputs_let_through, "inspect/");
+    let swapped = [2, 0, 0, 1];
+    assert_eq!(builder.inspect(2, 2, &list, &swapped), Inspection::Clean);
+    let builder = sent_back!(inspect: above_is_idle, "inspect/");
+    let above = [1, 3, 0, 2];
+    assert_eq!(builder.inspect(2, 2, &list, &above), Inspection::Clean);
+    let builder = sent_back!(inspect: flows_of_pair_added, "inspect/flows-swapped");
+    let list = [1, 1, 1, 1, 1, 1];
+    assert_eq!(builder.inspect(1, 2, &list, &[1, 1]), Inspection::Clean);
+}
+
+#[test]
+fn inspectors_that_leave_out_a_class() {
+    let builder = sent_back!(inspect: no_flows, "inspect/flow");
+    let list = [1, 1, 2, 1, 1, 2];
+    let found = builder.inspect(1, 4, &list, &[1, 1, 2, 2]);
+    assert_eq!(found, Inspection::Clean);
+    sent_back!(inspect: no_inputs, "inspect/input");
+    sent_back!(inspect: no_outputs, "inspect/output");
+}
+
+#[test]
 fn inspectors_that_leave_out_the_total() {
     let builder = sent_back!(inspect: no_total, "inspect/total");
     let mut frame = [0; 16];
@@ -417,10 +502,35 @@ fn counts_out_of_the_air() {
     sent_back!(service_count: share_for_count, "count/");
 }
 
+/// The entry of flow 1 stands at input 2 too, and one at input 1 is no flow.
+#[test]
+fn counts_of_other_entries() {
+    let (list, frame) = ([1, 1, 1], [1, 1, 9, 0]);
+    let cells = |builder: &Broken, class| {
+        let count = builder.service_count(2, 2, &list, &frame, class, (1, 2));
+        count.map(|count| count.cells)
+    };
+    let (flow, other) = (Class::Flow { number: 1 }, Class::Flow { number: 2 });
+    let (input, output) = (Class::Input { port: 1 }, Class::Output { port: 1 });
+    let right = Broken::default();
+    let rights = [flow, input, output].map(|class| cells(&right, class));
+    assert_eq!(rights, [Ok(2), Ok(2), Ok(2)]);
+    let builder = sent_back!(service_count: output_by_place, "count/");
+    assert_eq!(cells(&builder, output), Ok(1));
+    let builder = sent_back!(service_count: flow_by_place, "count/");
+    assert_eq!(cells(&builder, flow), Ok(1));
+    let builder = sent_back!(service_count: flows_of_input_only, "count/");
+    assert_eq!(cells(&builder, input), Ok(1));
+    let builder = sent_back!(service_count: unknown_flow_is_idle, "count/");
+    assert_eq!(cells(&builder, other), Ok(0));
+    assert_eq!(cells(&right, other), Err(Refusal::FlowOrPort));
+}
+
 #[test]
 fn leads_out_of_the_air() {
     sent_back!(service_count: lead_turned_round, "count/");
     sent_back!(service_count: load_of_the_run, "count/");
+    sent_back!(service_count: load_of_the_list, "count/");
     sent_back!(service_count: lead_of_short_runs, "count/");
     sent_back!(service_count: cut_lead, "count/");
     sent_back!(service_count: lead_turned_round, "lead/");
@@ -440,4 +550,71 @@ fn leads_of_broken_frames() {
 #[test]
 fn sheets_without_an_answer() {
     sent_back!(respond: silent_refusal, "sheet/");
+}
+
+#[test]
+fn sheets_by_pairs() {
+    sent_back!(respond: old_print, "sheet/");
+    sent_back!(respond: pair_only_once, "sheet/pair-repeated");
+    sent_back!(respond: half_the_bytes, "sheet/most-flows");
+}
+
+#[test]
+fn sheets_with_too_many_flows() {
+    sent_back!(respond: line_of_21, "sheet/too-many-flows");
+    sent_back!(respond: port_before_number, "sheet/too-many-flows");
+}
+
+/// Flow 2 has eight cells in 16 slots, then flow 1 alone is in the list.
+fn shortened() -> [Frame; 2] {
+    let lists = [vec![1, 1, 8, 1, 1, 8], vec![1, 1, 16]];
+    lists.map(|list| carried(&Broken::default(), 1, 16, &list))
+}
+
+/// The chain with each frame counted with the list of the next.
+fn with_next_list(chain: &[Frame]) -> Vec<Frame> {
+    let mut late = chain.to_vec();
+    for (place, frame) in chain.iter().enumerate().skip(1) {
+        late[place - 1].list.clone_from(&frame.list);
+    }
+    late
+}
+
+/// Whether a class, or the total, keeps to both bounds on every run.
+fn keeps_its_share(course: &Course) -> bool {
+    course.has_its_share(course.furthest_run())
+}
+
+#[test]
+fn a_chain_counted_with_the_next_list() {
+    let chain = shortened();
+    for number in [1, 2] {
+        let class = Class::Flow { number };
+        assert!(keeps_its_share(&Course::of(&chain, class)));
+    }
+    let late = with_next_list(&chain);
+    let class = Class::Flow { number: 1 };
+    assert!(!keeps_its_share(&Course::of(&late, class)));
+    let course = Course::of(&late, Class::Flow { number: 2 });
+    assert!(
+        course.given.iter().all(|slot| slot.cells == 0),
+        "no list has it"
+    );
+}
+
+/// A number above the list has no load there; with that of the last flow it would be behind in every slot.
+#[test]
+fn a_flow_above_the_list_given_the_last_load() {
+    let chain = shortened();
+    let mut course = Course::of(&chain, Class::Flow { number: 2 });
+    let second = Run {
+        start: 16,
+        length: 16,
+    };
+    assert_eq!((course.cells(second), course.share(second)), (0, 0));
+    assert!(keeps_its_share(&course));
+    for slot in &mut course.given[16..] {
+        slot.load = 16;
+    }
+    assert!(!keeps_its_share(&course));
 }

@@ -5,20 +5,17 @@ use loads::{Seam, SEAMS};
 use reference::queue::{ahead_behind_a_switch, pass, pass_row, Source, Switch};
 use reference::wire::{deviation, Course, Frame, Run};
 
-const FLOW: Class = Class::Pair {
-    input: 1,
-    output: 2,
-};
+const FLOW: Class = Class::Flow { number: 2 };
 
-fn built(seam: Seam, matrix: [u16; 4]) -> Frame {
-    let mut bytes = vec![0xa5; 2 * seam.slots as usize];
-    let answer = Library.build(2, seam.slots, &matrix, &mut bytes);
+fn built(seam: Seam, list: [u16; 6]) -> Frame {
+    let mut entries = vec![0xa5a5; 2 * seam.slots as usize];
+    let answer = Library::default().build(2, seam.slots, &list, &mut entries);
     assert!(answer.is_ok(), "{answer:?}");
     Frame {
         ports: 2,
         slots: seam.slots,
-        matrix: matrix.to_vec(),
-        bytes,
+        list: list.to_vec(),
+        entries,
     }
 }
 
@@ -86,7 +83,8 @@ fn the_same_by_service_count() {
         let slots = seam.slots;
         let (turn, back) = (seam.turn as u64, slots - seam.turn as u64);
         let count = |frame: Frame, start, length| {
-            Library.service_count(2, slots, &frame.bytes, FLOW, start, length)
+            let (list, entries, run) = (&frame.list, &frame.entries, (start, length));
+            Library::default().service_count(2, slots, list, entries, FLOW, run)
         };
         let first = count(alone(seam), turn + 1, back).unwrap();
         let second = count(beside(seam), 1, back).unwrap();

@@ -1,13 +1,14 @@
-//! Blocks of every size whose total alone is unbalanced, and the spread of all cells, through C and through Rust.
+//! Blocks of every size that are unbalanced in one class alone, or in their total alone, and the spread of all cells, through C and
+//! through Rust.
 
 use calls::{Calls, InC, Inspection, Library, Reference};
-use loads::{load_of_shape, unbalance_total, Block, Call, LoadKind, Random, Shape};
+use loads::{load_of_shape, unbalance_total, uneven, Block, Call, LoadKind, Random, Shape, Uneven};
 use tests::broken;
 
 /// The frame that a builder makes of a load that fits.
-fn built(calls: &dyn Calls, call: &Call) -> Vec<u8> {
-    let mut frame = vec![0xa5; call.frame_length];
-    let answer = calls.build(call.ports, call.slots, &call.matrix, &mut frame);
+fn built(calls: &dyn Calls, call: &Call) -> Vec<u16> {
+    let mut frame = vec![0xa5a5; call.frame_length];
+    let answer = calls.build(call.ports, call.slots, &call.list, &mut frame);
     answer.expect("the load fits");
     frame
 }
@@ -29,14 +30,55 @@ fn finds_the_block(calls: &dyn Calls) {
                 let shape = Shape { ports, slots };
                 let own = |call: &Call| built(calls, call);
                 let (call, frame) = unbalance_total(shape, block, own, &mut random);
-                let found = calls.inspect(call.ports, call.slots, &call.matrix, &frame);
-                let fault = Inspection::UnbalancedBlock {
-                    slot: block.slot as u64,
-                    size: size as u64,
-                };
-                assert_eq!(found, fault, "{shape:?}");
-                let found = broken::no_total(call.ports, call.slots, &call.matrix, &frame);
+                let found = calls.inspect(call.ports, call.slots, &call.list, &frame);
+                assert_eq!(found, unbalanced(block), "{shape:?}");
+                let found = broken::no_total(call.ports, call.slots, &call.list, &frame);
                 assert_eq!(found, Inspection::Clean, "nothing else is wrong");
+            }
+        }
+    }
+}
+
+fn unbalanced(block: Block) -> Inspection {
+    Inspection::UnbalancedBlock {
+        slot: block.slot as u64,
+        size: block.size as u64,
+    }
+}
+
+/// Has frames inspected of which one block is unbalanced in some flows, in an input or in an output alone.
+fn finds_the_class(calls: &dyn Calls) {
+    let mut random = Random::new(2_029);
+    let without = [
+        (
+            Uneven::Flow,
+            broken::no_flows as fn(u64, u64, &[u16], &[u16]) -> Inspection,
+        ),
+        (Uneven::Input, broken::no_inputs),
+        (Uneven::Output, broken::no_outputs),
+    ];
+    for (by, without) in without {
+        for size in (2..=10).map(|k| 1 << k) {
+            for block in blocks(size, 1_024, &mut random) {
+                let ports = random.pick(&[2, 3, 7, 16]);
+                let shape = Shape {
+                    ports,
+                    slots: 1_024,
+                };
+                let (call, frame) = uneven(by, shape, block, &mut random);
+                let Call {
+                    ports, slots, list, ..
+                } = &call;
+                let found = calls.inspect(*ports, *slots, list, &frame);
+                assert_eq!(found, unbalanced(block), "{by:?} {shape:?}");
+                let found = without(*ports, *slots, list, &frame);
+                assert_ne!(
+                    found,
+                    unbalanced(block),
+                    "nothing else is wrong in the block"
+                );
+                let found = broken::right_halves(*ports, *slots, list, &frame);
+                assert_eq!(found, unbalanced(block));
             }
         }
     }
@@ -45,16 +87,19 @@ fn finds_the_block(calls: &dyn Calls) {
 #[test]
 fn through_the_reference() {
     finds_the_block(&Reference);
+    finds_the_class(&Reference);
 }
 
 #[test]
 fn through_c() {
     finds_the_block(&InC::default());
+    finds_the_class(&InC::default());
 }
 
 #[test]
 fn through_rust() {
-    finds_the_block(&Library);
+    finds_the_block(&Library::default());
+    finds_the_class(&Library::default());
 }
 
 /// Sixteen flows of one cell, each at two ports of its own: one cell in each slot.
@@ -65,10 +110,11 @@ fn sixteen_flows_of_one_cell() {
         slots: 16,
     };
     let call = load_of_shape(LoadKind::OwnNumber, shape, &mut Random::new(1));
-    for calls in [&Reference as &dyn Calls, &Library, &InC::default()] {
+    let (in_c, library) = (InC::default(), Library::default());
+    for calls in [&Reference as &dyn Calls, &library, &in_c] {
         let frame = built(calls, &call);
         for slot in frame.chunks(16) {
-            let cells = slot.iter().filter(|&&byte| byte != 0).count();
+            let cells = slot.iter().filter(|&&entry| entry != 0).count();
             assert_eq!(cells, 1, "{slot:?}");
         }
     }

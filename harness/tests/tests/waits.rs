@@ -8,26 +8,20 @@ use reference::queue::Source;
 use reference::wait::{by_blocks, paced, pass_each, stretches, Allowed};
 use reference::wire::{Course, Frame, Run};
 
-const FLOW: Class = Class::Pair {
-    input: 1,
-    output: 2,
-};
+const FLOW: Class = Class::Flow { number: 2 };
 
-const PARTNER: Class = Class::Pair {
-    input: 1,
-    output: 1,
-};
+const PARTNER: Class = Class::Flow { number: 1 };
 
-fn built(k: u32, matrix: [u16; 4]) -> Frame {
+fn built(k: u32, list: [u16; 6]) -> Frame {
     let slots = 1 << k;
-    let mut bytes = vec![0xa5; 2 << k];
-    let answer = Library.build(2, slots, &matrix, &mut bytes);
+    let mut entries = vec![0xa5a5; 2 << k];
+    let answer = Library::default().build(2, slots, &list, &mut entries);
     assert!(answer.is_ok(), "{answer:?}");
     Frame {
         ports: 2,
         slots,
-        matrix: matrix.to_vec(),
-        bytes,
+        list: list.to_vec(),
+        entries,
     }
 }
 
@@ -139,11 +133,12 @@ fn the_longest_wait_by_blocks_of_every_place() {
     }
 }
 
-/// Every frame of two ports whose first input has any cells and whose second has none.
+/// Every frame of two ports whose first input has two flows of any cells, to an output each.
 fn frames_of_one_input(k: u32) -> Vec<Frame> {
     let slots = 1_u16 << k;
-    let loads = (0..=slots).flat_map(|one| (0..=slots - one).map(move |other| [one, other, 0, 0]));
-    loads.map(|load| built(k, load)).collect()
+    let lists =
+        (0..=slots).flat_map(|one| (0..=slots - one).map(move |other| [1, 1, one, 1, 2, other]));
+    lists.map(|list| built(k, list)).collect()
 }
 
 /// Chains of two and of three of these frames.
