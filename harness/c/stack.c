@@ -1,8 +1,8 @@
-/* Measures the stack that each call takes, and holds it to what the header says: FRAME_BUILDER_STACK_BYTES, and 2,048 but for Build.
+/* Measures the stack that each call takes, and holds it to what the header says: FRAME_BUILDER_STACK_BYTES, and Build more than any other.
  *
  * Each call runs on a stack of its own that was painted before; how far down the paint is gone is what the call took, with its arguments,
- * its return address and a few words of make_call's own. Every number of ports and of slots is tried, with full loads and their frames,
- * with frames of each fault and with each refusal. The last line is 'N passed, M failed'.
+ * its return address and a few words of make_call's own. Every number of ports and of slots is tried, with full loads of one flow for each
+ * pair and of 512 flows and their frames, with frames of each fault and with each refusal. The last line is 'N passed, M failed'.
  */
 #define _GNU_SOURCE
 #include <stdint.h>
@@ -14,26 +14,27 @@
 
 #define PORTS FRAME_BUILDER_MAX_PORTS
 #define SLOTS FRAME_BUILDER_MAX_SLOTS
-#define FRAME_BYTES FRAME_BUILDER_MAX_FRAME_BYTES
+#define FLOWS FRAME_BUILDER_MAX_FLOWS
+#define OF_FLOW FRAME_BUILDER_FLOW_NUMBERS
+#define FRAME_ENTRIES FRAME_BUILDER_MAX_FRAME_ENTRIES
 #define ROOM (4 * FRAME_BUILDER_STACK_BYTES)
 #define NUMBERS (FRAME_BUILDER_FAULT_UNBALANCED_BLOCK + 1)
 #define KNOWN_BYTES 5000
-#define SMALL_BYTES 2048
 
-enum call { ADMIT, BUILD, INSPECT, SLOT_VIEW, COUNT_PAIR, COUNT_INPUT, COUNT_OUTPUT, KNOWN, CALLS };
+enum call { ADMIT, BUILD, INSPECT, SLOT_VIEW, COUNT_FLOW, COUNT_INPUT, COUNT_OUTPUT, KNOWN, CALLS };
 
-static const char *const names[CALLS] = {"admit", "build", "inspect", "slot_view", "count_pair", "count_input", "count_output",
+static const char *const names[CALLS] = {"admit", "build", "inspect", "slot_view", "count_flow", "count_input", "count_output",
                                          "(5,000 bytes)"};
 
 /* How many different answers each call has. */
-static const size_t answers[CALLS] = {6, 7, 9, 5, 7, 7, 7, 1};
+static const size_t answers[CALLS] = {8, 9, 11, 5, 10, 10, 10, 1};
 
 /* The call to make, what it is lent, and its answer. */
 static struct {
     enum call call;
-    size_t ports, slots, matrix_length, frame_length, slot, length, port, answer;
-    uint16_t matrix[PORTS * PORTS];
-    uint8_t frame[FRAME_BYTES];
+    size_t ports, slots, list_length, frame_length, slot, length, flow, port, answer;
+    uint16_t list[(FLOWS + 1) * OF_FLOW];
+    uint16_t frame[FRAME_ENTRIES];
 } asked;
 
 static unsigned char room[ROOM] __attribute__((aligned(16)));
@@ -53,33 +54,33 @@ static __attribute__((noinline)) size_t take_known_bytes(void)
 
 static void make_call(void)
 {
-    size_t ports = asked.ports, slots = asked.slots, matrix_length = asked.matrix_length, frame_length = asked.frame_length;
-    size_t slot = asked.slot, length = asked.length, port = asked.port, first, second;
+    size_t ports = asked.ports, slots = asked.slots, list_length = asked.list_length, frame_length = asked.frame_length;
+    size_t slot = asked.slot, length = asked.length, flow = asked.flow, port = asked.port, first, second;
     static int64_t lead; /* so that what is measured of the other calls does not grow with it */
-    const uint16_t *matrix = asked.matrix;
-    uint8_t *frame = asked.frame;
+    const uint16_t *list = asked.list;
+    uint16_t *frame = asked.frame;
     top = __builtin_frame_address(0);
     switch (asked.call) {
     case ADMIT:
-        asked.answer = frame_builder_admit(ports, slots, matrix, matrix_length, &first, &second);
+        asked.answer = frame_builder_admit(ports, slots, list, list_length, &first, &second);
         break;
     case BUILD:
-        asked.answer = frame_builder_build(ports, slots, matrix, matrix_length, frame, frame_length, &first, &second);
+        asked.answer = frame_builder_build(ports, slots, list, list_length, frame, frame_length, &first, &second);
         break;
     case INSPECT:
-        asked.answer = frame_builder_inspect(ports, slots, matrix, matrix_length, frame, frame_length, &first, &second);
+        asked.answer = frame_builder_inspect(ports, slots, list, list_length, frame, frame_length, &first, &second);
         break;
     case SLOT_VIEW:
         asked.answer = frame_builder_slot_view(ports, slots, frame, frame_length, slot, &first, &second);
         break;
-    case COUNT_PAIR:
-        asked.answer = frame_builder_count_pair(ports, slots, frame, frame_length, port, port, slot, length, &first, &lead);
+    case COUNT_FLOW:
+        asked.answer = frame_builder_count_flow(ports, slots, list, list_length, frame, frame_length, flow, slot, length, &first, &lead);
         break;
     case COUNT_INPUT:
-        asked.answer = frame_builder_count_input(ports, slots, frame, frame_length, port, slot, length, &first, &lead);
+        asked.answer = frame_builder_count_input(ports, slots, list, list_length, frame, frame_length, port, slot, length, &first, &lead);
         break;
     case COUNT_OUTPUT:
-        asked.answer = frame_builder_count_output(ports, slots, frame, frame_length, port, slot, length, &first, &lead);
+        asked.answer = frame_builder_count_output(ports, slots, list, list_length, frame, frame_length, port, slot, length, &first, &lead);
         break;
     default:
         asked.answer = take_known_bytes();
@@ -122,47 +123,64 @@ static void measure_all(void)
         measure((enum call)call);
 }
 
-/* A full load: every row and every column has `slots` cells, in counts that are odd where they can be. */
-static void ask_full(size_t ports, size_t slots)
+/* A full load: every input and every output has `slots` cells, in counts that are odd where they can be, of `each` flows at each input. */
+static void ask_full(size_t ports, size_t slots, size_t each)
 {
     size_t left = slots;
-    for (size_t turn = 0; turn < ports; turn++) {
-        size_t count = left / (ports - turn);
+    for (size_t turn = 0; turn < each; turn++) {
+        size_t count = left / (each - turn);
         if (count % 2 == 0 && count < left)
             count++;
         left -= count;
-        for (size_t input = 0; input < ports; input++)
-            asked.matrix[input * ports + (input + turn) % ports] = (uint16_t)count;
+        for (size_t input = 0; input < ports; input++) {
+            uint16_t *flow = asked.list + (input * each + turn) * OF_FLOW;
+            flow[0] = (uint16_t)(input + 1);
+            flow[1] = (uint16_t)((input + turn) % ports + 1);
+            flow[2] = (uint16_t)count;
+        }
     }
     asked.ports = ports;
     asked.slots = slots;
-    asked.matrix_length = ports * ports;
+    asked.list_length = ports * each * OF_FLOW;
     asked.frame_length = slots * ports;
     asked.slot = slots;
     asked.length = FRAME_BUILDER_MAX_RUN_SLOTS;
+    asked.flow = ports * each;
     asked.port = ports;
 }
 
 /* Sorts the slots of the frame by what input 1 sends: the frame stays legal, and its halves differ. */
 static void bunch(void)
 {
-    static uint8_t sorted[FRAME_BYTES];
+    static uint16_t sorted[FRAME_ENTRIES];
     size_t to = 0, ports = asked.ports;
-    for (size_t output = 0; output <= ports; output++)
+    for (size_t flow = 0; flow <= asked.flow; flow++)
         for (size_t slot = 0; slot < asked.slots; slot++)
-            if (asked.frame[slot * ports] == output)
-                memcpy(sorted + ports * to++, asked.frame + ports * slot, ports);
-    memcpy(asked.frame, sorted, asked.frame_length);
+            if (asked.frame[slot * ports] == flow)
+                memcpy(sorted + ports * to++, asked.frame + ports * slot, ports * sizeof(uint16_t));
+    memcpy(asked.frame, sorted, asked.frame_length * sizeof(uint16_t));
+}
+
+/* A flow of the last input to the output that input 1 sends to in the last slot, or 0 where it sends nothing. */
+static uint16_t doubling(void)
+{
+    const uint16_t *slot = asked.frame + asked.frame_length - asked.ports;
+    for (size_t flow = 1; slot[0] > 0 && flow <= asked.flow; flow++) {
+        const uint16_t *numbers = asked.list + (flow - 1) * OF_FLOW;
+        if (numbers[0] == asked.ports && numbers[1] == asked.list[(slot[0] - 1) * OF_FLOW + 1])
+            return (uint16_t)flow;
+    }
+    return 0;
 }
 
 static void inspect_faults(void)
 {
-    uint8_t *end = asked.frame + asked.frame_length - 1, last = *end;
-    *end = 255;
+    uint16_t *end = asked.frame + asked.frame_length - 1, last = *end;
+    *end = (uint16_t)(asked.flow + 1);
     measure(INSPECT);
     *end = 0;
     measure(INSPECT);
-    *end = *(end + 1 - asked.ports);
+    *end = doubling();
     measure(INSPECT);
     *end = last;
     bunch();
@@ -172,23 +190,28 @@ static void inspect_faults(void)
 /* Each refusal, from the last to the first in the order in which they are tried. */
 static void measure_refusals(void)
 {
-    uint16_t *last = asked.matrix + asked.matrix_length - 1;
+    uint16_t *last = asked.list + asked.list_length - OF_FLOW;
     asked.length++;
     measure_all();
     asked.port++;
+    asked.flow++;
     measure_all();
     asked.slot++;
     measure_all();
-    ++*last;
-    if (asked.ports > 1 && last[-1] > 0) {
-        last[-1]--;
+    ++last[2];
+    if (asked.ports > 1 && last[2 - OF_FLOW] > 0) {
+        last[2 - OF_FLOW]--;
         measure_all();
-        last[-1]++;
+        last[2 - OF_FLOW]++;
     }
     measure_all();
     asked.frame_length--;
     measure_all();
-    asked.matrix_length--;
+    last[1] = 0;
+    measure_all();
+    asked.list_length = (FLOWS + 1) * OF_FLOW;
+    measure_all();
+    asked.list_length--;
     measure_all();
     asked.slots += SLOTS;
     measure_all();
@@ -198,7 +221,7 @@ static void measure_refusals(void)
 
 static int good(int call)
 {
-    size_t different = 0, limit = call == BUILD ? FRAME_BUILDER_STACK_BYTES : SMALL_BYTES;
+    size_t different = 0, limit = call == BUILD ? FRAME_BUILDER_STACK_BYTES : most[BUILD];
     if (call == KNOWN)
         return most[KNOWN] >= KNOWN_BYTES && most[KNOWN] < KNOWN_BYTES + 500;
     for (size_t number = 0; number < NUMBERS; number++)
@@ -210,12 +233,13 @@ int main(void)
 {
     size_t passed = 0;
     for (size_t ports = 1; ports <= PORTS; ports++)
-        for (size_t slots = 1; slots <= SLOTS; slots *= 2) {
-            ask_full(ports, slots);
-            measure_all();
-            inspect_faults();
-            measure_refusals();
-        }
+        for (size_t slots = 1; slots <= SLOTS; slots *= 2)
+            for (int every = 0; every < 2; every++) {
+                ask_full(ports, slots, every ? FLOWS / ports : ports);
+                measure_all();
+                inspect_faults();
+                measure_refusals();
+            }
     measure(KNOWN);
     for (int call = 0; call < CALLS; call++) {
         passed += (size_t)good(call);

@@ -2,32 +2,30 @@
 
 use std::time::Instant;
 
-use bench::loads_of;
-use calls::Calls;
-use loads::{Call, Shape};
+use bench::{loads_of, Load};
 
-use crate::{build_name, build_once, median, SIZES};
+use crate::{build_once, median, Size, SIZES};
 
 /// A load, its odd counts and the nanoseconds of each of its builds.
 struct Timed {
-    call: Call,
+    load: Load,
     settled: f64,
     samples: Vec<f64>,
 }
 
 impl Timed {
-    fn new<B: Calls>(candidate: &B, call: Call) -> Timed {
-        let mut frame = vec![0; call.frame_length];
+    fn new(load: Load) -> Timed {
+        let mut frame = vec![0; load.shape.frame_length()];
         Timed {
-            settled: build_once(candidate, &call, &mut frame) as f64,
-            call,
+            settled: build_once(&load, &mut frame) as f64,
+            load,
             samples: Vec::new(),
         }
     }
 
-    fn sample<B: Calls>(&mut self, candidate: &B, frame: &mut [u8]) {
+    fn sample(&mut self, frame: &mut [u16]) {
         let start = Instant::now();
-        build_once(candidate, &self.call, frame);
+        build_once(&self.load, frame);
         self.samples.push(start.elapsed().as_nanos() as f64);
     }
 
@@ -36,31 +34,31 @@ impl Timed {
     }
 }
 
-/// The loads of one size, and one of the same ports and slots that has no cells.
-struct Size {
+/// The loads of one size, and one of the same ports, slots and flows that has no cells.
+struct Builds {
     name: String,
     idle: Timed,
     loads: Vec<Timed>,
-    frame: Vec<u8>,
+    frame: Vec<u16>,
 }
 
-impl Size {
-    fn new<B: Calls>(candidate: &B, (shape, cells): (Shape, usize)) -> Size {
-        let timed = |call| Timed::new(candidate, call);
-        let idle = loads_of(shape, 0).swap_remove(0);
-        Size {
-            name: build_name((shape, cells)),
-            idle: timed(idle),
-            loads: loads_of(shape, cells).into_iter().map(timed).collect(),
-            frame: vec![0; shape.frame_length()],
+impl Builds {
+    fn new(size: Size) -> Builds {
+        let idle = loads_of(size.shape, 0, size.flows).swap_remove(0);
+        let loads = loads_of(size.shape, size.cells, size.flows).into_iter();
+        Builds {
+            name: size.name(),
+            idle: Timed::new(idle),
+            loads: loads.map(Timed::new).collect(),
+            frame: vec![0; size.shape.frame_length()],
         }
     }
 
     /// Samples every load once, after a build that is not timed, since another size came before.
-    fn sample<B: Calls>(&mut self, candidate: &B) {
-        build_once(candidate, &self.idle.call, &mut self.frame);
+    fn sample(&mut self) {
+        build_once(&self.idle.load, &mut self.frame);
         for timed in self.loads.iter_mut().chain([&mut self.idle]) {
-            timed.sample(candidate, &mut self.frame);
+            timed.sample(&mut self.frame);
         }
     }
 
@@ -87,23 +85,23 @@ impl Size {
 
 /// Builds all loads of all sizes in turns and prints how far their times are from base + each × settled. The base is the time of
 /// a load without cells, and each that of the loads of the first size.
-pub fn print_budget<B: Calls>(candidate: &B, repetitions: usize) {
-    let mut sizes = SIZES.map(|size| Size::new(candidate, size));
+pub fn print_budget(repetitions: usize) {
+    let mut sizes = SIZES.map(Builds::new);
     for _ in 0..repetitions {
         for size in &mut sizes {
-            size.sample(candidate);
+            size.sample();
         }
     }
     let each = sizes[0].each();
     let name = format!("base + {each:.2} ns x settled");
     println!(
-        "{name:<28}{:>24}{:>24}{:>10}{:>10}",
+        "{name:<34}{:>24}{:>24}{:>10}{:>10}",
         "base median us", "mean settled", "least", "greatest"
     );
     for size in &sizes {
         let (name, base) = (&size.name, size.idle.time() / 1_000.0);
         let settled = size.mean_settled();
         let [least, greatest] = size.ratios(each);
-        println!("{name:<28}{base:>24.3}{settled:>24.0}{least:>10.3}{greatest:>10.3}");
+        println!("{name:<34}{base:>24.3}{settled:>24.0}{least:>10.3}{greatest:>10.3}");
     }
 }

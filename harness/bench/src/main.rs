@@ -8,9 +8,9 @@ use std::hint::black_box;
 use std::process::ExitCode;
 use std::time::Instant;
 
-use bench::loads_of;
-use calls::{Calls, Class, Inspection, Library};
-use loads::{Call, Shape};
+use bench::{loads_of, Flows, Load};
+use frame_builder::{Inspection, Who};
+use loads::Shape;
 
 use crate::budget::print_budget;
 
@@ -19,32 +19,54 @@ const USAGE: &str = "benchmark [--repetitions COUNT]";
 /// The least time a sample should take, in nanoseconds.
 const SAMPLE_TIME: f64 = 200_000.0;
 
-/// Ports, slots and the load of every port.
-const SIZES: [(Shape, usize); 4] = [
-    (shape(16, 1_024), 1_024),
-    (shape(16, 1_024), 102),
-    (shape(4, 64), 64),
-    (shape(16, 16), 16),
+/// The most that Inspect may take of the time of the Build that made the frame.
+const INSPECT_LIMIT: Option<f64> = Some(2.0);
+
+/// Ports and slots, the load of every port, and the flows of a list.
+#[derive(Clone, Copy)]
+struct Size {
+    shape: Shape,
+    cells: usize,
+    flows: Flows,
+    /// The most that Build may take of the plain builder's time, where that is asked for.
+    limit: Option<f64>,
+}
+
+const fn size(ports: usize, slots: usize, cells: usize, flows: Flows, limit: Option<f64>) -> Size {
+    Size {
+        shape: Shape { ports, slots },
+        cells,
+        flows,
+        limit,
+    }
+}
+
+/// One flow for each pair, and then as many flows as there may be.
+const SIZES: [Size; 6] = [
+    size(16, 1_024, 1_024, Flows::EachPair, Some(0.40)),
+    size(16, 1_024, 102, Flows::EachPair, Some(0.22)),
+    size(4, 64, 64, Flows::EachPair, Some(0.45)),
+    size(16, 16, 16, Flows::EachPair, None),
+    size(16, 1_024, 1_024, Flows::Most, None),
+    size(16, 1_024, 102, Flows::Most, None),
 ];
 
-const fn shape(ports: usize, slots: usize) -> Shape {
-    Shape { ports, slots }
+impl Size {
+    fn name(self) -> String {
+        let Shape { ports, slots } = self.shape;
+        let flows = match self.flows {
+            Flows::EachPair => "",
+            Flows::Most => ", 512 flows",
+        };
+        format!("{ports} x {slots}, {} a port{flows}", self.cells)
+    }
 }
 
 /// The start and the length of the runs that are counted.
-const RUNS: [(u64, u64); 2] = [(1, 1_024), (512, 1_000_000)];
+const RUNS: [(usize, usize); 2] = [(1, 1_024), (512, 1_000_000)];
 
 /// What the counts of an output are compared with.
-const COUNTED: [(&str, Class); 2] = [
-    (
-        "pair",
-        Class::Pair {
-            input: 16,
-            output: 16,
-        },
-    ),
-    ("input", Class::Input { port: 16 }),
-];
+const COUNTED: [(&str, Who); 2] = [("flow", Who::Flow(256)), ("input", Who::Input(16))];
 
 /// The unit of a table's times: its nanoseconds, and the digits after the point.
 struct Unit {
@@ -69,6 +91,14 @@ struct Row {
     right: f64,
     /// The median over the repetitions, which a change of the clock's pace does not bend.
     ratio: f64,
+    /// The most that the ratio may be, where that is asked for.
+    limit: Option<f64>,
+}
+
+impl Row {
+    fn is_above(&self) -> bool {
+        self.limit.is_some_and(|limit| self.ratio > limit)
+    }
 }
 
 /// The nanoseconds a piece of work takes once, measured over so many times.
@@ -97,6 +127,7 @@ fn median(mut samples: Vec<f64>) -> f64 {
 /// Samples two pieces of work in turns, each first every other time.
 fn compare(
     name: String,
+    limit: Option<f64>,
     repetitions: usize,
     mut left: impl FnMut(),
     mut right: impl FnMut(),
@@ -119,6 +150,7 @@ fn compare(
         ratio: median(pairs.map(|(left, right)| left / right).collect()),
         left: median(left_samples),
         right: median(right_samples),
+        limit,
     }
 }
 
@@ -129,94 +161,95 @@ fn in_turn<'l, T>(list: &'l [T]) -> impl FnMut() -> &'l T {
 }
 
 /// One Build of a load that fits; the odd counts that it settled.
-fn build_once<B: Calls>(candidate: &B, call: &Call, frame: &mut [u8]) -> u64 {
-    let answer = candidate.build(call.ports, call.slots, &call.matrix, frame);
+fn build_once(load: &Load, frame: &mut [u16]) -> usize {
+    let Shape { ports, slots } = load.shape;
+    let answer = frame_builder::build(ports, slots, &load.list, frame);
     black_box(frame);
     black_box(answer).expect("the load fits")
 }
 
-fn build_name((shape, cells): (Shape, usize)) -> String {
-    format!("build {} x {}, {cells} a port", shape.ports, shape.slots)
-}
-
 /// Times Build against the plain builder on loads of one size.
-fn build_row<B: Calls>(candidate: &B, (shape, cells): (Shape, usize), repetitions: usize) -> Row {
-    let loads = loads_of(shape, cells);
+fn build_row(size: Size, repetitions: usize) -> Row {
+    let Shape { ports, slots } = size.shape;
+    let loads = loads_of(size.shape, size.cells, size.flows);
     let (mut next_left, mut next_right) = (in_turn(&loads), in_turn(&loads));
-    let mut left_frame = vec![0; shape.frame_length()];
+    let mut left_frame = vec![0; size.shape.frame_length()];
     let mut right_frame = left_frame.clone();
     let left = || {
-        build_once(candidate, next_left(), &mut left_frame);
+        build_once(next_left(), &mut left_frame);
     };
     let right = || {
-        let matrix = &next_right().matrix;
-        let built = plain::build(shape.ports, shape.slots, matrix, &mut right_frame);
+        let list = &next_right().numbers;
+        let built = plain::build(ports, slots, list, &mut right_frame);
         assert!(black_box(built).is_some());
         black_box(&mut right_frame);
     };
-    compare(build_name((shape, cells)), repetitions, left, right)
+    compare(size.name(), size.limit, repetitions, left, right)
 }
 
 /// The frames of some loads, each with its load.
-fn frames_of<'l, B: Calls>(candidate: &B, loads: &'l [Call]) -> Vec<(&'l Call, Vec<u8>)> {
-    let frames = loads.iter().map(|call| {
-        let mut frame = vec![0; call.frame_length];
-        build_once(candidate, call, &mut frame);
-        (call, frame)
+fn frames_of(loads: &[Load]) -> Vec<(&Load, Vec<u16>)> {
+    let frames = loads.iter().map(|load| {
+        let mut frame = vec![0; load.shape.frame_length()];
+        build_once(load, &mut frame);
+        (load, frame)
     });
     frames.collect()
 }
 
 /// Times Inspect on clean frames against the builds that made them.
-fn inspect_row<B: Calls>(candidate: &B, repetitions: usize) -> Row {
-    let (shape, cells) = SIZES[0];
-    let loads = loads_of(shape, cells);
-    let clean = frames_of(candidate, &loads);
-    let mut frame = vec![0; shape.frame_length()];
+fn inspect_row(size: Size, repetitions: usize) -> Row {
+    let loads = loads_of(size.shape, size.cells, size.flows);
+    let clean = frames_of(&loads);
+    let mut frame = vec![0; size.shape.frame_length()];
     let (mut next_left, mut next_right) = (in_turn(&clean), in_turn(&loads));
     let left = || {
-        let (call, frame) = next_left();
-        let inspection = candidate.inspect(call.ports, call.slots, &call.matrix, frame);
-        assert_eq!(black_box(inspection), Inspection::Clean);
+        let (load, frame) = next_left();
+        let Shape { ports, slots } = load.shape;
+        let inspection = frame_builder::inspect(ports, slots, &load.list, frame);
+        assert_eq!(black_box(inspection), Ok(Inspection::Clean));
     };
     let right = || {
-        build_once(candidate, next_right(), &mut frame);
+        build_once(next_right(), &mut frame);
     };
-    let name = format!("inspect {} x {}, clean", shape.ports, shape.slots);
-    compare(name, repetitions, left, right)
+    compare(size.name(), INSPECT_LIMIT, repetitions, left, right)
 }
 
-/// Times Service count of a pair and of an input against that of an output, over full frames.
-fn count_rows<B: Calls>(
-    candidate: &B,
-    (start, length): (u64, u64),
-    repetitions: usize,
-) -> [Row; 2] {
-    let (shape, cells) = SIZES[0];
-    let loads = loads_of(shape, cells);
-    let frames = frames_of(candidate, &loads);
-    let count_once = |class, (call, frame): &(&Call, Vec<u8>)| {
-        let count = candidate.service_count(call.ports, call.slots, frame, class, start, length);
+/// Times Service count of a flow and of an input against that of an output, over full frames.
+fn count_rows((start, length): (usize, usize), repetitions: usize) -> [Row; 2] {
+    let size = SIZES[0];
+    let loads = loads_of(size.shape, size.cells, size.flows);
+    let frames = frames_of(&loads);
+    let count_once = |who, (load, frame): &(&Load, Vec<u16>)| {
+        let Shape { ports, slots } = load.shape;
+        let count =
+            frame_builder::service_count(ports, slots, &load.list, frame, who, start, length);
         assert!(black_box(count).is_ok());
     };
-    COUNTED.map(|(name, class)| {
+    COUNTED.map(|(name, who)| {
         let (mut next_left, mut next_right) = (in_turn(&frames), in_turn(&frames));
-        let left = || count_once(class, next_left());
-        let right = || count_once(Class::Output { port: 16 }, next_right());
+        let left = || count_once(who, next_left());
+        let right = || count_once(Who::Output(16), next_right());
         let name = format!("{name}, {length} from slot {start}");
-        compare(name, repetitions, left, right)
+        compare(name, None, repetitions, left, right)
     })
 }
 
-fn print_table(headings: [&str; 4], unit: Unit, rows: &[Row]) {
-    let [name, left, right, ratio] = headings;
-    println!("{name:<28}{left:>24}{right:>24}{ratio:>10}");
+fn print_table(headings: [&str; 3], unit: Unit, rows: &[Row]) {
+    let [name, left, right] = headings;
+    println!(
+        "{name:<34}{left:>24}{right:>24}{:>10}{:>10}",
+        "ratio", "limit"
+    );
     for row in rows {
         let [left, right] = [row.left, row.right].map(|time| {
             let (time, digits) = (time / unit.nanoseconds, unit.digits);
             format!("{time:.digits$}")
         });
-        println!("{:<28}{left:>24}{right:>24}{:>10.3}", row.name, row.ratio);
+        let limit = row.limit.map_or("-".into(), |limit| format!("{limit:.2}"));
+        let above = if row.is_above() { "  above" } else { "" };
+        let (name, ratio) = (&row.name, row.ratio);
+        println!("{name:<34}{left:>24}{right:>24}{ratio:>10.3}{limit:>10}{above}");
     }
 }
 
@@ -235,33 +268,23 @@ fn main() -> ExitCode {
         eprintln!("{USAGE}");
         return ExitCode::from(2);
     };
-    let candidate = Library;
-    let builds = SIZES.map(|size| build_row(&candidate, size, repetitions));
-    print_table(
-        ["name", "candidate median ns", "plain median ns", "ratio"],
-        NANOSECONDS,
-        &builds,
-    );
+    let builds = SIZES.map(|size| build_row(size, repetitions));
+    let headings = ["build", "build median ns", "plain median ns"];
+    print_table(headings, NANOSECONDS, &builds);
     println!();
-    let inspections = [inspect_row(&candidate, repetitions)];
-    print_table(
-        ["name", "inspect median ns", "build median ns", "ratio"],
-        NANOSECONDS,
-        &inspections,
-    );
+    let inspections = [SIZES[0], SIZES[4]].map(|size| inspect_row(size, repetitions));
+    let headings = ["inspect, clean", "inspect median ns", "build median ns"];
+    print_table(headings, NANOSECONDS, &inspections);
     println!();
-    let counts = RUNS.map(|run| count_rows(&candidate, run, repetitions));
-    print_table(
-        [
-            "count 16 x 1024, full",
-            "count median us",
-            "output median us",
-            "ratio",
-        ],
-        MICROSECONDS,
-        counts.as_flattened(),
-    );
+    let counts = RUNS.map(|run| count_rows(run, repetitions));
+    let headings = [
+        "count 16 x 1024, full",
+        "count median us",
+        "output median us",
+    ];
+    print_table(headings, MICROSECONDS, counts.as_flattened());
     println!();
-    print_budget(&candidate, repetitions);
-    ExitCode::SUCCESS
+    print_budget(repetitions);
+    let above = builds.iter().chain(&inspections).any(Row::is_above);
+    ExitCode::from(u8::from(above))
 }

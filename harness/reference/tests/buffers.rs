@@ -144,6 +144,22 @@ fn examples() {
     }
 }
 
+/// Picture and sound between the same two ports, 9 cells and 1 in 16 slots: as two flows, and as one of 10 cells with two even
+/// sources.
+#[test]
+fn sound_and_picture() {
+    let [picture, sound] = [9, 1].map(|cells| sharp_cells(4, 16, cells));
+    let as_one = sharp_cells(4, 32, 10);
+    let lines: Vec<&str> = TEXT.lines().collect();
+    let text = lines.join(" ");
+    for sentence in [
+        format!("order **{picture} cells** for the picture and **{sound} cells** for the sound"),
+        format!("with one buffer, of {as_one} cells"),
+    ] {
+        assert!(text.contains(&sentence), "missing: {sentence}");
+    }
+}
+
 /// The depth of a flow's queue on a chain, fed as fast as it may be.
 fn depth_on(chain: &[Frame], class: Class, source: Source) -> Depth {
     let course = Course::of(chain, class);

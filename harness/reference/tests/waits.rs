@@ -74,6 +74,23 @@ fn examples() -> Vec<String> {
     ]
 }
 
+/// The same of picture and sound between the same two ports, 9 cells and 1 in 16 slots.
+fn sound_and_picture() -> Vec<String> {
+    let even = |m| paced(4, m, 16);
+    let as_one = |cells_ahead: u64| paced(4, 10, 16 * cells_ahead);
+    vec![
+        format!(
+            "a cell of the picture has left after {} more slots at most, and one of the sound after {}",
+            even(9),
+            even(1)
+        ),
+        format!("every cell would have left after {}.", as_one(2)),
+        format!("a = 41 and it is {} slots", as_one(41)),
+        format!("the sound has its {} slots", even(1)),
+        format!("with 2 cells a frame for the sound it is {}.", even(2)),
+    ]
+}
+
 /// So many slots, and the same in frames of 2^k slots, to three digits after the point, half of the last one rounded up.
 fn in_frames(slots: u128, k: u32) -> String {
     let thousandths = (2_000 * slots + (1 << k)) >> (k + 1);
@@ -189,7 +206,7 @@ fn no_other_tables() {
 fn sentences() {
     let lines: Vec<&str> = TEXT.lines().collect();
     let text = lines.join(" ");
-    for sentence in examples() {
+    for sentence in [examples(), sound_and_picture()].concat() {
         assert!(text.contains(&sentence), "missing: {sentence}");
     }
 }

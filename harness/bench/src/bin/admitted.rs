@@ -1,28 +1,53 @@
-//! Admits full loads of PORTS ports and adds up the same loads by the plain loop, for a count of the instructions of each.
+//! Admits full loads of PORTS ports with FLOWS flows and adds up the same loads by the plain loop, for a count of the instructions of
+//! each.
 
 #![forbid(unsafe_code)]
 
 use std::hint::black_box;
 use std::process::ExitCode;
 
-use calls::{Calls, Library};
-use loads::{full_load, Random, Shape};
+use frame_builder::Flow;
+use loads::{full_load, full_load_of_flows, Call, Random, Shape, FLOW_NUMBERS, MOST_FLOWS};
 
 const SLOTS: usize = 1_024;
 
 /// Enough loads that one of them does not decide the figure.
 const LOADS: usize = 100;
 
-/// One pass over the matrix, a function of its own so that its instructions are counted by themselves.
+/// One pass over the list, a function of its own so that its instructions are counted by themselves.
 #[inline(never)]
-fn plain_loads(ports: usize, matrix: &[u16]) -> ([usize; 16], [usize; 16]) {
-    plain::loads_of(ports, matrix)
+fn plain_loads(list: &[u16]) -> ([usize; 16], [usize; 16]) {
+    plain::loads_of(list)
+}
+
+/// The ports and the flows that the words on the command line ask for; one flow for each pair, or more.
+fn read_size(words: &[String]) -> Option<(usize, usize)> {
+    let numbers: Option<Vec<usize>> = words.iter().map(|word| word.parse().ok()).collect();
+    let [ports, flows] = numbers?[..] else {
+        return None;
+    };
+    let asked = (1..=16).contains(&ports) && (ports * ports..=MOST_FLOWS).contains(&flows);
+    asked.then_some((ports, flows))
+}
+
+/// Admits the load and adds it up.
+fn admit_and_add(call: &Call) {
+    let ports = call.ports as usize;
+    let flows = call.list.chunks_exact(FLOW_NUMBERS);
+    let flows: Vec<Flow> = flows
+        .map(|flow| Flow::new(flow[0], flow[1], flow[2]))
+        .collect();
+    let answer = frame_builder::admit(ports, SLOTS, &flows);
+    assert!(answer.is_ok(), "a full load fits");
+    let (inputs, outputs) = black_box(plain_loads(&call.list));
+    let full = |loads: &[usize]| loads[..ports].iter().all(|&load| load == SLOTS);
+    assert!(full(&inputs) && full(&outputs), "every port is full");
 }
 
 fn main() -> ExitCode {
-    let ports = std::env::args().nth(1).and_then(|word| word.parse().ok());
-    let Some(ports) = ports.filter(|ports| (1..=16).contains(ports)) else {
-        eprintln!("admitted PORTS, from 1 to 16");
+    let words: Vec<String> = std::env::args().skip(1).collect();
+    let Some((ports, flows)) = read_size(&words) else {
+        eprintln!("admitted PORTS FLOWS, with PORTS from 1 to 16 and FLOWS from PORTS x PORTS to {MOST_FLOWS}");
         return ExitCode::from(2);
     };
     let shape = Shape {
@@ -31,12 +56,12 @@ fn main() -> ExitCode {
     };
     let mut random = Random::new(2_026);
     for _ in 0..LOADS {
-        let call = full_load(shape, SLOTS, &mut random);
-        let answer = Library.admit(call.ports, call.slots, &call.matrix);
-        assert!(answer.is_ok(), "a full load fits");
-        let (inputs, outputs) = black_box(plain_loads(ports, &call.matrix));
-        let full = |loads: &[usize]| loads[..ports].iter().all(|&load| load == SLOTS);
-        assert!(full(&inputs) && full(&outputs), "every port is full");
+        let call = if flows == ports * ports {
+            full_load(shape, SLOTS, &mut random)
+        } else {
+            full_load_of_flows(shape, SLOTS, flows, &mut random)
+        };
+        admit_and_add(&call);
     }
     println!("{LOADS}");
     ExitCode::SUCCESS

@@ -1,21 +1,30 @@
-//! Builds the benchmark's loads FIRST to LAST of PORTS × 2^K, every port loaded with CELLS, and prints the odd counts that each
-//! settled, a line each, for a count of instructions.
+//! Builds the benchmark's loads FIRST to LAST of PORTS × 2^K, every port loaded with CELLS, with one flow for each pair or with as many
+//! as there may be, and prints the odd counts that each settled, a line each, for a count of instructions.
 
 #![forbid(unsafe_code)]
 
 use std::process::ExitCode;
 
-use bench::{loads_of, LOADS};
-use calls::{Calls, Library};
-use loads::{Call, Shape};
+use bench::{loads_of, Flows, Load, LOADS};
+use loads::Shape;
+
+const USAGE: &str = "settled PORTS K CELLS each|most FIRST LAST, with PORTS from 1 to 16, K to 10, CELLS to 2^K, and FIRST and LAST from 1 to 16";
 
 /// The loads that the words on the command line ask for.
-fn read_loads(words: &[String]) -> Option<Vec<Call>> {
-    let numbers: Option<Vec<usize>> = words.iter().map(|word| word.parse().ok()).collect();
-    let [ports, k, cells, first, last] = numbers?[..] else {
+fn read_loads(words: &[String]) -> Option<Vec<Load>> {
+    let [ports, k, cells, flows, first, last] = words else {
         return None;
     };
-    let asked = (1..=16).contains(&ports) && k <= 10 && cells <= 1 << k;
+    let flows = match flows.as_str() {
+        "each" => Flows::EachPair,
+        "most" => Flows::Most,
+        _ => return None,
+    };
+    let numbers = [ports, k, cells, first, last].map(|word| word.parse().ok());
+    let [Some(ports), Some(k), Some(cells), Some(first), Some(last)] = numbers else {
+        return None;
+    };
+    let asked = (1..=16).contains(&ports) && k <= 10 && cells <= 1_usize << k;
     if !asked || first == 0 || last > LOADS {
         return None;
     }
@@ -23,19 +32,20 @@ fn read_loads(words: &[String]) -> Option<Vec<Call>> {
         ports,
         slots: 1 << k,
     };
-    let loads = loads_of(shape, cells);
-    loads.get(first - 1..last).map(<[Call]>::to_vec)
+    let loads = loads_of(shape, cells, flows);
+    loads.get(first - 1..last).map(<[Load]>::to_vec)
 }
 
 fn main() -> ExitCode {
     let words: Vec<String> = std::env::args().skip(1).collect();
     let Some(loads) = read_loads(&words) else {
-        eprintln!("settled PORTS K CELLS FIRST LAST, with PORTS from 1 to 16, K to 10, CELLS to 2^K, and FIRST and LAST from 1 to {LOADS}");
+        eprintln!("{USAGE}");
         return ExitCode::from(2);
     };
-    for call in loads {
-        let mut frame = vec![0; call.frame_length];
-        let answer = Library.build(call.ports, call.slots, &call.matrix, &mut frame);
+    for load in loads {
+        let Shape { ports, slots } = load.shape;
+        let mut frame = vec![0; load.shape.frame_length()];
+        let answer = frame_builder::build(ports, slots, &load.list, &mut frame);
         println!("{}", answer.expect("the load fits"));
     }
     ExitCode::SUCCESS
