@@ -39,44 +39,15 @@ pub fn damage(
     frame: &mut Vec<u16>,
     random: &mut Random,
 ) {
-    let ports = shape.ports;
-    let any_entry = random.place(frame.len());
-    let flows = call.flows() as u64;
     match kind {
         Damage::Whole => {}
-        Damage::EntryChanged => frame[any_entry] = random.between(0, flows) as u16,
-        Damage::SlotsSwapped => swap_slots(frame, ports, shape.slots, shape.slots, random),
-        Damage::HalvesCrossed => cross_halves(shape, frame, random),
-        Damage::HalvesExchanged => {
-            let block = random_block(1, shape, frame, random);
-            exchange_uneven(ports, block, random);
-        }
-        Damage::FlowsSwapped => {
-            let block = random_block(0, shape, frame, random);
-            swap_flows(&flows_of(&call.list), block, random);
-        }
-        Damage::CellToOtherSlot => move_cell(shape, call, frame, random),
-        Damage::CellToOtherFlow => redirect_cell(&flows_of(&call.list), frame, random),
-        Damage::InputsExchanged => {
-            let slot = any_entry / ports * ports;
-            frame.swap(any_entry, slot + random.place(ports));
-        }
-        Damage::EntryAboveFlows => frame[any_entry] = above(flows, random),
-        Damage::OtherInputsFlow => {
-            let is_other = |flow: &Flow| flow.input != any_entry % ports;
-            put_flow(&flows_of(&call.list), any_entry, is_other, frame, random);
-        }
-        Damage::OutputDoubled => double_output(shape, &flows_of(&call.list), frame, random),
-        Damage::RandomEntries => *frame = random.entries(frame.len()),
-        Damage::RandomFlows => frame.fill_with(|| random.between(0, flows) as u16),
-        Damage::Bunched => bunch_block(frame, ports),
-        Damage::BlockBunched => bunch_block(random_block(2, shape, frame, random), ports),
         Damage::CellsWrongByOne => change_cells(call, random),
-        Damage::OtherPort => change_port(ports, call, random),
+        Damage::OtherPort => change_port(shape.ports, call, random),
         Damage::ListCut => {
-            let kept = random.between(0, flows.saturating_sub(1)) as usize;
+            let kept = random.place(call.flows().max(1));
             call.list.truncate(kept * FLOW_NUMBERS);
         }
+        Damage::RandomEntries => *frame = random.entries(frame.len()),
         Damage::Several => {
             for _ in 0..random.between(2, 4) {
                 let one = random.pick(&Damage::ALL[..Damage::ALL.len() - 2]);
@@ -88,6 +59,45 @@ pub fn damage(
             *call = load_of_shape(random.pick(&kinds), shape, random);
             frame.resize(call.frame_length, 0);
         }
+        _ => damage_frame(kind, shape, &flows_of(&call.list), frame, random),
+    }
+}
+
+/// Damages that fall on the entries of a frame, by the flows of its list.
+fn damage_frame(
+    kind: Damage,
+    shape: Shape,
+    flows: &[Flow],
+    frame: &mut [u16],
+    random: &mut Random,
+) {
+    let ports = shape.ports;
+    let last = flows.len() as u64;
+    let any_entry = random.place(frame.len());
+    match kind {
+        Damage::SlotsSwapped => swap_slots(frame, ports, shape.slots, shape.slots, random),
+        Damage::HalvesCrossed => cross_halves(shape, frame, random),
+        Damage::HalvesExchanged => {
+            let block = random_block(1, shape, frame, random);
+            exchange_uneven(ports, block, random);
+        }
+        Damage::FlowsSwapped => swap_flows(flows, random_block(0, shape, frame, random), random),
+        Damage::CellToOtherSlot => move_cell(shape, flows, frame, random),
+        Damage::CellToOtherFlow => redirect_cell(flows, frame, random),
+        Damage::InputsExchanged => {
+            let slot = any_entry / ports * ports;
+            frame.swap(any_entry, slot + random.place(ports));
+        }
+        Damage::EntryAboveFlows => frame[any_entry] = above(last, random),
+        Damage::OtherInputsFlow => {
+            let is_other = |flow: &Flow| flow.input != any_entry % ports;
+            put_flow(flows, any_entry, is_other, frame, random);
+        }
+        Damage::OutputDoubled => double_output(shape, flows, frame, random),
+        Damage::RandomFlows => frame.fill_with(|| random.between(0, last) as u16),
+        Damage::Bunched => bunch_block(frame, ports),
+        Damage::BlockBunched => bunch_block(random_block(2, shape, frame, random), ports),
+        _ => frame[any_entry] = random.between(0, last) as u16,
     }
 }
 
@@ -258,9 +268,8 @@ fn two_flows(flows: &[Flow], random: &mut Random) -> Option<[u16; 2]> {
 }
 
 /// Moves a cell to another slot, to one where its ports are free if that is found soon.
-fn move_cell(shape: Shape, call: &Call, frame: &mut [u16], random: &mut Random) {
+fn move_cell(shape: Shape, flows: &[Flow], frame: &mut [u16], random: &mut Random) {
     let ports = shape.ports;
-    let flows = flows_of(&call.list);
     let output_of = |entry: u16| {
         flows
             .get(usize::from(entry).wrapping_sub(1))

@@ -1,7 +1,8 @@
 //! Loads in which one flow has so many cells.
 
+use crate::grid::Grid;
 use crate::list::{Flow, Listing, MOST_FLOWS};
-use crate::load::{Call, Grid, Shape};
+use crate::load::{Call, Shape};
 use crate::random::Random;
 
 /// A flow that keeps its number and its cells from list to list, but not its ports; it has one cell or more.

@@ -24,9 +24,12 @@ macro_rules! kinds {
     };
 }
 
+mod by_flow;
 mod damage;
 mod followed;
+mod grid;
 mod hostile;
+mod ill_formed;
 mod list;
 mod load;
 mod random;
@@ -37,10 +40,11 @@ mod uneven;
 pub use damage::{damage, unbalance_total, Block, Damage};
 pub use followed::{Company, Followed};
 pub use hostile::{hostile_length, hostile_number, hostile_port, LengthKind, HOSTILE};
+pub use ill_formed::junk_number;
 pub use list::{flows_of, flows_of_matrix, list_of, Flow, Listing, FLOW_NUMBERS, MOST_FLOWS};
 pub use load::{
-    full_load, full_load_of_flows, junk_number, load, load_of_shape, load_of_total, random_shape,
-    Call, LoadKind, Shape,
+    full_load, full_load_of_flows, load, load_of_shape, load_of_total, random_shape, Call,
+    LoadKind, Shape,
 };
 pub use random::Random;
 pub use seam::{load_alone, load_beside, Seam, SEAMS};

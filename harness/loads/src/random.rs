@@ -73,3 +73,8 @@ impl Random {
         order
     }
 }
+
+/// An odd number not above the most given.
+pub(crate) fn random_odd(most: u64, random: &mut Random) -> u16 {
+    (1 + 2 * random.below(most.div_ceil(2))) as u16
+}

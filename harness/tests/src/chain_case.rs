@@ -75,7 +75,8 @@ fn carry(
     for later in (0..random.between(1, 12)).rev() {
         let mut call = call_on_chain(kind, shape, flow, later, random);
         while call.list == before {
-            call = call_on_chain(kind, shape, flow, later, random);
+            // Where a flow has the same place, there may be no other list with it.
+            call = next_call(kind, shape, None, random);
         }
         before.clone_from(&call.list);
         let refused = build_and_compare(candidate, &call, &mut buffer, random, hits)?.is_err();

@@ -1,0 +1,76 @@
+//! Lists that are made flow by flow.
+
+use crate::grid::Grid;
+use crate::list::{share_out, Flow, Listing, MOST_FLOWS};
+use crate::load::Shape;
+use crate::random::{random_odd, Random};
+
+/// Flows with odd numbers of cells at any two ports, one after the other until there is no room at those that are tried, or as many
+/// as a list may have.
+pub(crate) fn many_odd(shape: Shape, random: &mut Random) -> Vec<Flow> {
+    let mut rooms = [0; 2].map(|_| vec![shape.slots; shape.ports]);
+    let largest = random.pick(&[1, 5, shape.slots as u64]);
+    let tries = random.between(1, 2 * MOST_FLOWS as u64);
+    let mut flows = Vec::new();
+    for _ in 0..tries {
+        let [input, output] = [0; 2].map(|_| random.place(shape.ports));
+        let room = rooms[0][input].min(rooms[1][output]) as u64;
+        if room == 0 || flows.len() == MOST_FLOWS {
+            continue;
+        }
+        let cells = random_odd(room.min(largest), random);
+        rooms[0][input] -= usize::from(cells);
+        rooms[1][output] -= usize::from(cells);
+        flows.push(Flow {
+            input,
+            output,
+            cells,
+        });
+    }
+    flows
+}
+
+/// Several flows on one pair that have all its cells between them, among flows of other pairs.
+pub(crate) fn on_one_pair(shape: Shape, random: &mut Random) -> Vec<Flow> {
+    let pair = Flow {
+        cells: random.between(1, shape.slots as u64) as u16,
+        ..Flow::without_cells(shape.ports, random)
+    };
+    let mut flows = vec![pair];
+    let number = random.between(2, 40) as usize;
+    share_out(&mut flows, number, shape.ports, random);
+    let left = shape.slots - usize::from(pair.cells);
+    let mut rooms = [0; 2].map(|_| vec![shape.slots; shape.ports]);
+    rooms[0][pair.input] = left;
+    rooms[1][pair.output] = left;
+    let mut grid = Grid::new(shape);
+    grid.scatter_in(random.pick(&[0, shape.ports]), rooms, random);
+    flows.extend(grid.into_flows(Listing::Reserved, random));
+    random.shuffle(&mut flows);
+    flows
+}
+
+/// Flows with as many cells as there can be, up to all of a list at one port.
+pub(crate) fn largest(shape: Shape, random: &mut Random) -> Vec<Flow> {
+    let number = random.pick(&[1, 2, 17, MOST_FLOWS - 1, MOST_FLOWS]);
+    let mut flow = Flow::without_cells(shape.ports, random);
+    let mut flows = Vec::new();
+    let [same_input, same_output] = [2, 2].map(|times| random.one_in(times));
+    for _ in 0..number {
+        flow = Flow {
+            input: if same_input {
+                flow.input
+            } else {
+                random.place(shape.ports)
+            },
+            output: if same_output {
+                flow.output
+            } else {
+                random.place(shape.ports)
+            },
+            cells: u16::MAX,
+        };
+        flows.push(flow);
+    }
+    flows
+}
