@@ -1,7 +1,7 @@
 //! Frames that are not what the builder made.
 
 use crate::list::{flows_of, Flow, FLOW_NUMBERS};
-use crate::load::{load_of_shape, Call, LoadKind, Shape};
+use crate::load::{junk_of_shape, load_of_shape, Call, LoadKind, Shape};
 use crate::random::Random;
 
 kinds! {
@@ -55,8 +55,7 @@ pub fn damage(
             }
         }
         Damage::Junk => {
-            let kinds = [LoadKind::Junk, LoadKind::Junk, LoadKind::TooManyFlows];
-            *call = load_of_shape(random.pick(&kinds), shape, random);
+            *call = junk_of_shape(shape, random);
             frame.resize(call.frame_length, 0);
         }
         _ => damage_frame(kind, shape, &flows_of(&call.list), frame, random),

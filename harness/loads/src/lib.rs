@@ -43,8 +43,8 @@ pub use hostile::{hostile_length, hostile_number, hostile_port, LengthKind, HOST
 pub use ill_formed::junk_number;
 pub use list::{flows_of, flows_of_matrix, list_of, Flow, Listing, FLOW_NUMBERS, MOST_FLOWS};
 pub use load::{
-    full_load, full_load_of_flows, load, load_of_shape, load_of_total, random_shape, Call,
-    LoadKind, Shape,
+    full_load, full_load_of_flows, junk_of_shape, load, load_of_shape, load_of_total, random_shape,
+    Call, LoadKind, Shape,
 };
 pub use random::Random;
 pub use seam::{load_alone, load_beside, Seam, SEAMS};

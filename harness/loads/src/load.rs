@@ -195,6 +195,13 @@ pub fn load_of_shape(kind: LoadKind, shape: Shape, random: &mut Random) -> Call 
     grid.into_call(random.pick(kind.listings()), random)
 }
 
+/// A call with anything wrong, or with a list that is turned away before its loads are added up.
+pub fn junk_of_shape(shape: Shape, random: &mut Random) -> Call {
+    let ill_formed = random.pick(&LoadKind::ILL_FORMED);
+    let kind = random.pick(&[LoadKind::Junk, LoadKind::Junk, ill_formed]);
+    load_of_shape(kind, shape, random)
+}
+
 /// A load of a kind that is no matrix with a listing.
 fn other_list(kind: LoadKind, shape: Shape, random: &mut Random) -> Call {
     match kind {

@@ -1,7 +1,7 @@
 //! Cases of Slot view and Service count.
 
 use calls::{Calls, Class, Count};
-use loads::{junk_number, load_of_shape, random_shape, Call, LoadKind, Random};
+use loads::{junk_number, junk_of_shape, load_of_shape, random_shape, Call, LoadKind, Random};
 use reference::LONGEST_RUN;
 
 use crate::build_case::lend;
@@ -89,11 +89,23 @@ pub fn check_count(
 ) -> Verdict {
     let (call, frame) = any_frame(kind == RunKind::Junk, random);
     let run = start_and_length(kind, call.slots, random);
-    let mut class = random_class(call.ports.clamp(1, 16), call.flows(), random);
+    let mut class = counted_class(&call, &frame, random);
     if kind == RunKind::Junk && random.one_in(3) {
         class = junk_class(&call, random);
     }
     count_and_compare(candidate, &call, &frame, class, run, random, hits)
+}
+
+/// A class of the switch; a flow is one that is in the frame, where an entry at random is one.
+fn counted_class(call: &Call, frame: &Lent, random: &mut Random) -> Class {
+    let entries = frame.part();
+    let entry = entries.get(random.place(entries.len().max(1)));
+    let number = u64::from(entry.copied().unwrap_or_default());
+    let is_flow = (1..=call.flows() as u64).contains(&number);
+    match random_class(call.ports.clamp(1, 16), call.flows(), random) {
+        Class::Flow { .. } if is_flow => Class::Flow { number },
+        any => any,
+    }
 }
 
 /// Counts with the candidate and the reference, in a run given by its start and its length, and compares.
@@ -125,12 +137,17 @@ pub fn count_and_compare(
 /// A list, and a frame of random entries or its own, in a shape that may be wrong.
 fn any_frame(junk: bool, random: &mut Random) -> (Call, Lent) {
     let shape = random_shape(random);
-    let kind = random.pick(&[LoadKind::Scattered, LoadKind::Sparse, LoadKind::NoFlows]);
-    let mut call = load_of_shape(kind, shape, random);
+    let kinds = [
+        LoadKind::Scattered,
+        LoadKind::Scattered,
+        LoadKind::Sparse,
+        LoadKind::MostFlows,
+        LoadKind::NoFlows,
+    ];
+    let mut call = load_of_shape(random.pick(&kinds), shape, random);
     let mut entries = any_entries(&call, random);
     if junk {
-        let kind = random.pick(&[LoadKind::Junk, LoadKind::Junk, LoadKind::TooManyFlows]);
-        call = load_of_shape(kind, shape, random);
+        call = junk_of_shape(shape, random);
         entries.resize(call.frame_length, 1);
     }
     let frame = lend(&entries, random);
