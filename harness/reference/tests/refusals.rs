@@ -5,6 +5,8 @@ use reference::{
     LONGEST_RUN, MOST_FLOWS,
 };
 
+const HEADER: &str = include_str!("../../../include/frame_builder.h");
+
 /// Flow 1 is at an input that no switch has, flow 2 at input 1 with 9 cells.
 const OUTSIDE: [u16; 6] = [17, 1, 9, 1, 1, 9];
 
@@ -272,6 +274,7 @@ fn loads_of_the_most_flows_are_summed_whole() {
         cells: 33_553_920,
     };
     assert_eq!(admit(16, 1_024, &list), Err(refusal));
+    assert!(HEADER.contains("its load, slots + 1 to 33,553,920\n"));
 }
 
 #[test]

@@ -1,8 +1,10 @@
 //! Odd counts settled, worked by hand.
 
 use loads::{flows_of_matrix, list_of};
-use reference::build;
-use reference::work::{odd_counts, settled};
+use reference::work::{bound, bound_by_size, odd_counts, settled};
+use reference::{build, MOST_FLOWS};
+
+const HEADER: &str = include_str!("../../../include/frame_builder.h");
 
 /// Flows 3 and 4 of the whole frame, and in each half the four flows that it has.
 const TABLE_7_FRAME: [u16; 16] = [1, 0, 0, 5, 2, 0, 0, 3, 1, 0, 0, 4, 2, 0, 0, 5];
@@ -59,4 +61,14 @@ fn answered_by_build() {
         let answer = build(ports, slots, list, &mut frame);
         assert_eq!(answer, Ok(number), "{ports} x {slots}");
     }
+}
+
+/// The numbers that the header has for the largest switch and for one flow for each pair of it.
+#[test]
+fn the_most_in_the_header() {
+    let says = |words: &str| HEADER.replace("\n *", "").contains(words);
+    assert_eq!(bound_by_size(16, MOST_FLOWS as u64, 10), 97_792);
+    assert!(says("97,792 at most for 16 x 1,024"));
+    assert_eq!(bound(16, 4), 1_024);
+    assert!(says("1,024 for 16 x 16"));
 }
