@@ -39,12 +39,12 @@ fn right_builders_are_not_sent_back() {
 
 #[test]
 fn numbers_cut_to_32_bits() {
-    sent_back!(build: cut_ports, "hostile/build");
-    sent_back!(inspect: cut_slots, "hostile/inspect");
-    sent_back!(slot_view: cut_view, "hostile/view");
-    sent_back!(service_count: cut_run, "hostile/count");
+    sent_back!(build: cut_ports, "hostile/build", 4_000);
+    sent_back!(inspect: cut_slots, "hostile/inspect", 4_000);
+    sent_back!(slot_view: cut_view, "hostile/view", 4_000);
+    sent_back!(service_count: cut_run, "hostile/count", 4_000);
     sent_back!(service_count: cut_flow, "hostile/count", 4_000);
-    sent_back!(service_count: cut_lead, "hostile/count");
+    sent_back!(service_count: cut_lead, "hostile/count", 4_000);
 }
 
 #[test]
