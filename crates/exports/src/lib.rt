@@ -14,13 +14,13 @@ use model::Who;
 pub extern "C" fn frame_builder_admit(
     ports: usize,
     slots: usize,
-    matrix: &[u16],
+    list: &[u16],
     first: &mut usize,
     second: &mut usize,
 ) -> usize
-    ensures { λ r. ⌜ Three (admitted ports slots (now (matrix .entry))) r (now (first .exit)) (now (second .exit)) ⌝ }
+    ensures { λ r. ⌜ Three (admitted ports slots (now (list .entry))) r (now (first .exit)) (now (second .exit)) ⌝ }
 {
-    let n = numbers::of_answer(admission::admit(ports, slots, matrix));
+    let n = numbers::of_answer(admission::admit(ports, slots, list));
     *first = n.first;
     *second = n.second;
     n.number
@@ -31,14 +31,14 @@ pub extern "C" fn frame_builder_admit(
 pub extern "C" fn frame_builder_inspect(
     ports: usize,
     slots: usize,
-    matrix: &[u16],
-    frame: &[u8],
+    list: &[u16],
+    frame: &[u16],
     first: &mut usize,
     second: &mut usize,
 ) -> usize
-    ensures { λ r. ⌜ Three (inspected ports slots (now (matrix .entry)) (now (frame .entry))) r (now (first .exit)) (now (second .exit)) ⌝ }
+    ensures { λ r. ⌜ Three (inspected ports slots (now (list .entry)) (now (frame .entry))) r (now (first .exit)) (now (second .exit)) ⌝ }
 {
-    let n = numbers::of_inspection(inspection::inspect(ports, slots, matrix, frame));
+    let n = numbers::of_inspection(inspection::inspect(ports, slots, list, frame));
     *first = n.first;
     *second = n.second;
     n.number
@@ -49,15 +49,15 @@ pub extern "C" fn frame_builder_inspect(
 pub extern "C" fn frame_builder_build(
     ports: usize,
     slots: usize,
-    matrix: &[u16],
-    frame: &mut [u8],
+    list: &[u16],
+    frame: &mut [u16],
     first: &mut usize,
     second: &mut usize,
 ) -> usize
-    ensures { λ r. ⌜ Three (built ports slots (now (matrix .entry)) (now (frame .entry))) r (now (first .exit)) (now (second .exit)) ⌝ }
-    ensures { λ _. ⌜ now (frame .exit) ≡ left ports slots (now (matrix .entry)) (now (frame .entry)) ⌝ }
+    ensures { λ r. ⌜ Three (built ports slots (now (list .entry)) (now (frame .entry))) r (now (first .exit)) (now (second .exit)) ⌝ }
+    ensures { λ _. ⌜ now (frame .exit) ≡ left ports slots (now (list .entry)) (now (frame .entry)) ⌝ }
 {
-    let n = numbers::of_built(schedule::build(ports, slots, matrix, frame));
+    let n = numbers::of_built(schedule::build(ports, slots, list, frame));
     *first = n.first;
     *second = n.second;
     n.number
@@ -67,39 +67,40 @@ pub extern "C" fn frame_builder_build(
 fn count(
     ports: usize,
     slots: usize,
-    frame: &[u8],
+    list: &[u16],
+    frame: &[u16],
     who: Who,
     start: usize,
     len: usize,
     cells: &mut usize,
     lead: &mut i64,
 ) -> usize
-    ensures { λ r. ⌜ Replied (service ports slots (now (frame .entry)) who start len) r (now (cells .exit)) (now (lead .exit)) ⌝ }
+    ensures { λ r. ⌜ Replied (service ports slots (now (list .entry)) (now (frame .entry)) who start len) r (now (cells .exit)) (now (lead .exit)) ⌝ }
 {
-    let n = numbers::of_service(service::service_count(ports, slots, frame, who, start, len));
+    let n = numbers::of_service(service::service_count(ports, slots, list, frame, who, start, len));
     *cells = n.cells;
     let signed = n.lead;
     *lead = signed;
     n.number
 }
 
-// Service count for a pair.
+// Service count for a flow.
 #[no_mangle]
-pub extern "C" fn frame_builder_count_pair(
+pub extern "C" fn frame_builder_count_flow(
     ports: usize,
     slots: usize,
-    frame: &[u8],
-    input: usize,
-    output: usize,
+    list: &[u16],
+    frame: &[u16],
+    flow: usize,
     start: usize,
     len: usize,
     cells: &mut usize,
     lead: &mut i64,
 ) -> usize
-    ensures { λ r. ⌜ Replied (service ports slots (now (frame .entry)) (Who.Pair input output) start len) r (now (cells .exit)) (now (lead .exit)) ⌝ }
+    ensures { λ r. ⌜ Replied (service ports slots (now (list .entry)) (now (frame .entry)) (Who.Flow flow) start len) r (now (cells .exit)) (now (lead .exit)) ⌝ }
 {
-    let who = Who::Pair { input, output };
-    count(ports, slots, frame, who, start, len, cells, lead)
+    let who = Who::Flow(flow);
+    count(ports, slots, list, frame, who, start, len, cells, lead)
 }
 
 // Service count for an input.
@@ -107,17 +108,18 @@ pub extern "C" fn frame_builder_count_pair(
 pub extern "C" fn frame_builder_count_input(
     ports: usize,
     slots: usize,
-    frame: &[u8],
+    list: &[u16],
+    frame: &[u16],
     input: usize,
     start: usize,
     len: usize,
     cells: &mut usize,
     lead: &mut i64,
 ) -> usize
-    ensures { λ r. ⌜ Replied (service ports slots (now (frame .entry)) (Who.Input input) start len) r (now (cells .exit)) (now (lead .exit)) ⌝ }
+    ensures { λ r. ⌜ Replied (service ports slots (now (list .entry)) (now (frame .entry)) (Who.Input input) start len) r (now (cells .exit)) (now (lead .exit)) ⌝ }
 {
     let from = Who::Input(input);
-    count(ports, slots, frame, from, start, len, cells, lead)
+    count(ports, slots, list, frame, from, start, len, cells, lead)
 }
 
 // Service count for an output.
@@ -125,25 +127,26 @@ pub extern "C" fn frame_builder_count_input(
 pub extern "C" fn frame_builder_count_output(
     ports: usize,
     slots: usize,
-    frame: &[u8],
+    list: &[u16],
+    frame: &[u16],
     output: usize,
     start: usize,
     len: usize,
     cells: &mut usize,
     lead: &mut i64,
 ) -> usize
-    ensures { λ r. ⌜ Replied (service ports slots (now (frame .entry)) (Who.Output output) start len) r (now (cells .exit)) (now (lead .exit)) ⌝ }
+    ensures { λ r. ⌜ Replied (service ports slots (now (list .entry)) (now (frame .entry)) (Who.Output output) start len) r (now (cells .exit)) (now (lead .exit)) ⌝ }
 {
     let to = Who::Output(output);
-    count(ports, slots, frame, to, start, len, cells, lead)
+    count(ports, slots, list, frame, to, start, len, cells, lead)
 }
 
-// Slot view: where in the frame the part begins, and how many bytes it has, stand in for the part itself.
+// Slot view: where in the frame the part begins, and how many entries it has, stand in for the part itself.
 #[no_mangle]
 pub extern "C" fn frame_builder_slot_view(
     ports: usize,
     slots: usize,
-    frame: &[u8],
+    frame: &[u16],
     slot: usize,
     start: &mut usize,
     size: &mut usize,

@@ -1,0 +1,10 @@
+use borrow.Author.Needs.{needs}
+use Rattle.exports.proofs.frame_builder_count_flow.Statement.{statement}
+use Rattle.exports.proofs.frame_builder_count_flow.Tie as tie
+
+pub frame-builder-count-flow-spec : {M : Type 1} → statement M
+frame-builder-count-flow-spec =
+    tie.close
+    (tie.spec
+    (λ c κs. search needs)
+    (λ c. c .count .ensures))
