@@ -50,27 +50,21 @@ pub(crate) fn on_one_pair(shape: Shape, random: &mut Random) -> Vec<Flow> {
     flows
 }
 
-/// Flows with as many cells as there can be, up to all of a list at one port.
+/// Flows with as many cells as there can be, at any ports, or all of them at one input or at one output.
 pub(crate) fn largest(shape: Shape, random: &mut Random) -> Vec<Flow> {
     let number = random.pick(&[1, 2, 17, MOST_FLOWS - 1, MOST_FLOWS]);
-    let mut flow = Flow::without_cells(shape.ports, random);
-    let mut flows = Vec::new();
-    let [same_input, same_output] = [2, 2].map(|times| random.one_in(times));
-    for _ in 0..number {
-        flow = Flow {
-            input: if same_input {
-                flow.input
-            } else {
-                random.place(shape.ports)
-            },
-            output: if same_output {
-                flow.output
-            } else {
-                random.place(shape.ports)
-            },
-            cells: u16::MAX,
-        };
-        flows.push(flow);
-    }
-    flows
+    let first = Flow::without_cells(shape.ports, random);
+    let [same_input, same_output] = [0; 2].map(|_| random.one_in(2));
+    let flows = (0..number).map(|_| {
+        let mut flow = Flow::without_cells(shape.ports, random);
+        if same_input {
+            flow.input = first.input;
+        }
+        if same_output {
+            flow.output = first.output;
+        }
+        flow.cells = u16::MAX;
+        flow
+    });
+    flows.collect()
 }

@@ -15,11 +15,13 @@ kinds! {
 }
 
 /// The half of a block that a cell is in.
-#[derive(Clone, Copy, PartialEq)]
+#[derive(Clone, Copy)]
 enum Half {
     Front,
     Back,
 }
+
+use Half::{Back, Front};
 
 /// A flow with its cells in a block of each sort; the two have as many. Ports are counted from 0.
 struct Laid {
@@ -42,8 +44,6 @@ const fn laid(
         unevenly,
     }
 }
-
-use Half::{Back, Front};
 
 /// Two flows of one pair change places.
 const BY_FLOW: [Laid; 2] = [
