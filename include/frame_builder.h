@@ -54,7 +54,7 @@
 
 /* The most stack that a call takes, its arguments and its return address included. Build takes more than any other call. A thread of
  * PTHREAD_STACK_MIN and a signal stack of SIGSTKSZ may be too small for it. */
-#define FRAME_BUILDER_STACK_BYTES 49152
+#define FRAME_BUILDER_STACK_BYTES 28672
 
 /* Answers. What each means is its text in frame_builder_text; what it carries is in the tables of the calls. */
 #define FRAME_BUILDER_ACCEPTED 0

@@ -35,7 +35,7 @@ fn first_far(a: &[u16; 545], b: &[u16; 545], from: usize, count: usize) -> usize
     let end = from + count;
     let mut x = from;
     while x < end {
-        if apart(widths::count(a[x]), widths::count(b[x])) {
+        if apart(widths::number(a[x]), widths::number(b[x])) {
             return x;
         }
         x += 1;

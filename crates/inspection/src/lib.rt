@@ -39,7 +39,7 @@ fn lowest_wrong(ports: usize, slots: usize, list: &[u16], frame: &[u16], slot: u
     let from = slot * ports;
     let mut i: usize = 0;
     while i < ports {
-        let entry = widths::count(frame[from + i]);
+        let entry = widths::number(frame[from + i]);
         if is_wrong(ports, list, i, entry) {
             return i;
         }
@@ -107,7 +107,7 @@ fn first_wrong_count(ports: usize, slots: usize, list: &[u16], frame: &[u16]) ->
     let count = flows_of(list);
     let mut f: usize = 0;
     while f < count {
-        if widths::count(tally[f]) != number_of(list, f, 2) {
+        if widths::number(tally[f]) != number_of(list, f, 2) {
             return f;
         }
         f += 1;

@@ -109,7 +109,7 @@ fn slot_cells(ports: usize, list: &[u16], who: Who, entries: &[u16]) -> usize
     let mut sum: usize = 0;
     let mut q: usize = first_entry(ports, list, who);
     while q < entries.len() {
-        sum += counted(ports, list, who, widths::count(entries[q]));
+        sum += counted(ports, list, who, widths::number(entries[q]));
         q += step;
     }
     sum

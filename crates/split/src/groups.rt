@@ -1,5 +1,5 @@
 // Groups: who is joined by partnership favours the two halves in turn. A count has 0 until it is settled.
-use widths::position;
+use widths::number;
 ghost use mathlib.Core.Path.{_≡_};
 ghost use Prim.Native.Nat.{_<_};
 ghost use lib.ListN.{take, replicate};
@@ -29,7 +29,7 @@ fn walk(
     let mut p = start;
     loop {
         let second = near[p];
-        let q = position(second);
+        let q = number(second);
         if favoured[q] != 0 {
             return n;
         }
@@ -37,7 +37,7 @@ fn walk(
         group[n] = second;
         n += 1;
         let first = far[q];
-        p = position(first);
+        p = number(first);
         if favoured[p] != 0 {
             return n;
         }
@@ -54,7 +54,7 @@ fn turn_round(group: &[u16; 528], n: usize, favoured: &mut [u8; 528])
 {
     let mut i: usize = 0;
     while i < n {
-        let q = position(group[i]);
+        let q = number(group[i]);
         favoured[q] = other_half(favoured[q]);
         i += 1;
     }
@@ -113,7 +113,7 @@ pub(crate) fn settle(
     let mut turn: u8 = 1;
     let mut i: usize = 0;
     while i < k {
-        let p = position(odds[i]);
+        let p = number(odds[i]);
         turn = settle_group(p, turn, in_mates, out_mates, group, favoured);
         i += 1;
     }

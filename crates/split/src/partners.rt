@@ -1,6 +1,6 @@
 // Partners: at each port of a side, the odd counts first with second, third with fourth, and so on.
 use widths::byte;
-use widths::position;
+use widths::number;
 ghost use mathlib.Core.Path.{_≡_};
 ghost use Prim.Native.Nat.{_%_, _<_};
 ghost use Rattle.model.specs.Words.{if};
@@ -30,11 +30,11 @@ pub(crate) fn link(odds: &[u16; 528], k: usize, table: &[u8; 528], mates: &mut [
     let mut i: usize = 0;
     while i < k {
         let p = odds[i];
-        let own = position(p);
+        let own = number(p);
         let port = port_index(table[own]);
         let waiting = waits[port];
         let q = mate(waiting, held[port], p);
-        let other = position(q);
+        let other = number(q);
         mates[own] = q;
         mates[other] = p;
         held[port] = p;

@@ -1,4 +1,4 @@
-// Bytes, counts and positions at the width of a number.
+// Bytes and numbers of 16 bits at the width of a number.
 ghost use mathlib.Core.Path.{_≡_};
 ghost use Prim.Native.Nat.{_<_, _≤_};
 
@@ -9,16 +9,9 @@ pub fn byte(x: u8) -> usize
     x as usize
 }
 
-// A position as a number.
-pub fn position(p: u16) -> usize
-    ensures { λ r. ⌜ (r ≡ p) × (r ≤ 65535) ⌝ }
+// A number of 16 bits: a position, a count, an entry of a frame.
+pub fn number(n: u16) -> usize
+    ensures { λ r. ⌜ (r ≡ n) × (r ≤ 65535) ⌝ }
 {
-    p as usize
-}
-
-// A count of cells, or an entry of a frame, as a number.
-pub fn count(cells: u16) -> usize
-    ensures { λ r. ⌜ (r ≡ cells) × (r ≤ 65535) ⌝ }
-{
-    cells as usize
+    n as usize
 }

@@ -14,7 +14,7 @@ loop-again : tie.Need-loop-again Inv-loop μ-loop
 loop-again c =
     let read = c .before .before in
     let at = read .before .before in
-    counting-on (at .before .before .before .before .before .before .pre) (at .loop .inv) (read .before .loop-test .taken) (read .count .ensures .0) (c .before .number-of .ensures .0) (c .if1 .left)
+    counting-on (at .before .before .before .before .before .before .pre) (at .loop .inv) (read .before .loop-test .taken) (read .number .ensures .0) (c .before .number-of .ensures .0) (c .if1 .left)
 
 pub first-wrong-count-spec : {M : Type 1} → statement M
 first-wrong-count-spec =

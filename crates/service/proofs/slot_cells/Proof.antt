@@ -36,7 +36,7 @@ module _ (c : tie.After-counted Inv-loop μ-loop) where
   step-most = omega (arith, stepping .next-entry .ensures, placed start .1)
 
   again : Counting (classOf (start .args .who)) (start .args .ports) (start .args .list .now) (start .args .entries .now) (turn .before .loop .q + stepping .next-entry .result) (turn .before .loop .sum + c .counted .result)
-  again = counting-on (turn .before .loop .inv) step-least (stepping .next-entry .ensures) (c .before .count .ensures .0) (c .counted .ensures)
+  again = counting-on (turn .before .loop .inv) step-least (stepping .next-entry .ensures) (c .before .number .ensures .0) (c .counted .ensures)
 
 pub slot-cells-spec : {M : Type 1} → statement M
 slot-cells-spec =
