@@ -1,6 +1,6 @@
 -- One more digit picked, one more word marked, and one more turned to the others.
-use Prim.Native.Nat.{ℕ, _+_, _-_, _*_, _/_, _%_, _^_, _≤_, _<_, max}
-use mathlib.Core.Path.{_≡_, refl, sym, ap, ap₂, _∙_}
+use Prim.Native.Nat.{ℕ, _+_, _-_, _*_, _/_, _%_, _^_, _≤_, _<_}
+use mathlib.Core.Path.{_≡_, refl, ap, _∙_}
 use mathlib.Core.Logic.{_≢_}
 use mathlib.Core.List.{List}
 use native.Mathlib.Omega.{arith}
@@ -14,10 +14,8 @@ use Rattle.model.proofs.Partners.{every-map}
 use Rattle.planes.specs.Digits.{digit, places}
 use Rattle.planes.specs.Planes.{digitAt, wordsOf, spanOf, Ends, Mask}
 use Rattle.planes.specs.Steps.{PutAt, Picked, Marked, Others}
-use Rattle.planes.proofs.Lists.{at-end}
 use Rattle.planes.proofs.Digits.{digit-most, digit-none, digit-sum, if-same, if-other}
 use Rattle.planes.proofs.Lowest.{rest, next-place, next-zeros, next-digit, next-fits}
-use Rattle.planes.proofs.Counts.{digit-le}
 use Rattle.planes.proofs.Placed.{word-below}
 
 -- ---- one word

@@ -1,8 +1,8 @@
 -- One more place written, and one more word gathered.
-use Prim.Native.Nat.{ℕ, suc, zero, _+_, _-_, _*_, _/_, _%_, _^_, _≤_, _<_}
+use Prim.Native.Nat.{ℕ, _+_, _-_, _*_, _^_, _≤_, _<_}
 use mathlib.Core.Path.{_≡_, refl, sym, ap, ap₂, _∙_}
 use mathlib.Core.Logic.{_≢_}
-use mathlib.Core.List.{List, [], _∷_, _++_, append-nil}
+use mathlib.Core.List.{List, [], _++_, append-nil}
 use mathlib.Core.Bool.{true}
 use native.Mathlib.Omega.{arith}
 use native.Mathlib.Numerals.{add-one}
@@ -17,7 +17,7 @@ use Rattle.model.proofs.Partners.{every-map, keep-every}
 use Rattle.planes.specs.Digits.{digit, places}
 use Rattle.planes.specs.Planes.{digitAt, oddAt, oddsIn, wordsOf, spanOf, Ends}
 use Rattle.planes.specs.Steps.{Placed, Gathered}
-use Rattle.planes.proofs.Lists.{at-end, keep-add, keep-none, keep-most}
+use Rattle.planes.proofs.Lists.{keep-add, keep-none, keep-most}
 use Rattle.planes.proofs.Lowest.{rest, places-none, places-kept, next-place, next-fits, next-zeros}
 use Rattle.planes.proofs.Counts.{none-odd}
 

@@ -3,7 +3,8 @@ use widths::number;
 ghost use mathlib.Core.Path.{_≡_};
 ghost use Prim.Native.Nat.{_<_};
 ghost use lib.ListN.{take, replicate};
-ghost use Rattle.split.specs.Steps.{Wide, Positions, Odds, Mates, otherHalf, turned, Listed, Walks, largerHalf, Turn, Settles, SettledBy};
+ghost use Rattle.split.specs.Steps.{Wide, Positions, Odds, Mates, Listed, Walks, Turn, Settles, SettledBy};
+ghost use Rattle.split.specs.Steps.{otherHalf, turned, largerHalf};
 
 // The half that a count does not favour.
 fn other_half(half: u8) -> u8
@@ -78,7 +79,8 @@ fn settle_group(
     group: &mut [u16; 528],
     favoured: &mut [u8; 528],
 ) -> u8
-    requires { ⌜ (p < 528) × Mates (now «in_mates») × Mates (now «out_mates») × Wide (now group) × Wide (now favoured) × Turn turn (now favoured) ⌝ }
+    requires { ⌜ (p < 528) × Mates (now «in_mates») × Mates (now «out_mates») × Wide (now group) × Wide (now favoured)
+        × Turn turn (now favoured) ⌝ }
     ensures { λ r. ⌜ Wide (now (group .exit)) × Settles (now («in_mates» .entry)) (now («out_mates» .entry)) p (now (favoured .entry)) r (now (favoured .exit)) ⌝ }
 {
     if favoured[p] != 0 {
@@ -107,8 +109,10 @@ pub(crate) fn settle(
     group: &mut [u16; 528],
     favoured: &mut [u8; 528],
 )
-    requires { ⌜ Odds (now odds) k × Mates (now «in_mates») × Mates (now «out_mates») × Wide (now group) × (now favoured ≡ replicate 528 0) ⌝ }
-    ensures { λ _. ⌜ Wide (now (group .exit)) × SettledBy (now («in_mates» .entry)) (now («out_mates» .entry)) (now (odds .entry)) k (now (favoured .entry)) (now (favoured .exit)) ⌝ }
+    requires { ⌜ Odds (now odds) k × Mates (now «in_mates») × Mates (now «out_mates») × Wide (now group)
+        × (now favoured ≡ replicate 528 0) ⌝ }
+    ensures { λ _. ⌜ Wide (now (group .exit))
+        × SettledBy (now («in_mates» .entry)) (now («out_mates» .entry)) (now (odds .entry)) k (now (favoured .entry)) (now (favoured .exit)) ⌝ }
 {
     let mut turn: u8 = 1;
     let mut i: usize = 0;

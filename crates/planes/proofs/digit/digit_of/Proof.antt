@@ -1,5 +1,4 @@
 use borrow.Author.Needs.{needs}
-use native.Mathlib.Omega.{arith}
 use Rattle.planes.specs.Digits.{digit}
 use Rattle.planes.proofs.digit.digit_of.Statement.{statement}
 use Rattle.planes.proofs.digit.digit_of.Tie as tie

@@ -1,6 +1,5 @@
 use Prim.Native.Nat.{_-_}
 use borrow.Author.Needs.{needs}
-use native.Mathlib.Omega.{arith}
 use Rattle.schedule.proofs.Written.{Cleared, cleared-start, cleared-on, cleared-end}
 use Rattle.schedule.proofs.slots.clear.Statement.{statement}
 use Rattle.schedule.proofs.slots.clear.Tie as tie

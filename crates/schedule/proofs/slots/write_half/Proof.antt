@@ -1,5 +1,4 @@
 use borrow.Author.Needs.{needs}
-use native.Mathlib.Omega.{arith}
 use Rattle.schedule.proofs.Framed.{two-ends, two-slot}
 use Rattle.schedule.proofs.slots.write_half.Statement.{statement}
 use Rattle.schedule.proofs.slots.write_half.Tie as tie

@@ -1,5 +1,4 @@
 use borrow.Author.Needs.{needs}
-use native.Mathlib.Omega.{arith}
 use Rattle.planes.proofs.Counts.{block-ends}
 use Rattle.planes.proofs.Marked.{others-mask}
 use Rattle.schedule.proofs.Framed.{mid-length, still-le, front-two, back-two, written-two}
