@@ -2,24 +2,54 @@
 // case a line with the call, what is asked of it, and the answer's number and values, the last of a count's its lead.
 mod admits;
 mod counts;
+mod lists;
+mod refused_counts;
 mod show;
 mod views;
 
-fn main() {
+// Admit and Slot view.
+fn admits_and_views() {
     admits::sizes();
+    admits::lengths();
+    admits::flow_ports();
+    admits::later_flow_ports();
     admits::input_loads();
+    admits::one_pair();
     admits::output_loads();
-    admits::two_at_once();
-    admits::ports_and_loads();
+    admits::sixteen_flows();
+    admits::ports_and_others();
+    admits::slots_and_others();
+    admits::length_and_others();
+    admits::flows_and_others();
     admits::two_with_loads();
     views::slots();
     views::sizes();
     views::two_at_once();
+}
+
+// Service count.
+fn service_counts() {
     counts::runs();
     counts::leads();
-    counts::any_bytes();
-    counts::sizes();
-    counts::questions();
-    counts::two_with_sizes();
-    counts::two_with_questions();
+    counts::least_and_most();
+    counts::any_entries();
+    counts::twice_in_a_slot();
+    counts::pairs();
+    counts::lists();
+    refused_counts::sizes();
+    refused_counts::lengths();
+    refused_counts::flow_ports();
+    refused_counts::questions();
+    refused_counts::flow_numbers();
+    refused_counts::ports_and_others();
+    refused_counts::slots_and_others();
+    refused_counts::list_and_others();
+    refused_counts::flows_and_others();
+    refused_counts::flow_port_and_others();
+    refused_counts::two_with_questions();
+}
+
+fn main() {
+    admits_and_views();
+    service_counts();
 }

@@ -61,11 +61,11 @@ fn refusal(refusal: Refusal) {
 }
 
 // The answer's number and values, 0 for accepted.
-pub fn admit(ports: usize, slots: usize, matrix: &[u16]) {
+pub fn admit(ports: usize, slots: usize, list: &[u16]) {
     rack(b"Admit", ports, slots);
-    named(b"counts", matrix.len());
+    named(b"numbers", list.len());
     io::write_all(1, b":");
-    let answer = admission::admit(ports, slots, matrix);
+    let answer = admission::admit(ports, slots, list);
     match answer {
         Answer::Accepted => number(0),
         Answer::Refused(r) => refusal(r),
@@ -73,49 +73,55 @@ pub fn admit(ports: usize, slots: usize, matrix: &[u16]) {
     io::write_all(1, b"\n");
 }
 
-// Each byte of a part.
-fn bytes(part: &[u8]) {
+// Each entry of a part.
+fn entries(part: &[u16]) {
     let mut q: usize = 0;
     while q < part.len() {
-        number(widths::byte(part[q]));
+        number(widths::count(part[q]));
         q += 1;
     }
 }
 
-// The refusal's number, 0 for none, and the bytes of the part.
-pub fn view(ports: usize, slots: usize, frame: &[u8], slot: usize) {
+// The refusal's number, 0 for none, and the entries of the part.
+pub fn view(ports: usize, slots: usize, frame: &[u16], slot: usize) {
     rack(b"Slot view", ports, slots);
-    named(b"bytes", frame.len());
+    named(b"entries", frame.len());
     named(b"slot", slot);
     io::write_all(1, b":");
     let mut refused: usize = 99;
     let part = view::slot_view(ports, slots, frame, slot, &mut refused);
     number(refused);
-    bytes(part);
+    entries(part);
     io::write_all(1, b"\n");
 }
 
 // Whom a count is for.
 fn whom(who: Who) {
     match who {
-        Who::Pair { input, output } => {
-            named(b"pair", input);
-            number(output);
-        }
+        Who::Flow(flow) => named(b"flow", flow),
         Who::Input(input) => named(b"input", input),
         Who::Output(output) => named(b"output", output),
     }
 }
 
 // 0, the cells and the lead, or the refusal's number.
-pub fn count(ports: usize, slots: usize, frame: &[u8], who: Who, start: usize, len: usize) {
+pub fn count(
+    ports: usize,
+    slots: usize,
+    list: &[u16],
+    frame: &[u16],
+    who: Who,
+    start: usize,
+    len: usize,
+) {
     rack(b"Service count", ports, slots);
-    named(b"bytes", frame.len());
+    named(b"numbers", list.len());
+    named(b"entries", frame.len());
     whom(who);
     named(b"start", start);
     named(b"length", len);
     io::write_all(1, b":");
-    let answer = service::service_count(ports, slots, frame, who, start, len);
+    let answer = service::service_count(ports, slots, list, frame, who, start, len);
     match answer {
         Service::Counted(count) => {
             load(0, count.cells);

@@ -2,17 +2,17 @@
 ghost use Prim.Native.Nat.{_≤_};
 use crate::show::view;
 
-// A view of so many bytes that are 0.
-fn idle(ports: usize, slots: usize, bytes: usize, slot: usize)
-    requires { ⌜ bytes ≤ 16 ⌝ }
+// A view of so many entries that are 0.
+fn idle(ports: usize, slots: usize, entries: usize, slot: usize)
+    requires { ⌜ entries ≤ 2048 ⌝ }
 {
-    let zeros = [0u8; 16];
-    view(ports, slots, &zeros[0..bytes], slot);
+    let zeros = [0u16; 2048];
+    view(ports, slots, &zeros[0..entries], slot);
 }
 
-// Every slot of a frame, and a frame of one slot and of one port.
+// Every slot of a frame of any entries, and a frame of one slot and of one port.
 pub fn slots() {
-    let frame = [1u8, 2, 0, 0, 2, 1, 77, 0];
+    let frame = [1u16, 2, 0, 0, 512, 256, 65535, 513];
     view(2, 4, &frame, 1);
     view(2, 4, &frame, 2);
     view(2, 4, &frame, 3);
@@ -25,10 +25,12 @@ pub fn slots() {
 pub fn sizes() {
     idle(0, 4, 0, 1);
     idle(16, 1, 16, 1);
-    idle(17, 1, 16, 1);
+    idle(17, 1, 17, 1);
     idle(1, 0, 0, 1);
+    idle(1, 1, 1, 1);
     idle(1, 3, 3, 1);
-    idle(1, 2048, 16, 1);
+    idle(1, 1024, 1024, 1024);
+    idle(1, 2048, 2048, 1);
     idle(2, 4, 7, 1);
     idle(2, 4, 9, 1);
     idle(2, 4, 8, 0);

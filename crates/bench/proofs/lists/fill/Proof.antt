@@ -2,14 +2,14 @@ use Prim.Native.Nat.{_-_}
 use mathlib.Core.Path.{_≡_}
 use lib.ListN.{length}
 use borrow.Author.Needs.{needs}
-use Rattle.bench.proofs.admits.fill.Statement.{statement}
-use Rattle.bench.proofs.admits.fill.Tie as tie
+use Rattle.bench.proofs.lists.fill.Statement.{statement}
+use Rattle.bench.proofs.lists.fill.Tie as tie
 
 abbrev Inv-loop : tie.InvT-loop
-Inv-loop matrix₀ from step cells p₀ matrix p = length matrix ≡ 256
+Inv-loop list₀ place number p₀ list p = length list ≡ 1540
 
 abbrev μ-loop : tie.MeasureT-loop
-μ-loop matrix₀ from step cells p₀ matrix p = 256 - p
+μ-loop list₀ place number p₀ list p = 1540 - p
 
 pub fill-spec : {M : Type 1} → statement M
 fill-spec =
