@@ -1,5 +1,5 @@
 -- Every port's load, flow by flow: the cells of each are added at its input and at its output.
-use Prim.Native.Nat.{ℕ, suc, _+_, _-_, _*_, _≤_, _<_}
+use Prim.Native.Nat.{ℕ, _+_, _-_, _*_, _≤_, _<_}
 use mathlib.Core.Path.{_≡_, refl, sym, ap, _∙_}
 use mathlib.Core.List.{List}
 use native.Mathlib.Omega.{arith}
@@ -11,9 +11,9 @@ use lib.Dec.{eqb}
 use lib.ListN.{length, getD, set, replicate, length-set}
 use lib.Seq.{getD-set-same, getD-set-other}
 use borrow.Author.Tests.{eq-eqb, ne-eqb}
-use Rattle.model.specs.Words.{if, sumTo, sumIf}
+use Rattle.model.specs.Words.{if, sumIf}
 use Rattle.model.specs.Flows.{flows, numberOf, Side, inputs, outputs, placeOf, portOf, countsOf, Class, input, output, isOf, loadIn, load}
-use Rattle.model.proofs.Cases.{byBool, byEq}
+use Rattle.model.proofs.Cases.{byEq}
 use Rattle.model.proofs.Settled.{zero-at}
 use Rattle.model.proofs.Sums.{sum-none, sum-more, sum-ext, sum-zero}
 use Rattle.model.proofs.Flows.{counts-length, counts-at}

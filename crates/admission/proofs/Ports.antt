@@ -1,11 +1,11 @@
 -- 22, of one flow, and by a loop: of the flows of a list, none of those tried has a port outside.
 use Prim.Native.Nat.{ℕ, _+_, _≤_, _<_}
-use mathlib.Core.Path.{_≡_, refl, sym, ap, _∙_}
+use mathlib.Core.Path.{_≡_, sym, _∙_}
 use mathlib.Core.List.{List}
 use mathlib.Core.Bool.{Bool, true, false, not}
 use native.Mathlib.Omega.{arith}
 use borrow.Author.Tests.{lt-ltb, le-ltb, not-true, not-false}
-use Rattle.model.specs.Words.{both, within, first}
+use Rattle.model.specs.Words.{within, first}
 use Rattle.model.specs.Flows.{flows, numberOf}
 use Rattle.model.specs.Refusals.{portsWithin, bad-flow}
 use Rattle.model.proofs.Searches.{Passed, passed-start, passed-on, passed-found, passed-done}

@@ -1,6 +1,6 @@
 -- Searches of the code, step by step.
 use Prim.Native.Nat.{ℕ, suc, _+_, _-_, _*_, _≤_, _<_}
-use mathlib.Core.Path.{_≡_, refl, sym, ap, _∙_}
+use mathlib.Core.Path.{_≡_, sym, ap, _∙_}
 use mathlib.Core.List.{List}
 use mathlib.Core.Bool.{Bool, true, false, not}
 use native.Mathlib.Omega.{arith}
@@ -10,11 +10,10 @@ use lib.Dec.{eqb}
 use lib.ListN.{length, getD}
 use mir.Syntax.{w64}
 use mir.Val.{Fits}
-use borrow.Author.Tests.{lt-ltb, le-ltb, lt-leb, eq-eqb, ne-eqb}
-use Rattle.model.specs.Words.{first, within}
+use borrow.Author.Tests.{lt-ltb, le-ltb, eq-eqb, ne-eqb}
+use Rattle.model.specs.Words.{first}
 use Rattle.model.specs.Flows.{flows, numberOf, inputs, portOf, countsOf, flow, output, load}
 use Rattle.model.specs.Frames.{right, cells, runOf}
-use Rattle.model.specs.Refusals.{levels}
 use Rattle.model.specs.Inspect.{isWrong, twiceIn, usedTwice, wrongCount}
 use Rattle.model.proofs.Cases.{byEq, byLt, within-yes, within-above}
 use Rattle.model.proofs.Searches.{Passed, passed-start, passed-on, passed-found, passed-done, first-found, first-before}

@@ -1,7 +1,7 @@
 -- Demand 2: a well-formed load is refused as overloaded exactly where it does not fit, with the lowest such port and its
 -- load; every other one is accepted, and Build leaves the rules' only frame.
-use Prim.Native.Nat.{ℕ, suc, _*_, _-_, _%_, _^_, _≤_}
-use mathlib.Core.Path.{_≡_, refl, sym, _∙_, subst}
+use Prim.Native.Nat.{ℕ, suc, _*_, _%_, _^_, _≤_}
+use mathlib.Core.Path.{_≡_, sym, _∙_, subst}
 use mathlib.Core.List.{List, [], _∷_, _++_}
 use mathlib.Core.Bool.{true, false, not}
 use native.Mathlib.Omega.{arith}

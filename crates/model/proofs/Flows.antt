@@ -1,18 +1,17 @@
 -- Flows: the counts of a list, one for each flow, and what an entry counts for.
 use Prim.Native.Nat.{ℕ, suc, zero, _+_, _-_, _%_, _≤_, _<_}
 use mathlib.Core.Path.{_≡_, refl, sym, ap, _∙_}
-use mathlib.Core.List.{List, [], _∷_, map}
-use mathlib.Core.Bool.{Bool, true, false, not}
+use mathlib.Core.List.{List, map}
+use mathlib.Core.Bool.{Bool, true}
 use native.Mathlib.Omega.{arith}
-use lib.Dec.{eqb, leb}
-use lib.ListN.{length, getD, List·getD-eq-default}
+use lib.Dec.{eqb}
+use lib.ListN.{length, getD}
 use borrow.Author.Tests.{eqb-true, eq-eqb, ne-eqb}
-use Rattle.model.specs.Words.{if, both, bit, within, upFrom, sumTo, sumIf}
-use Rattle.model.specs.Flows.{stride, flows, numberOf, Side, inputs, portOf, countsOf, Class, flow, input, output, total, isOf, loadIn, load}
+use Rattle.model.specs.Words.{if, both, bit, upFrom, sumIf}
+use Rattle.model.specs.Flows.{flows, numberOf, inputs, portOf, countsOf, Class, flow, input, output, total, isOf, loadIn}
 use Rattle.model.specs.Frames.{isFlow, right, counts, cells}
-use Rattle.model.proofs.Cases.{byBool, byEq, byLt, both-true, is-yes, is-no, within-yes, within-true}
+use Rattle.model.proofs.Cases.{byBool, byEq, both-true, is-yes, is-no, within-yes, within-true}
 use Rattle.model.proofs.Sums.{sum-ext, sum-zero, sum-one, sum-swap}
-use Rattle.model.proofs.Halves.{load-flow}
 
 -- ---- the counts of a list
 pub map-length : (f : ℕ → ℕ) (a n : ℕ) → length (map f (upFrom a n)) ≡ n

@@ -1,6 +1,6 @@
 -- Latest: the longest wait is reached, by the seam of Reached, and at the head of the queue by one with a count that is odd all the way down.
 use Prim.Native.Nat.{ℕ, suc, zero, _+_, _*_, _/_, _-_, _^_, _≤_, _<_}
-use mathlib.Core.Path.{_≡_, refl, ap, ap₂, _∙_}
+use mathlib.Core.Path.{_≡_, ap, ap₂, _∙_}
 use mathlib.Core.List.{List, [], _∷_}
 use native.Mathlib.Nat.{mul-le-mul-left, mul-le-mul-right, div-eq-of-lt-le}
 use native.Mathlib.Omega.{arith}

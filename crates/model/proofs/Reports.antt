@@ -9,7 +9,7 @@ use lib.Dec.{eqb, ltb}
 use lib.ListN.{length, getD}
 use lib.Pow.{pow-pos}
 use borrow.Author.Tests.{eqb-true, eqb-false, eq-eqb, ne-eqb, le-ltb, ltb-false, not-false}
-use Rattle.model.specs.Words.{both, within, first, Every}
+use Rattle.model.specs.Words.{within, first, Every}
 use Rattle.model.specs.Flows.{stride, flows, numberOf, Side, inputs, outputs, placeOf}
 use Rattle.model.specs.Refusals.{Check, report, clear, refusal, accepted, levels, bad-ports, bad-slots, bad-list, bad-flows, portsWithin, bad-flow, bad-frame, bad-slot}
 use Rattle.model.specs.Service.{bad-length}

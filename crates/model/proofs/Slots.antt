@@ -1,5 +1,5 @@
 -- Rule 6: the slot of counts that fit one slot, which is the only one, and its cells.
-use Prim.Native.Nat.{ℕ, suc, zero, _+_, _*_, _%_, _≤_, _<_}
+use Prim.Native.Nat.{ℕ, suc, zero, _+_, _%_, _≤_, _<_}
 use mathlib.Core.Path.{_≡_, refl, sym, ap, _∙_, subst}
 use mathlib.Core.Logic.{_≢_}
 use mathlib.Core.List.{List, [], _∷_}
@@ -10,9 +10,9 @@ use lib.Dec.{eqb}
 use lib.ListN.{length, getD, set, replicate, length-set, length-replicate}
 use lib.Seq.{getD-set-same, getD-set-other, ext-getD}
 use borrow.Author.Tests.{eqb-true, eq-eqb}
-use Rattle.model.specs.Words.{if, bit, upFrom, keep, sumTo}
-use Rattle.model.specs.Flows.{flows, Side, inputs, portOf, Class, flow, input, loadIn, Fits}
-use Rattle.model.specs.Frames.{right, counts, cells}
+use Rattle.model.specs.Words.{if, upFrom, keep}
+use Rattle.model.specs.Flows.{flows, Side, inputs, portOf, Class, flow, loadIn, Fits}
+use Rattle.model.specs.Frames.{right, cells}
 use Rattle.model.specs.Rules.{odd, Slot}
 use Rattle.model.specs.Schedule.{put, slotOf}
 use Rattle.model.proofs.Cases.{byBool, byEq, is-yes, is-no}

@@ -1,7 +1,7 @@
 -- The bound of demand 3 is reached, and a flow's queue is as deep as it allows, behind another switch too: document 01's seam
 -- load, k = 1, two ports. A frame of the flow from input 1 to output 2 alone with 1 cell, then a frame of it and of one to output 1 with 1
 -- each: the last slot of the first and the first slot of the second have no cell of it. For every k the sharp bound is reached: Reached.
-use Prim.Native.Nat.{ℕ, suc, zero, _+_, _*_, _-_, _^_, _≤_, min}
+use Prim.Native.Nat.{ℕ, suc, zero, _+_, _*_, _-_, _^_, min}
 use mathlib.Core.Path.{_≡_, refl}
 use mathlib.Core.List.{List, [], _∷_, map}
 use native.Mathlib.Omega.{arith}

@@ -1,10 +1,10 @@
 -- The frame by pairs, as document 01 with card 2 fixes it, for one law alone: a list with one flow for each pair in matrix order puts
 -- the same pairs in the same slots.
-use Prim.Native.Nat.{ℕ, suc, zero, _+_, _*_, _-_, _/_, _%_}
+use Prim.Native.Nat.{ℕ, suc, zero, _+_, _-_, _/_, _%_}
 use mathlib.Core.Path.{_≡_}
 use mathlib.Core.List.{List, [], _∷_, _++_, map}
 use lib.Dec.{eqb}
-use lib.ListN.{length, getD, set, replicate}
+use lib.ListN.{length, set, replicate}
 use Rattle.model.specs.Words.{if, upFrom, keep}
 use Rattle.model.specs.Flows.{Side, inputs, outputs, portOf, countsOf}
 use Rattle.model.specs.Rules.{odd}

@@ -1,5 +1,5 @@
 -- One more digit of a count stored, and one more count.
-use Prim.Native.Nat.{ℕ, suc, zero, _+_, _*_, _/_, _%_, _^_, _≤_, _<_, max}
+use Prim.Native.Nat.{ℕ, _+_, _*_, _/_, _%_, _^_, _≤_, _<_, max}
 use mathlib.Core.Path.{_≡_, refl, sym, ap, ap₂, _∙_}
 use mathlib.Core.Logic.{_≢_}
 use mathlib.Core.List.{List}
@@ -12,7 +12,7 @@ use Rattle.model.specs.Words.{if}
 use Rattle.model.specs.Flows.{flows, numberOf, countsOf}
 use Rattle.model.proofs.Cases.{byEq}
 use Rattle.model.proofs.Flows.{counts-length, counts-at}
-use Rattle.planes.specs.Digits.{digit, binary}
+use Rattle.planes.specs.Digits.{digit}
 use Rattle.planes.specs.Planes.{digitIn, countAt, counts}
 use Rattle.planes.specs.Steps.{PutAt, Blank, Stored, Loaded}
 use Rattle.planes.proofs.Lists.{zeros-at}

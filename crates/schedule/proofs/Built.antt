@@ -9,7 +9,7 @@ use lib.Dec.{eqb}
 use lib.ListN.{length, getD}
 use borrow.Author.Tests.{eqb-true, not-false}
 use Rattle.model.specs.Flows.{countsOf}
-use Rattle.model.specs.Refusals.{report, clear, refusal, accepted, answered, levels, bad-frame, overloads}
+use Rattle.model.specs.Refusals.{report, refusal, accepted, answered, levels, bad-frame, overloads}
 use Rattle.model.specs.Schedule.{settled}
 use Rattle.model.specs.Build.{buildChecks, buildAccepts, frameFor, acceptance, built, left}
 use Rattle.model.specs.declared.Refusal.{Refusal}

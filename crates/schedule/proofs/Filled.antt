@@ -15,7 +15,7 @@ use Rattle.model.proofs.Flows.{counts-length, counts-at}
 use Rattle.model.proofs.Halves.{load-has}
 use Rattle.model.proofs.Demand2.{well-placed, Accepts}
 use Rattle.model.proofs.SamePorts.{frame-same}
-use Rattle.planes.specs.Planes.{countAt, counts, Block}
+use Rattle.planes.specs.Planes.{counts, Block}
 use Rattle.planes.specs.Steps.{Loaded}
 use Rattle.planes.proofs.Counts as in-planes
 use Rattle.split.specs.Steps.{tabled}

@@ -18,7 +18,7 @@ use Rattle.model.proofs.OneFrame.{frame-length}
 use Rattle.model.proofs.SamePorts.{slot-same}
 use Rattle.planes.specs.Planes.{counts, halves, Ends, Block, Mask}
 use Rattle.planes.specs.Steps.{Halved, Others}
-use Rattle.planes.proofs.Counts.{counts-length, block-ends}
+use Rattle.planes.proofs.Counts.{block-ends}
 use Rattle.planes.proofs.Halved.{halved-counts, halved-block}
 use Rattle.split.specs.Steps.{tabled, Favours}
 use Rattle.split.proofs.Divided.{half-is, favours-second}

@@ -1,6 +1,6 @@
 -- The ports of one more flow in the tables, and what the tables of a list have.
 use Prim.Native.Nat.{ℕ, _+_, _-_, _≤_, _<_}
-use mathlib.Core.Path.{_≡_, sym, _∙_}
+use mathlib.Core.Path.{_≡_, _∙_}
 use mathlib.Core.List.{List}
 use native.Mathlib.Omega.{arith}
 use lib.ListN.{set, length, length-set}
@@ -9,7 +9,7 @@ use Rattle.model.specs.Flows.{Side, inputs, outputs, flows, numberOf, placeOf, 
 use Rattle.model.proofs.Cases.{byEq, Within}
 use Rattle.admission.specs.Lists.{Taken}
 use Rattle.split.specs.Steps.{Wide, lookup, tabled, Sides}
-use Rattle.schedule.specs.Steps.{Table, Tables, Tabled}
+use Rattle.schedule.specs.Steps.{Tables, Tabled}
 
 -- ---- one more flow
 pub record Tabling (list : List ℕ) (n f : ℕ) (ins outs : List ℕ) : Type 0 where

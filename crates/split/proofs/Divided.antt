@@ -1,5 +1,5 @@
 -- What the steps are lent, the mask that they leave, and the halves that it gives.
-use Prim.Native.Nat.{ℕ, suc, _+_, _-_, _/_, _≤_, _<_}
+use Prim.Native.Nat.{ℕ, suc, _+_, _/_, _≤_, _<_}
 use mathlib.Core.Path.{_≡_, refl, sym, ap, ap₂, _∙_}
 use mathlib.Core.Logic.{_≢_}
 use mathlib.Core.List.{List}
@@ -9,7 +9,6 @@ use lib.Dec.{eqb}
 use lib.ListN.{length, getD, replicate, length-replicate}
 use lib.Seq.{getD-take}
 use Rattle.model.specs.Words.{bit}
-use Rattle.model.specs.Rules.{odd}
 use Rattle.model.specs.Schedule.{favours, halfBy, halfOf}
 use Rattle.model.proofs.Cases.{byEq, is-yes, is-no}
 use Rattle.model.proofs.Partners.{every-map, keep-every, keep-rising}

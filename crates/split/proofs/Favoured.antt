@@ -11,10 +11,10 @@ use lib.Seq.{length-take-le, getD-take, take-set-lt, drop-set-lt}
 use borrow.Author.Tests.{eq-eqb, ne-eqb}
 use Rattle.model.specs.Words.{both, upFrom, keep, Every}
 use Rattle.model.specs.Flows.{inputs, outputs}
-use Rattle.model.specs.Rules.{odd, oddsAt}
+use Rattle.model.specs.Rules.{odd}
 use Rattle.model.specs.Schedule.{partnerIn, partner, walk, groupOf, favouring, level, settleAt, settle, favours}
-use Rattle.model.proofs.Cases.{byBool, byEq, byLt}
-use Rattle.model.proofs.Partners.{odd-lt, every-map, keep-every}
+use Rattle.model.proofs.Cases.{byBool, byEq}
+use Rattle.model.proofs.Partners.{odd-lt}
 use Rattle.model.proofs.Kept.{keep-same, keep-keep}
 use Rattle.model.proofs.Favouring.{none-favour, settled-less, unsettled-most}
 use Rattle.model.proofs.Walks.{walk-on, walk-off, walk-length}
