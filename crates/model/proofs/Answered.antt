@@ -9,7 +9,7 @@ use lib.ListN.{length, getD}
 use borrow.Author.Tests.{not-false}
 use Rattle.model.specs.Flows.{flows, portOf, countsOf, Class, flow, input, output}
 use Rattle.model.specs.Frames.{cells}
-use Rattle.model.specs.Refusals.{Check, report, clear, bad-ports, bad-slots, bad-list, bad-flows, bad-flow, listChecks, bad-frame, bad-slot, overloads, admitted}
+use Rattle.model.specs.Refusals.{Check, report, clear, bad-ports, bad-slots, bad-list, bad-flows, bad-flow, bad-link, listChecks, bad-frame, bad-slot, overloads, admitted}
 use Rattle.model.specs.Schedule.{frameOf}
 use Rattle.model.specs.Work.{work}
 use Rattle.model.specs.Build.{left, buildChecks, acceptance, built}
@@ -20,16 +20,16 @@ use Rattle.model.specs.declared.Who.the-variants.{Flow, Input, Output}
 use Rattle.model.proofs.Cases.{from-one, byLt, Within, within-yes, within-true}
 use Rattle.model.proofs.Levels.{Power, power-level}
 use Rattle.model.proofs.OneFrame.{only-frame}
-use Rattle.model.proofs.Reports.{Tells, ports-tells, slots-tells, list-tells, flows-tells, flow-tells, frame-tells, clear-then, clear-none, clear-some, broken, byFact, slot-tells, length-tells}
+use Rattle.model.proofs.Reports.{Tells, ports-tells, slots-tells, list-tells, flows-tells, flow-tells, link-tells, frame-tells, clear-then, clear-none, clear-some, broken, byFact, slot-tells, length-tells}
 use Rattle.model.proofs.Replies.{count, reply-refused, reply-counted}
 use Rattle.model.proofs.Integers.{minus-ahead, minus-behind}
-use Rattle.model.proofs.Overloads.{byOver}
+use Rattle.model.proofs.Overloads.{byOver, byPast}
 use Rattle.model.proofs.Demand2.{WellFormed, well-clear, past-load, past-frame, well-frame, light-fits, admit-answers, build-answers, accepts-yes, build-keeps}
-use Rattle.model.proofs.Answers.{Exactly, exactly, RackRefused, ports-1, slots-2, LoadRefused, FrameRefused, SlotRefused, rack, list-3, flows-21, flow-22, load-refused, frame-4, slot-11, SlotFound, Admits, refused, input-5, output-6, accepted, Builds, Inspects, found, Views, seen, Names, of-flow, of-input, of-output, RunFound, Counts, start-11, who-12, length-13, counted-ahead, counted-behind, ByCases}
+use Rattle.model.proofs.Answers.{Exactly, exactly, RackRefused, ports-1, slots-2, LoadRefused, FrameRefused, SlotRefused, rack, list-3, flows-21, flow-22, link-23, load-refused, frame-4, slot-11, SlotFound, Admits, refused, input-5, output-6, link-24, accepted, Builds, Inspects, found, Views, seen, Names, of-flow, of-input, of-output, RunFound, Counts, start-11, who-12, length-13, counted-ahead, counted-behind, ByCases}
 use Rattle.model.proofs.Clean.{find-only, fault-means}
 use Rattle.model.proofs.Responses.{respond-exactly}
 
--- ---- 1 to 4, 11, 21 and 22, which calls have in common
+-- ---- 1 to 4, 11, 21, 22 and 23, which calls have in common
 -- what a case says is reported, whatever conditions come after
 module _ (ports slots : ℕ) (cs : List Check) (asked : List ℕ) where
   rack-reported : {n : ℕ} → RackRefused ports slots n → report (bad-ports ports ∷ bad-slots slots ∷ cs) asked ≡ n ∷ []
@@ -38,11 +38,20 @@ module _ (ports slots : ℕ) (cs : List Check) (asked : List ℕ) where
 
 module _ (ports slots : ℕ) (list : List ℕ) (cs : List Check) (asked : List ℕ) where
   load-reported : {n : ℕ} → LoadRefused ports slots list n → report (listChecks ports slots list ++ cs) asked ≡ n ∷ []
-  load-reported (rack r) = rack-reported ports slots (bad-list list ∷ bad-flows list ∷ bad-flow ports list ∷ cs) asked r
+  load-reported (rack r) = rack-reported ports slots (bad-list list ∷ bad-flows list ∷ bad-flow ports list ∷ bad-link list ∷ cs) asked r
   load-reported (list-3 p s b) = rw (ports-tells ports .met p, slots-tells slots .met s, broken (list-tells list) b)
   load-reported (flows-21 p s e b) = rw (ports-tells ports .met p, slots-tells slots .met s, list-tells list .met e, broken (flows-tells list) b)
   load-reported (flow-22 p s e f b) =
       rw (ports-tells ports .met p, slots-tells slots .met s, list-tells list .met e, flows-tells list .met f, broken (flow-tells ports list) b)
+  load-reported (link-23 p s e f w b) =
+      rw (
+        ports-tells ports .met p,
+        slots-tells slots .met s,
+        list-tells list .met e,
+        flows-tells list .met f,
+        flow-tells ports list .met w,
+        broken (link-tells list) b,
+      )
 
 module _ (ports slots : ℕ) (list entries : List ℕ) (cs : List Check) (asked : List ℕ) where
   frame-reported : {n : ℕ} → FrameRefused ports slots list entries n → report (listChecks ports slots list ++ (bad-frame ports slots entries ∷ cs)) asked ≡ n ∷ []
@@ -59,6 +68,7 @@ frame-low (load-refused (rack r)) = rack-low r
 frame-low (load-refused (list-3 p s b)) = omega arith
 frame-low (load-refused (flows-21 p s e b)) = omega arith
 frame-low (load-refused (flow-22 p s e f b)) = omega arith
+frame-low (load-refused (link-23 p s e f w b)) = omega arith
 frame-low (frame-4 w b) = omega arith
 
 slot-low : {ports slots : ℕ} {entries : List ℕ} {slot n : ℕ} → SlotRefused ports slots entries slot n → 0 < n
@@ -102,7 +112,8 @@ byLoad ports slots list off on =
     (λ p s. byFact (list-tells list) (λ b. off 3 (list-3 p s b))
     (λ e. byFact (flows-tells list) (λ b. off 21 (flows-21 p s e b))
     (λ f. byFact (flow-tells ports list) (λ b. off 22 (flow-22 p s e f b))
-    (λ w. on (record { rack = p; power = s; whole = e; few = f; ported = w })))))
+    (λ w. byFact (link-tells list) (λ b. off 23 (link-23 p s e f w b))
+    (λ l. on (record { rack = p; power = s; whole = e; few = f; ported = w; linked = l }))))))
 
 byFrame : {P : Type 0} (ports slots : ℕ) (list entries : List ℕ) → ((n : ℕ) → FrameRefused ports slots list entries n → P)
     → (WellFormed ports slots list → length entries ≡ slots * ports → P) → P
@@ -119,54 +130,66 @@ bySlot ports slots entries slot off on =
     (λ h. on (slot - 1) (record { rack = p; power = s; size = e; low = omega arith; number = omega arith }))))
 
 -- ---- Admit
-module _ (ports slots : ℕ) (list : List ℕ) where
+module _ (ports slots : ℕ) (list limits : List ℕ) where
   -- what a case says is Admit's answer
-  admit-only : (given : List ℕ) → Admits ports slots list given → given ≡ admitted ports slots list
+  admit-only : (given : List ℕ) → Admits ports slots list limits given → given ≡ admitted ports slots list limits
   unfolding admitted
-  admit-only given (refused r) = sym (load-reported ports slots list (overloads ports slots list) (0 ∷ []) r)
-  admit-only given (input-5 w x o) = sym (admit-answers ports slots list w .input-over x o)
-  admit-only given (output-6 w l x o) = sym (admit-answers ports slots list w .output-over l x o)
-  admit-only given (accepted w f) = sym (admit-answers ports slots list w .accepts f)
+  admit-only given (refused r) = sym (load-reported ports slots list (overloads ports slots list limits) (0 ∷ []) r)
+  admit-only given (input-5 w x o) = sym (admit-answers ports slots list w limits .input-over x o)
+  admit-only given (output-6 w l x o) = sym (admit-answers ports slots list w limits .output-over l x o)
+  admit-only given (link-24 w i o x p) = sym (admit-answers ports slots list w limits .link-over i o x p)
+  admit-only given (accepted w f a) = sym (admit-answers ports slots list w limits .accepts f a)
 
-  pub admit-exactly : Exactly (Admits ports slots list) (admitted ports slots list)
+  pub admit-exactly : Exactly (Admits ports slots list limits) (admitted ports slots list limits)
   admit-exactly =
       byLoad ports slots list (λ n r. exactly admit-only (refused r))
       (λ w. byOver 5 input ports slots list (λ x o. exactly admit-only (input-5 w x o))
       (λ i. byOver 6 output ports slots list (λ x o. exactly admit-only (output-6 w i x o))
-      (λ o. exactly admit-only (accepted w (light-fits ports slots list i o)))))
+      (λ o. byPast ports list limits (λ x p. exactly admit-only (link-24 w i o x p))
+      (λ a. exactly admit-only (accepted w (light-fits ports slots list i o) a)))))
 
 -- ---- Build
-module _ (ports slots : ℕ) (list buffer : List ℕ) where
+module _ (ports slots : ℕ) (list limits buffer : List ℕ) where
   -- Build's answer, and the entries that it leaves
   abbrev pub build : List ℕ × List ℕ
-  build = (built ports slots list buffer, left ports slots list buffer)
+  build = (built ports slots list limits buffer, left ports slots list limits buffer)
 
   -- an answer that begins with a number other than 0 leaves the entries that were lent
-  kept : {n : ℕ} {values : List ℕ} → 0 < n → built ports slots list buffer ≡ n ∷ values → _≡_ {A = List ℕ × List ℕ} (n ∷ values, buffer) build
+  kept : {n : ℕ} {values : List ℕ} → 0 < n → built ports slots list limits buffer ≡ n ∷ values
+      → _≡_ {A = List ℕ × List ℕ} (n ∷ values, buffer) build
   kept {n} {values} h e =
       ap₂ (λ (a b : List ℕ). (a, b)) (sym e)
-      (sym (build-keeps ports slots list buffer
-      (clear-some (buildChecks ports slots list buffer) (acceptance ports slots list buffer) refl (λ z. let y = ap (λ (l : List ℕ). getD l 0 0) e in omega arith))))
+      (sym (build-keeps ports slots list limits buffer
+      (clear-some (buildChecks ports slots list limits buffer) (acceptance ports slots list limits buffer) refl
+      (λ z. let y = ap (λ (l : List ℕ). getD l 0 0) e in omega arith))))
 
   -- what a case says is Build's answer and what it leaves
-  build-only : (given : List ℕ × List ℕ) → Builds ports slots list buffer given → given ≡ build
+  build-only : (given : List ℕ × List ℕ) → Builds ports slots list limits buffer given → given ≡ build
   unfolding buildChecks
-  build-only given (refused r) = kept (frame-low r) (frame-reported ports slots list buffer (overloads ports slots list) (acceptance ports slots list buffer) r)
-  build-only given (input-5 w e x o) = kept (omega arith) (build-answers ports slots list w buffer e .input-over x o)
-  build-only given (output-6 w e l x o) = kept (omega arith) (build-answers ports slots list w buffer e .output-over l x o)
+  build-only given (refused r) =
+      kept (frame-low r)
+      (frame-reported ports slots list buffer (overloads ports slots list limits) (acceptance ports slots list limits buffer) r)
+  build-only given (input-5 w e x o) = kept (omega arith) (build-answers ports slots list w limits buffer e .input-over x o)
+  build-only given (output-6 w e l x o) = kept (omega arith) (build-answers ports slots list w limits buffer e .output-over l x o)
+  build-only given (link-24 w e i o x p) = kept (omega arith) (build-answers ports slots list w limits buffer e .link-over i o x p)
   build-only given (accepted a entries s) =
-      let leaves : entries ≡ left ports slots list buffer = only-frame ports (portOf list) (a .well .power .k) (countsOf list) entries s ∙ rw (accepts-yes ports slots list buffer a, power-level (a .well .power)) in
+      let leaves : entries ≡ left ports slots list limits buffer
+      = only-frame ports (portOf list) (a .well .power .k) (countsOf list) entries s
+      ∙ rw (accepts-yes ports slots list limits buffer a, power-level (a .well .power)) in
       ap₂ (λ (x y : List ℕ). (x, y))
-      (ap (λ (l : List ℕ). 0 ∷ work ports slots list l ∷ []) leaves ∙ sym (build-answers ports slots list (a .well) buffer (a .size) .accepts (a .fits)))
+      (ap (λ (l : List ℕ). 0 ∷ work ports slots list l ∷ []) leaves
+      ∙ sym (build-answers ports slots list (a .well) limits buffer (a .size) .accepts (a .fits) (a .allowed)))
       leaves
 
-  pub build-exactly : Exactly (Builds ports slots list buffer) build
+  pub build-exactly : Exactly (Builds ports slots list limits buffer) build
   build-exactly =
       byFrame ports slots list buffer (λ n r. exactly build-only (refused r))
       (λ w e. byOver 5 input ports slots list (λ x o. exactly build-only (input-5 w e x o))
       (λ i. byOver 6 output ports slots list (λ x o. exactly build-only (output-6 w e i x o))
-      (λ o. let fits = light-fits ports slots list i o in
-      exactly build-only (accepted (record { well = w; size = e; fits = fits }) (frameOf ports (portOf list) (w .power .k) (countsOf list)) (well-frame ports slots list w fits)))))
+      (λ o. byPast ports list limits (λ x p. exactly build-only (link-24 w e i o x p))
+      (λ a. let fits = light-fits ports slots list i o in
+      exactly build-only (accepted (record { well = w; size = e; fits = fits; allowed = a })
+      (frameOf ports (portOf list) (w .power .k) (countsOf list)) (well-frame ports slots list w fits))))))
 
 -- ---- Inspect
 module _ (ports slots : ℕ) (list entries : List ℕ) where

@@ -7,7 +7,7 @@ use mathlib.Core.List.{List, [], _∷_, _++_, map}
 use lib.IntN.{pos, negsuc}
 use lib.ListN.{length, getD, take, drop}
 use Rattle.model.specs.Words.{Near}
-use Rattle.model.specs.Flows.{stride, flows, portOf, countsOf, Class, flow, input, output, Of, load, Fits}
+use Rattle.model.specs.Flows.{stride, flows, outputOf, portOf, countsOf, Class, flow, input, output, link, Of, load, Fits}
 use Rattle.model.specs.Frames.{right, cells, runOf, Legal, Block, Balanced}
 use Rattle.model.specs.Refusals.{admitted, refusal, answered}
 use Rattle.model.specs.Rules.{Scheduled}
@@ -18,7 +18,7 @@ use Rattle.model.specs.Service.{viewNumber, viewStart, viewSize, viewed,
 use Rattle.model.specs.Sheet.{text, portsLine, slotsLine, pairLine, Asked, loads, printFrame, printRefusal, response}
 use Rattle.model.specs.Sheet as asked
 use Rattle.model.specs.declared.Refusal.{Refusal}
-use Rattle.model.specs.declared.Refusal.the-variants.{Ports, Slots, ListLength, FrameLength, InputLoad, OutputLoad, LineForm, LinePort, SheetLength, SlotNumber, FlowOrPort, RunLength, TooManyFlows, FlowPort}
+use Rattle.model.specs.declared.Refusal.the-variants.{Ports, Slots, ListLength, FrameLength, InputLoad, OutputLoad, LineForm, LinePort, SheetLength, SlotNumber, FlowOrPort, RunLength, TooManyFlows, FlowPort, FlowLink, LinkLoad}
 use Rattle.model.specs.declared.Answer.the-variants as answer
 use Rattle.model.specs.declared.Answer.the-variants.{Accepted}
 use Rattle.model.specs.declared.Built.the-variants as building
@@ -31,8 +31,8 @@ use Rattle.model.specs.declared.Service.the-variants as served-as
 use Rattle.model.specs.declared.Service.the-variants.{Counted}
 use Rattle.model.proofs.Cases.{Within}
 use Rattle.model.proofs.Levels.{Power}
-use Rattle.model.proofs.Reports.{Ported}
-use Rattle.model.proofs.Overloads.{Light, Over}
+use Rattle.model.proofs.Reports.{Ported, Linked}
+use Rattle.model.proofs.Overloads.{Light, Over, Allows, Past}
 use Rattle.model.proofs.Demand2.{WellFormed, Accepts}
 
 -- Some case holds of the answer, and what any case says is the answer.
@@ -49,14 +49,16 @@ pub data RackRefused (ports slots : ℕ) : ℕ → Type 0 where
   ports-1 : (Within 1 16 ports → ⊥) → RackRefused ports slots 1
   slots-2 : Within 1 16 ports → (Power slots → ⊥) → RackRefused ports slots 2
 
--- 1, 2, 3, 21, 22: a call that is lent a list.
+-- 1, 2, 3, 21, 22, 23: a call that is lent a list.
 pub data LoadRefused (ports slots : ℕ) (list : List ℕ) : ℕ → Type 0 where
   rack : {n : ℕ} → RackRefused ports slots n → LoadRefused ports slots list n
   list-3 : Within 1 16 ports → Power slots → (length list % stride ≡ 0 → ⊥) → LoadRefused ports slots list 3
   flows-21 : Within 1 16 ports → Power slots → length list % stride ≡ 0 → (flows list ≤ 512 → ⊥) → LoadRefused ports slots list 21
   flow-22 : Within 1 16 ports → Power slots → length list % stride ≡ 0 → flows list ≤ 512 → (Ported ports list → ⊥) → LoadRefused ports slots list 22
+  link-23 : Within 1 16 ports → Power slots → length list % stride ≡ 0 → flows list ≤ 512 → Ported ports list → (Linked list → ⊥)
+      → LoadRefused ports slots list 23
 
--- 1, 2, 3, 21, 22, 4: one that is lent a list and a frame.
+-- 1, 2, 3, 21, 22, 23, 4: one that is lent a list and a frame.
 pub data FrameRefused (ports slots : ℕ) (list entries : List ℕ) : ℕ → Type 0 where
   load-refused : {n : ℕ} → LoadRefused ports slots list n → FrameRefused ports slots list entries n
   frame-4 : WellFormed ports slots list → (length entries ≡ slots * ports → ⊥) → FrameRefused ports slots list entries 4
@@ -76,25 +78,34 @@ pub record SlotFound (ports slots : ℕ) (entries : List ℕ) (slot s : ℕ) : T
   pub number : slot ≡ suc s
 
 -- ---- Admit
--- 1, 2, 3, 21, 22; 5 with the lowest input above slots and its load; 6 likewise with outputs; or accepted, which is 0.
-pub data Admits (ports slots : ℕ) (list : List ℕ) : List ℕ → Type 0 where
-  refused : {n : ℕ} → LoadRefused ports slots list n → Admits ports slots list (n ∷ [])
-  input-5 : WellFormed ports slots list → (x : ℕ) → Over input ports slots list x → Admits ports slots list (5 ∷ suc x ∷ load (input x) list ∷ [])
+-- 1, 2, 3, 21, 22, 23; 5 with the lowest input above slots and its load; 6 likewise with outputs; 24 with the lowest link above its limit,
+-- by its output and its number there, and its load; or accepted, which is 0.
+pub data Admits (ports slots : ℕ) (list limits : List ℕ) : List ℕ → Type 0 where
+  refused : {n : ℕ} → LoadRefused ports slots list n → Admits ports slots list limits (n ∷ [])
+  input-5 : WellFormed ports slots list → (x : ℕ) → Over input ports slots list x
+      → Admits ports slots list limits (5 ∷ suc x ∷ load (input x) list ∷ [])
   output-6 : WellFormed ports slots list → Light input ports slots list → (x : ℕ) → Over output ports slots list x
-      → Admits ports slots list (6 ∷ suc x ∷ load (output x) list ∷ [])
-  accepted : WellFormed ports slots list → Fits ports slots (portOf list) (countsOf list) → Admits ports slots list (0 ∷ [])
+      → Admits ports slots list limits (6 ∷ suc x ∷ load (output x) list ∷ [])
+  link-24 : WellFormed ports slots list → Light input ports slots list → Light output ports slots list → (x : ℕ) → Past ports list limits x
+      → Admits ports slots list limits (24 ∷ suc (outputOf x) ∷ suc (x % 4) ∷ load (link x) list ∷ [])
+  accepted : WellFormed ports slots list → Fits ports slots (portOf list) (countsOf list) → Allows ports list limits
+      → Admits ports slots list limits (0 ∷ [])
 
 -- ---- Build
 -- The same with 4, each refusal with the entries that were lent; or accepted, which is 0 and the odd counts settled, with the entries
 -- that meet the rules.
-pub data Builds (ports slots : ℕ) (list buffer : List ℕ) : List ℕ × List ℕ → Type 0 where
-  refused : {n : ℕ} → FrameRefused ports slots list buffer n → Builds ports slots list buffer (n ∷ [], buffer)
+pub data Builds (ports slots : ℕ) (list limits buffer : List ℕ) : List ℕ × List ℕ → Type 0 where
+  refused : {n : ℕ} → FrameRefused ports slots list buffer n → Builds ports slots list limits buffer (n ∷ [], buffer)
   input-5 : WellFormed ports slots list → length buffer ≡ slots * ports → (x : ℕ) → Over input ports slots list x
-      → Builds ports slots list buffer (5 ∷ suc x ∷ load (input x) list ∷ [], buffer)
+      → Builds ports slots list limits buffer (5 ∷ suc x ∷ load (input x) list ∷ [], buffer)
   output-6 : WellFormed ports slots list → length buffer ≡ slots * ports → Light input ports slots list → (x : ℕ) → Over output ports slots list x
-      → Builds ports slots list buffer (6 ∷ suc x ∷ load (output x) list ∷ [], buffer)
-  accepted : (a : Accepts ports slots list buffer) (entries : List ℕ) → Scheduled ports (portOf list) (a .well .power .k) (countsOf list) entries
-      → Builds ports slots list buffer (0 ∷ work ports slots list entries ∷ [], entries)
+      → Builds ports slots list limits buffer (6 ∷ suc x ∷ load (output x) list ∷ [], buffer)
+  link-24 : WellFormed ports slots list → length buffer ≡ slots * ports → Light input ports slots list → Light output ports slots list
+      → (x : ℕ) → Past ports list limits x
+      → Builds ports slots list limits buffer (24 ∷ suc (outputOf x) ∷ suc (x % 4) ∷ load (link x) list ∷ [], buffer)
+  accepted : (a : Accepts ports slots list limits buffer) (entries : List ℕ)
+      → Scheduled ports (portOf list) (a .well .power .k) (countsOf list) entries
+      → Builds ports slots list limits buffer (0 ∷ work ports slots list entries ∷ [], entries)
 
 -- ---- Inspect
 -- A fact holds of each of n numbers, and x is the first of which it does not.
@@ -118,7 +129,7 @@ pub record FirstWrong (rows width : ℕ) (Fact : ℕ → ℕ → Type 0) (r c : 
   pub rows-before : (y z : ℕ) → y < r → z < width → Fact y z
   pub columns-before : (z : ℕ) → z < c → Fact r z
 
--- The halves, half slots each from slot start on, differ by at most 1 for each flow, input and output and in total.
+-- The halves, half slots each from slot start on, differ by at most 1 for each flow, input, output and link and in total.
 abbrev pub HalvesNear : ℕ → List ℕ → List ℕ → ℕ → ℕ → Type 0
 HalvesNear ports list entries start half =
     (c : Class) → Of ports c → Near 1 (cells c ports list (runOf ports start half entries)) (cells c ports list (runOf ports (start + half) half entries))
@@ -151,7 +162,7 @@ pub data Finds (ports slots : ℕ) (list entries : List ℕ) : List ℕ → Type
       → Finds ports slots list entries (104 ∷ suc start ∷ 2 * half ∷ [])
   clean-0 : Legal ports slots list entries → Balanced ports slots list entries → Finds ports slots list entries (0 ∷ [])
 
--- 1, 2, 3, 21, 22, 4; or what is found in the frame: the first fault, or clean.
+-- 1, 2, 3, 21, 22, 23, 4; or what is found in the frame: the first fault, or clean.
 pub data Inspects (ports slots : ℕ) (list entries : List ℕ) : List ℕ → Type 0 where
   refused : {n : ℕ} → FrameRefused ports slots list entries n → Inspects ports slots list entries (n ∷ [])
   found : {given : List ℕ} → WellFormed ports slots list → length entries ≡ slots * ports → Finds ports slots list entries given → Inspects ports slots list entries given
@@ -176,7 +187,7 @@ pub record RunFound (ports slots : ℕ) (list entries : List ℕ) (start s : ℕ
   pub low : s < slots
   pub number : start ≡ suc s
 
--- 1, 2, 3, 21, 22, 4; 11 of the start; 12 where no flow of the list and no port is named; 13; each with lead 0. Or 0 and the cells of
+-- 1, 2, 3, 21, 22, 23, 4; 11 of the start; 12 where no flow of the list and no port is named; 13; each with lead 0. Or 0 and the cells of
 -- the run, and the lead: n where slots × cells is n more than length × the cells of the whole frame, and −(n + 1), which is negsuc n,
 -- where it is n + 1 less.
 pub data Counts (ports slots : ℕ) (list entries : List ℕ) (who : Who) (start len : ℕ) : Reply → Type 0 where
@@ -205,8 +216,8 @@ NoSlots bytes = (n : ℕ) (rest : List ℕ) → n ≤ 65535 → bytes ≡ slotsL
 abbrev pub NoPair : List ℕ → Type 0
 NoPair bytes = (i o c : ℕ) (rest : List ℕ) → i ≤ 65535 → o ≤ 65535 → c ≤ 65535 → bytes ≡ pairLine i o c ++ rest → ⊥
 
--- The pair lines, taken in turn: the number of the next line, the list so far, the bytes that are left; 7 with the line number, then 21
--- where there are 512 flows already, then 8 with the line number; or the loads.
+-- The pair lines, taken in turn, each a flow on link 1: the number of the next line, the list so far, the bytes that are left; 7 with the
+-- line number, then 21 where there are 512 flows already, then 8 with the line number; or the loads.
 pub data ReadsPairs (ports slots : ℕ) : ℕ → List ℕ → List ℕ → Asked → Type 0 where
   ended : {n : ℕ} {list : List ℕ} → ReadsPairs ports slots n list [] (loads ports slots list)
   form-7 : {n : ℕ} {list bytes : List ℕ} → (bytes ≡ [] → ⊥) → NoPair bytes → ReadsPairs ports slots n list bytes (asked.refused (7 ∷ n ∷ []))
@@ -215,7 +226,8 @@ pub data ReadsPairs (ports slots : ℕ) : ℕ → List ℕ → List ℕ → Aske
   port-8 : {n : ℕ} {list : List ℕ} (i o c : ℕ) (rest : List ℕ) → i ≤ 65535 → o ≤ 65535 → c ≤ 65535 → flows list < 512
       → (Within 1 ports i × Within 1 ports o → ⊥) → ReadsPairs ports slots n list (pairLine i o c ++ rest) (asked.refused (8 ∷ n ∷ []))
   taken : {n : ℕ} {list : List ℕ} {given : Asked} (i o c : ℕ) (rest : List ℕ) → Within 1 ports i → Within 1 ports o → c ≤ 65535 → flows list < 512
-      → ReadsPairs ports slots (suc n) (list ++ (i ∷ o ∷ c ∷ [])) rest given → ReadsPairs ports slots n list (pairLine i o c ++ rest) given
+      → ReadsPairs ports slots (suc n) (list ++ (i ∷ o ∷ c ∷ 1 ∷ [])) rest given
+      → ReadsPairs ports slots n list (pairLine i o c ++ rest) given
 
 -- Line 1: 7, then 1; line 2: 7, then 2; then the pair lines, from line 3 on and from an empty list.
 pub data Reads : List ℕ → Asked → Type 0 where
@@ -241,8 +253,9 @@ pub data Responds (bytes : List ℕ) : List ℕ → Type 0 where
 -- ---- what is shown
 -- Of each call: its definition's answer is that of a case, and what any case says is that answer.
 pub record ByCases : Type 0 where
-  pub admit : (ports slots : ℕ) (list : List ℕ) → Exactly (Admits ports slots list) (admitted ports slots list)
-  pub build : (ports slots : ℕ) (list buffer : List ℕ) → Exactly (Builds ports slots list buffer) (built ports slots list buffer, left ports slots list buffer)
+  pub admit : (ports slots : ℕ) (list limits : List ℕ) → Exactly (Admits ports slots list limits) (admitted ports slots list limits)
+  pub build : (ports slots : ℕ) (list limits buffer : List ℕ)
+      → Exactly (Builds ports slots list limits buffer) (built ports slots list limits buffer, left ports slots list limits buffer)
   pub inspect : (ports slots : ℕ) (list entries : List ℕ) → Exactly (Inspects ports slots list entries) (inspected ports slots list entries)
   pub view : (ports slots : ℕ) (entries : List ℕ) (slot : ℕ)
       → Exactly (Views ports slots entries slot) (viewNumber ports slots entries slot, viewStart ports slots entries slot, viewSize ports slots entries slot, viewed ports slots entries slot)
@@ -252,10 +265,10 @@ pub record ByCases : Type 0 where
 
 -- ---- the numbers of the answers
 -- Document 01's number of each refusal, and then what it carries.
-pub refusal-numbers : (port cells line : ℕ)
-    → map refusal (Ports ∷ Slots ∷ ListLength ∷ FrameLength ∷ InputLoad port cells ∷ OutputLoad port cells ∷ LineForm line ∷ LinePort line ∷ SheetLength ∷ SlotNumber ∷ FlowOrPort ∷ RunLength ∷ TooManyFlows ∷ FlowPort ∷ [])
-    ≡ (1 ∷ []) ∷ (2 ∷ []) ∷ (3 ∷ []) ∷ (4 ∷ []) ∷ (5 ∷ port ∷ cells ∷ []) ∷ (6 ∷ port ∷ cells ∷ []) ∷ (7 ∷ line ∷ []) ∷ (8 ∷ line ∷ []) ∷ (10 ∷ []) ∷ (11 ∷ []) ∷ (12 ∷ []) ∷ (13 ∷ []) ∷ (21 ∷ []) ∷ (22 ∷ []) ∷ []
-refusal-numbers port cells line = refl
+pub refusal-numbers : (port l cells line : ℕ)
+    → map refusal (Ports ∷ Slots ∷ ListLength ∷ FrameLength ∷ InputLoad port cells ∷ OutputLoad port cells ∷ LineForm line ∷ LinePort line ∷ SheetLength ∷ SlotNumber ∷ FlowOrPort ∷ RunLength ∷ TooManyFlows ∷ FlowPort ∷ FlowLink ∷ LinkLoad port l cells ∷ [])
+    ≡ (1 ∷ []) ∷ (2 ∷ []) ∷ (3 ∷ []) ∷ (4 ∷ []) ∷ (5 ∷ port ∷ cells ∷ []) ∷ (6 ∷ port ∷ cells ∷ []) ∷ (7 ∷ line ∷ []) ∷ (8 ∷ line ∷ []) ∷ (10 ∷ []) ∷ (11 ∷ []) ∷ (12 ∷ []) ∷ (13 ∷ []) ∷ (21 ∷ []) ∷ (22 ∷ []) ∷ (23 ∷ []) ∷ (24 ∷ port ∷ l ∷ cells ∷ []) ∷ []
+refusal-numbers port l cells line = refl
 
 -- Each fault's number, ours, in document 01's order, and then its place.
 pub fault-numbers : (slot port f size : ℕ)

@@ -10,7 +10,7 @@ use lib.ListN.{replicate}
 use Rattle.model.specs.Words.{Near, sumTo}
 use Rattle.model.specs.Flows.{portOf, countsOf, flow, loadIn}
 use Rattle.model.specs.Frames.{cells, runOf}
-use Rattle.model.specs.Refusals.{admitted}
+use Rattle.model.specs.Refusals.{slotsEach, admitted}
 use Rattle.model.specs.Schedule.{walk, settleAt, favours, slotOf, frameOf}
 use Rattle.model.specs.Work.{work}
 use Rattle.model.specs.Build.{buildChecks, built, left}
@@ -26,20 +26,24 @@ pub record Case : Type 0 where
   pub gives : List ℕ
   pub says : List ℕ
 
--- A list that is accepted, the odd counts settled, and the frame that stands in the buffer after.
+-- A list that is accepted where the limits are slots each, the odd counts settled, and the frame that stands in the buffer after.
 frame : ℕ → ℕ → List ℕ → ℕ → List ℕ → Case
 frame ports slots list settled entries =
     let buffer : List ℕ = replicate (slots * ports) 77 in
-    record { gives = built ports slots list buffer ++ left ports slots list buffer; says = 0 ∷ settled ∷ entries }
+    let limits = slotsEach slots in
+    record { gives = built ports slots list limits buffer ++ left ports slots list limits buffer; says = 0 ∷ settled ∷ entries }
 
--- A list that is refused, by Admit and by Build, and the buffer as it was.
-turnedAway : ℕ → ℕ → List ℕ → List ℕ → Case
-turnedAway ports slots list refusal =
+-- A list that is refused, by Admit and by Build, and the buffer as it was: by limits that are given, and by those of slots each.
+turnedAwayBy : List ℕ → ℕ → ℕ → List ℕ → List ℕ → Case
+turnedAwayBy limits ports slots list refusal =
     let buffer : List ℕ = replicate (slots * ports) 77 in
     record {
-      gives = admitted ports slots list ++ (built ports slots list buffer ++ left ports slots list buffer);
+      gives = admitted ports slots list limits ++ (built ports slots list limits buffer ++ left ports slots list limits buffer);
       says = refusal ++ (refusal ++ buffer);
     }
+
+turnedAway : ℕ → ℕ → List ℕ → List ℕ → Case
+turnedAway ports slots list refusal = turnedAwayBy (slotsEach slots) ports slots list refusal
 
 -- A count's answer: its numbers, how far the run is ahead, and how far behind.
 abbrev aheadBy : ℤ → ℕ
@@ -56,7 +60,7 @@ counting reply numbers ahead behind =
 
 -- one cell from each port to its own number
 abbrev own : List ℕ
-own = 1 ∷ 1 ∷ 1 ∷ 2 ∷ 2 ∷ 1 ∷ 3 ∷ 3 ∷ 1 ∷ 4 ∷ 4 ∷ 1 ∷ []
+own = 1 ∷ 1 ∷ 1 ∷ 1 ∷ 2 ∷ 2 ∷ 1 ∷ 1 ∷ 3 ∷ 3 ∷ 1 ∷ 1 ∷ 4 ∷ 4 ∷ 1 ∷ 1 ∷ []
 
 -- one of them in each slot: flow 1, 3, 2, 4
 abbrev ownFrame : List ℕ
@@ -64,21 +68,21 @@ ownFrame = 1 ∷ 0 ∷ 0 ∷ 0 ∷ 0 ∷ 0 ∷ 3 ∷ 0 ∷ 0 ∷ 2 ∷ 0 ∷ 0 �
 
 -- the flows of the sheet, in the order of its lines
 abbrev table7 : List ℕ
-table7 = 1 ∷ 1 ∷ 2 ∷ 1 ∷ 2 ∷ 2 ∷ 4 ∷ 1 ∷ 1 ∷ 4 ∷ 2 ∷ 1 ∷ 4 ∷ 4 ∷ 2 ∷ []
+table7 = 1 ∷ 1 ∷ 2 ∷ 1 ∷ 1 ∷ 2 ∷ 2 ∷ 1 ∷ 4 ∷ 1 ∷ 1 ∷ 1 ∷ 4 ∷ 2 ∷ 1 ∷ 1 ∷ 4 ∷ 4 ∷ 2 ∷ 1 ∷ []
 
 abbrev table7Frame : List ℕ
 table7Frame = 1 ∷ 0 ∷ 0 ∷ 5 ∷ 2 ∷ 0 ∷ 0 ∷ 3 ∷ 1 ∷ 0 ∷ 0 ∷ 4 ∷ 2 ∷ 0 ∷ 0 ∷ 5 ∷ []
 
 -- four loads of 1, and their frame
 abbrev four : List ℕ
-four = 1 ∷ 1 ∷ 1 ∷ 1 ∷ 2 ∷ 1 ∷ 2 ∷ 1 ∷ 1 ∷ 2 ∷ 2 ∷ 1 ∷ []
+four = 1 ∷ 1 ∷ 1 ∷ 1 ∷ 1 ∷ 2 ∷ 1 ∷ 1 ∷ 2 ∷ 1 ∷ 1 ∷ 1 ∷ 2 ∷ 2 ∷ 1 ∷ 1 ∷ []
 
 abbrev crossed : List ℕ
 crossed = 1 ∷ 4 ∷ 2 ∷ 3 ∷ []
 
 -- the sheet's frame, carried twice
 abbrev twice : List Carried
-twice = chain none (replicate 16 77) (record { ports = 4; slots = 4; list = table7; times = 2 } ∷ [])
+twice = chain none (replicate 16 77) (record { ports = 4; slots = 4; list = table7; limits = slotsEach 4; times = 2 } ∷ [])
 
 sheet : List ℕ
 sheet =
@@ -89,16 +93,16 @@ printed = text "(frame (ports 4) (slots 4))\n(slot 1 1 5)\n(slot 2 2 3)\n(slot 3
 
 pub cases : List Case
 cases =
-    frame 1 1 (1 ∷ 1 ∷ 1 ∷ []) 0 (1 ∷ [])
-    ∷ frame 1 4 (1 ∷ 1 ∷ 3 ∷ []) 2 (1 ∷ 1 ∷ 1 ∷ 0 ∷ [])
+    frame 1 1 (1 ∷ 1 ∷ 1 ∷ 1 ∷ []) 0 (1 ∷ [])
+    ∷ frame 1 4 (1 ∷ 1 ∷ 3 ∷ 1 ∷ []) 2 (1 ∷ 1 ∷ 1 ∷ 0 ∷ [])
     ∷ frame 2 2 four 4 crossed
     ∷ frame 4 4 own 8 ownFrame
     ∷ frame 4 4 table7 10 table7Frame
     ∷ record { gives = response sheet; says = printed }
-    ∷ turnedAway 2 4 (1 ∷ 1 ∷ 3 ∷ 1 ∷ 2 ∷ 2 ∷ []) (5 ∷ 1 ∷ 5 ∷ [])
-    ∷ record { gives = admitted 2 4 (1 ∷ 1 ∷ 2 ∷ 1 ∷ 2 ∷ 2 ∷ []); says = 0 ∷ [] }
-    ∷ turnedAway 2 4 (1 ∷ 1 ∷ 3 ∷ 2 ∷ 1 ∷ 2 ∷ []) (6 ∷ 1 ∷ 5 ∷ [])
-    ∷ turnedAway 2 4 (1 ∷ 1 ∷ 5 ∷ []) (5 ∷ 1 ∷ 5 ∷ [])
+    ∷ turnedAway 2 4 (1 ∷ 1 ∷ 3 ∷ 1 ∷ 1 ∷ 2 ∷ 2 ∷ 1 ∷ []) (5 ∷ 1 ∷ 5 ∷ [])
+    ∷ record { gives = admitted 2 4 (1 ∷ 1 ∷ 2 ∷ 1 ∷ 1 ∷ 2 ∷ 2 ∷ 1 ∷ []) (slotsEach 4); says = 0 ∷ [] }
+    ∷ turnedAway 2 4 (1 ∷ 1 ∷ 3 ∷ 1 ∷ 2 ∷ 1 ∷ 2 ∷ 1 ∷ []) (6 ∷ 1 ∷ 5 ∷ [])
+    ∷ turnedAway 2 4 (1 ∷ 1 ∷ 5 ∷ 1 ∷ []) (5 ∷ 1 ∷ 5 ∷ [])
     -- one cell more than its share: four parts of a quarter
     ∷ counting (service 4 4 table7 table7Frame (Flow 5) 4 2) (0 ∷ 2 ∷ []) 4 0
     -- the same run on the wire: 2 cells, and a share of 1, which is 4 over 2 ^ k
@@ -117,7 +121,8 @@ own-framed : frameAt 4 2 own ≡ ownFrame
 unfolding portOf countsOf walk settleAt favours slotOf frameOf
 own-framed = refl
 
-small-framed : (frameAt 1 0 (1 ∷ 1 ∷ 1 ∷ []) ≡ 1 ∷ []) × (frameAt 1 2 (1 ∷ 1 ∷ 3 ∷ []) ≡ 1 ∷ 1 ∷ 1 ∷ 0 ∷ []) × (frameAt 2 1 four ≡ crossed)
+small-framed : (frameAt 1 0 (1 ∷ 1 ∷ 1 ∷ 1 ∷ []) ≡ 1 ∷ []) × (frameAt 1 2 (1 ∷ 1 ∷ 3 ∷ 1 ∷ []) ≡ 1 ∷ 1 ∷ 1 ∷ 0 ∷ [])
+    × (frameAt 2 1 four ≡ crossed)
 unfolding portOf countsOf walk settleAt favours slotOf frameOf
 small-framed = (refl, refl, refl)
 
@@ -130,7 +135,7 @@ unfolding printed digits printSlots response
 sheet-printed = rw (sheet-asks, table7-framed)
 
 pub bench : map (λ c. c .gives) cases ≡ map (λ c. c .says) cases
-unfolding cases frame turnedAway counting sumTo portOf countsOf loadIn cells runOf work admitted buildChecks countChecks service repeated lead chain cellsAt cellsIn share walk settleAt favours slotOf frameOf
+unfolding cases frame turnedAwayBy turnedAway counting sumTo portOf countsOf loadIn cells runOf work admitted buildChecks countChecks service repeated lead chain cellsAt cellsIn share walk settleAt favours slotOf frameOf
 bench = rw sheet-printed
 
 -- the bound of that run for k = 2 is 5/3, which is 20 over 3 × 2 ^ k: 24 for the cells is within 20 of 12 for the share
@@ -153,7 +158,7 @@ views slot says =
 
 -- A flow of two cells from input 1 to output 2, and one of one cell from input 2 to output 1.
 abbrev there : List ℕ
-there = 1 ∷ 2 ∷ 2 ∷ 2 ∷ 1 ∷ 1 ∷ []
+there = 1 ∷ 2 ∷ 2 ∷ 1 ∷ 2 ∷ 1 ∷ 1 ∷ 1 ∷ []
 
 -- A count in a frame of two slots with those cells, and in one whose first slot has the second flow at input 1 and no flow at input 2.
 counts : Who → ℕ → ℕ → ℕ → ℕ → ℕ → Case
@@ -162,9 +167,19 @@ counts who start len had ahead behind = counting (service 2 2 there (1 ∷ 0 ∷
 countsAny : Who → ℕ → Case
 countsAny who had = counting (service 2 2 there (2 ∷ 9 ∷ 1 ∷ 2 ∷ []) who 1 2) (0 ∷ had ∷ []) 0 0
 
+-- A cell from each of four inputs to output 1, the first and the third on link 2, the others on link 1: flow 1 is partnered with 3, and
+-- 2 with 4. By their numbers alone it were 1 with 2, and slots 2 and 3 were changed round.
+abbrev twoLinks : List ℕ
+twoLinks = 1 ∷ 1 ∷ 1 ∷ 2 ∷ 2 ∷ 1 ∷ 1 ∷ 1 ∷ 3 ∷ 1 ∷ 1 ∷ 2 ∷ 4 ∷ 1 ∷ 1 ∷ 1 ∷ []
+
+-- A cell from each of three inputs to output 1, on links 2, 3 and 1: by rising link flow 3 is partnered with 1, and 2 stays single. By
+-- their numbers, or by falling link, it were 1 with 2, and slots 2 and 3 were changed round.
+abbrev threeLinks : List ℕ
+threeLinks = 1 ∷ 1 ∷ 1 ∷ 2 ∷ 2 ∷ 1 ∷ 1 ∷ 3 ∷ 3 ∷ 1 ∷ 1 ∷ 1 ∷ []
+
 -- Inspect of a frame of two slots for one cell from each of two ports to its own number.
 inspects : List ℕ → List ℕ → Case
-inspects entries says = record { gives = inspected 2 2 (1 ∷ 1 ∷ 1 ∷ 2 ∷ 2 ∷ 1 ∷ []) entries; says = says }
+inspects entries says = record { gives = inspected 2 2 (1 ∷ 1 ∷ 1 ∷ 1 ∷ 2 ∷ 2 ∷ 1 ∷ 1 ∷ []) entries; says = says }
 
 pub others : List Case
 others =
@@ -207,11 +222,22 @@ others =
     ∷ countsAny (Input 2) 2
     -- a flow that is not in the list
     ∷ counting (service 2 2 there (1 ∷ 0 ∷ 1 ∷ 2 ∷ []) (Flow 3) 1 1) (12 ∷ []) 0 0
-    -- lists: not of whole flows, 513 flows, whose ports are outside too, a port outside, none
-    ∷ turnedAway 2 2 (1 ∷ 1 ∷ []) (3 ∷ [])
-    ∷ turnedAway 2 2 (replicate 1539 9) (21 ∷ [])
-    ∷ turnedAway 2 2 (1 ∷ 3 ∷ 0 ∷ []) (22 ∷ [])
+    -- lists: not of whole flows, 513 flows, whose ports are outside too, a port outside, whose link is outside too, a link outside, none
+    ∷ turnedAway 2 2 (1 ∷ 1 ∷ 1 ∷ []) (3 ∷ [])
+    ∷ turnedAway 2 2 (replicate 2052 9) (21 ∷ [])
+    ∷ turnedAway 2 2 (1 ∷ 3 ∷ 0 ∷ 5 ∷ []) (22 ∷ [])
+    ∷ turnedAway 2 2 (1 ∷ 2 ∷ 9 ∷ 5 ∷ []) (23 ∷ [])
+    ∷ turnedAway 2 2 (1 ∷ 2 ∷ 9 ∷ 0 ∷ []) (23 ∷ [])
     ∷ frame 1 2 [] 0 (0 ∷ 0 ∷ [])
+    -- two cells on link 2 of output 2, where each link may have one, where each may have two, and where an input has too many
+    ∷ turnedAwayBy (slotsEach 1) 2 2 (1 ∷ 2 ∷ 2 ∷ 2 ∷ []) (24 ∷ 2 ∷ 2 ∷ 2 ∷ [])
+    ∷ record { gives = admitted 2 4 (1 ∷ 2 ∷ 2 ∷ 2 ∷ []) (slotsEach 2); says = 0 ∷ [] }
+    ∷ turnedAwayBy (slotsEach 1) 2 2 (1 ∷ 2 ∷ 3 ∷ 2 ∷ []) (5 ∷ 1 ∷ 3 ∷ [])
+    -- the limits stand output by output: those of output 1 and of the first two links of output 2 are six
+    ∷ turnedAwayBy (replicate 6 2) 2 2 (1 ∷ 2 ∷ 2 ∷ 3 ∷ []) (24 ∷ 2 ∷ 3 ∷ 2 ∷ [])
+    -- partners on one link first, then the single ones by rising link
+    ∷ frame 4 4 twoLinks 8 (1 ∷ 0 ∷ 0 ∷ 0 ∷ 0 ∷ 2 ∷ 0 ∷ 0 ∷ 0 ∷ 0 ∷ 3 ∷ 0 ∷ 0 ∷ 0 ∷ 0 ∷ 4 ∷ [])
+    ∷ frame 3 4 threeLinks 6 (1 ∷ 0 ∷ 0 ∷ 0 ∷ 2 ∷ 0 ∷ 0 ∷ 0 ∷ 3 ∷ 0 ∷ 0 ∷ 0 ∷ [])
     -- one cell in each slot, and both in the first: its halves differ by two cells in total, and by one for every flow and port
     ∷ inspects (1 ∷ 0 ∷ 0 ∷ 2 ∷ []) (0 ∷ [])
     ∷ inspects (1 ∷ 2 ∷ 0 ∷ 0 ∷ []) (104 ∷ 1 ∷ 2 ∷ [])
@@ -219,8 +245,13 @@ others =
     ∷ inspects (1 ∷ 0 ∷ 0 ∷ 3 ∷ []) (101 ∷ 2 ∷ 2 ∷ [])
     ∷ inspects (2 ∷ 0 ∷ 0 ∷ 1 ∷ []) (101 ∷ 1 ∷ 1 ∷ [])
     ∷ inspects (1 ∷ 0 ∷ 0 ∷ 0 ∷ []) (103 ∷ 2 ∷ [])
+    -- one cell in each of four slots to output 1, the first two on link 1: a link is unbalanced, and nothing else is
+    ∷ record {
+      gives = inspected 2 4 (1 ∷ 1 ∷ 1 ∷ 1 ∷ 2 ∷ 1 ∷ 1 ∷ 1 ∷ 1 ∷ 1 ∷ 1 ∷ 2 ∷ 2 ∷ 1 ∷ 1 ∷ 2 ∷ []) (1 ∷ 0 ∷ 0 ∷ 2 ∷ 3 ∷ 0 ∷ 0 ∷ 4 ∷ []);
+      says = 104 ∷ 1 ∷ 4 ∷ [];
+    }
     ∷ []
 
 pub others-answered : map (λ c. c .gives) others ≡ map (λ c. c .says) others
-unfolding others answers views frame turnedAway counting counts countsAny inspects inspected isWrong twiceIn usedTwice wrongCount unbalanced unbalancedNumber unbalancedAt digits portsLine slotsLine pairLine lines numbersFrom readPairs readSheet printSlots response sumTo portOf countsOf loadIn cells runOf work admitted buildChecks countChecks service repeated lead viewChecks walk settleAt favours slotOf frameOf
+unfolding others answers views frame turnedAwayBy turnedAway counting counts countsAny inspects inspected isWrong twiceIn usedTwice wrongCount unbalanced unbalancedNumber unbalancedAt digits portsLine slotsLine pairLine lines numbersFrom readPairs readSheet printSlots response sumTo portOf countsOf loadIn cells runOf work admitted buildChecks countChecks service repeated lead viewChecks walk settleAt favours slotOf frameOf
 others-answered = refl

@@ -117,11 +117,12 @@ module _ (ports slots : ℕ) (list entries : List ℕ) (w : WellFormed ports slo
 
 -- ---- the calls together
 -- What an accepted Build leaves, inspected with what Build was given, is clean.
-pub built-clean : (ports slots : ℕ) (list buffer : List ℕ) → buildAccepts ports slots list buffer ≡ true → inspected ports slots list (left ports slots list buffer) ≡ 0 ∷ []
-built-clean ports slots list buffer e =
-    let a = accepts-is ports slots list buffer e in
-    let s = build-sound ports slots list buffer e in
-    sound-clean ports slots list (left ports slots list buffer) (a .well) (s .0 .size) (s .0) (s .1)
+pub built-clean : (ports slots : ℕ) (list limits buffer : List ℕ) → buildAccepts ports slots list limits buffer ≡ true
+    → inspected ports slots list (left ports slots list limits buffer) ≡ 0 ∷ []
+built-clean ports slots list limits buffer e =
+    let a = accepts-is ports slots list limits buffer e in
+    let s = build-sound ports slots list limits buffer e in
+    sound-clean ports slots list (left ports slots list limits buffer) (a .well) (s .0 .size) (s .0) (s .1)
 
 -- A frame that Inspect calls clean for its call.
 pub record Inspected (f : Carried) : Type 0 where

@@ -18,7 +18,8 @@ use Rattle.model.proofs.Cells.{cells-none, run-none, run-all}
 use Rattle.model.proofs.Runs.{cells-slots}
 use Rattle.model.proofs.Legal.{legal-exact}
 use Rattle.model.proofs.Accuracy.{deviation-most, prefix-sharp}
-use Rattle.model.proofs.Demand2.{build-sound, build-keeps}
+use Rattle.model.proofs.Overloads.{Allows}
+use Rattle.model.proofs.Demand2.{accepts-is, build-sound, build-keeps}
 
 -- a carried frame is legal for its load, and balanced
 abbrev pub Sound : Carried → Type 0
@@ -196,11 +197,7 @@ sound-accurate ports k fs sound shape start len fits c of =
     let law = sound-sharp ports k fs sound shape start len fits c of .any in
     omega (arith, law, deviation-most k)
 
--- ---- every frame that a list of Build calls carries is sound
-abbrev Known : Last → List ℕ → Type 0
-Known none buffer = Unit {0}
-Known (last call) buffer = Sound (record { call = call; entries = buffer })
-
+-- ---- what holds of every frame that an accepted Build leaves holds of every one that a list of Build calls carries
 every-append : {A : Type 0} (P : A → Type 0) (xs ys : List A) → Every P xs → Every P ys → Every P (xs ++ ys)
 every-append P [] ys p q = q
 every-append P (x ∷ xs) ys p q = (p .0, every-append P xs ys (p .1) q)
@@ -209,28 +206,48 @@ every-replicate : {A : Type 0} (P : A → Type 0) (n : ℕ) (x : A) → P x → 
 every-replicate P zero x p = tt
 every-replicate P (suc n) x p = (p, every-replicate P n x p)
 
-carry-sound : (l : Last) (buffer : List ℕ) (times : ℕ) → Known l buffer → Every Sound (carry l buffer times)
-carry-sound none buffer times p = tt
-carry-sound (last call) buffer times p = every-replicate Sound times _ p
+module _ (P : Carried → Type 0)
+    (built : (c : Call) (buffer : List ℕ) → buildAccepts (c .ports) (c .slots) (c .list) (c .limits) buffer ≡ true
+    → P (record { call = c; entries = left (c .ports) (c .slots) (c .list) (c .limits) buffer })) where
+  abbrev Known : Last → List ℕ → Type 0
+  Known none buffer = Unit {0}
+  Known (last call) buffer = P (record { call = call; entries = buffer })
 
-known : (c : Call) (l : Last) (buffer : List ℕ) (a : Bool) → buildAccepts (c .ports) (c .slots) (c .list) buffer ≡ a → Known l buffer
-    → Known (next a c l) (left (c .ports) (c .slots) (c .list) buffer)
-known c l buffer true e p = build-sound (c .ports) (c .slots) (c .list) buffer e
-known c l buffer false e p = subst (Known l) (sym (build-keeps (c .ports) (c .slots) (c .list) buffer e)) p
+  carry-every : (l : Last) (buffer : List ℕ) (times : ℕ) → Known l buffer → Every P (carry l buffer times)
+  carry-every none buffer times p = tt
+  carry-every (last call) buffer times p = every-replicate P times _ p
 
-pub chain-sound : (l : Last) (buffer : List ℕ) (calls : List Call) → Known l buffer → Every Sound (chain l buffer calls)
-unfolding chain
-chain-sound l buffer [] p = tt
-chain-sound l buffer (c ∷ calls) p =
-    let ok = buildAccepts (c .ports) (c .slots) (c .list) buffer in
-    let after = left (c .ports) (c .slots) (c .list) buffer in
-    let q : Known (next ok c l) after = known c l buffer ok refl p in
-    every-append Sound (carry (next ok c l) after (c .times)) (chain (next ok c l) after calls)
-    (carry-sound (next ok c l) after (c .times) q) (chain-sound (next ok c l) after calls q)
+  known : (c : Call) (l : Last) (buffer : List ℕ) (a : Bool)
+      → buildAccepts (c .ports) (c .slots) (c .list) (c .limits) buffer ≡ a → Known l buffer → Known (next a c l) (left (c .ports) (c .slots) (c .list) (c .limits) buffer)
+  known c l buffer true e p = built c buffer e
+  known c l buffer false e p = subst (Known l) (sym (build-keeps (c .ports) (c .slots) (c .list) (c .limits) buffer e)) p
+
+  pub chain-every : (l : Last) (buffer : List ℕ) (calls : List Call) → Known l buffer → Every P (chain l buffer calls)
+  unfolding chain
+  chain-every l buffer [] p = tt
+  chain-every l buffer (c ∷ calls) p =
+      let ok = buildAccepts (c .ports) (c .slots) (c .list) (c .limits) buffer in
+      let after = left (c .ports) (c .slots) (c .list) (c .limits) buffer in
+      let q : Known (next ok c l) after = known c l buffer ok refl p in
+      every-append P (carry (next ok c l) after (c .times)) (chain (next ok c l) after calls)
+      (carry-every (next ok c l) after (c .times) q) (chain-every (next ok c l) after calls q)
+
+-- such a frame is sound,
+pub chain-sound : (buffer : List ℕ) (calls : List Call) → Every Sound (chain none buffer calls)
+chain-sound buffer calls =
+    chain-every Sound (λ c buffer e. build-sound (c .ports) (c .slots) (c .list) (c .limits) buffer e) none buffer calls tt
+
+-- and no link of it is asked for more than the limit that its call gave.
+abbrev pub Allowed : Carried → Type 0
+Allowed f = Allows (f .call .ports) (f .call .list) (f .call .limits)
+
+pub chain-allowed : (buffer : List ℕ) (calls : List Call) → Every Allowed (chain none buffer calls)
+chain-allowed buffer calls =
+    chain-every Allowed (λ c buffer e. accepts-is (c .ports) (c .slots) (c .list) (c .limits) buffer e .allowed) none buffer calls tt
 
 -- The sharp bound, and demand 3.
 pub sharp : Sharp
-sharp buffer calls ports k shape = sound-sharp ports k (chain none buffer calls) (chain-sound none buffer calls tt) shape
+sharp buffer calls ports k shape = sound-sharp ports k (chain none buffer calls) (chain-sound buffer calls) shape
 
 pub accurate : Demand3
-accurate buffer calls ports k shape = sound-accurate ports k (chain none buffer calls) (chain-sound none buffer calls tt) shape
+accurate buffer calls ports k shape = sound-accurate ports k (chain none buffer calls) (chain-sound buffer calls) shape

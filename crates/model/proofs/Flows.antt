@@ -1,5 +1,5 @@
 -- Flows: the counts of a list, one for each flow, and what an entry counts for.
-use Prim.Native.Nat.{ℕ, suc, zero, _+_, _-_, _%_, _≤_, _<_}
+use Prim.Native.Nat.{ℕ, suc, zero, _+_, _*_, _-_, _%_, _≤_, _<_}
 use mathlib.Core.Path.{_≡_, refl, sym, ap, _∙_}
 use mathlib.Core.List.{List, map}
 use mathlib.Core.Bool.{Bool, true}
@@ -8,10 +8,10 @@ use lib.Dec.{eqb}
 use lib.ListN.{length, getD}
 use borrow.Author.Tests.{eqb-true, eq-eqb, ne-eqb}
 use Rattle.model.specs.Words.{if, both, bit, upFrom, sumIf}
-use Rattle.model.specs.Flows.{flows, numberOf, inputs, portOf, countsOf, Class, flow, input, output, total, isOf, loadIn}
+use Rattle.model.specs.Flows.{flows, numberOf, Side, inputs, links, outputOf, portOf, countsOf, Class, flow, input, output, link, total, isOf, loadIn}
 use Rattle.model.specs.Frames.{isFlow, right, counts, cells}
-use Rattle.model.proofs.Cases.{byBool, byEq, both-true, is-yes, is-no, within-yes, within-true}
-use Rattle.model.proofs.Sums.{sum-ext, sum-zero, sum-one, sum-swap}
+use Rattle.model.proofs.Cases.{byBool, byEq, both-true, is-yes, is-no, Within, within-yes, within-true}
+use Rattle.model.proofs.Sums.{sum-ext, sum-le, sum-zero, sum-one, sum-swap}
 
 -- ---- the counts of a list
 pub map-length : (f : ℕ → ℕ) (a n : ℕ) → length (map f (upFrom a n)) ≡ n
@@ -30,6 +30,28 @@ counts-length list = map-length (numberOf 2 list) 0 (flows list)
 pub counts-at : (list : List ℕ) (f : ℕ) → f < flows list → getD (countsOf list) f 0 ≡ numberOf 2 list f
 unfolding countsOf
 counts-at list f h = map-at (numberOf 2 list) 0 (flows list) f h ∙ ap (numberOf 2 list) (omega arith)
+
+-- ---- the output of a flow
+-- the link of a flow whose link's number is 1 to 4 is one of its output's
+pub output-is : (list : List ℕ) (f : ℕ) → Within 1 4 (numberOf 3 list f) → outputOf (portOf list links f) ≡ numberOf 1 list f - 1
+unfolding portOf
+output-is list f w = omega (arith, w .0, w .1)
+
+-- the links of a switch are of its outputs
+pub output-low : (ports x : ℕ) → x < ports * 4 → outputOf x < ports
+output-low ports x h = omega arith
+
+-- no link has a load above that of its output
+pub link-under : (x : ℕ) (port : Side → ℕ → ℕ) (m : List ℕ) → loadIn (link x) port m ≤ loadIn (output (outputOf x)) port m
+unfolding loadIn
+link-under x port m =
+    let has : Class → ℕ → ℕ = λ c f. if (isOf c port f) (getD m f 0) 0 in
+    sum-le (length m) (has (link x)) (has (output (outputOf x))) (λ f _. byEq (port links f) x
+    (λ e.
+    let own : has (output (outputOf x)) f ≡ getD m f 0 = rw (eq-eqb (outputOf (port links f)) (outputOf x) (ap outputOf e)) in
+    let part : has (link x) f ≡ getD m f 0 = rw (eq-eqb (port links f) x e) in
+    omega (arith, own, part))
+    (λ e. let none : has (link x) f ≡ 0 = rw (ne-eqb (port links f) x e) in omega (arith, none)))
 
 -- ---- an entry
 module _ (list : List ℕ) where
@@ -58,6 +80,7 @@ module _ (list : List ℕ) where
   idle-counts (flow f) at = refl
   idle-counts (input i) at = byBool (eqb at i) (λ e. rw e) (λ e. rw e)
   idle-counts (output o) at = refl
+  idle-counts (link x) at = refl
   idle-counts total at = refl
 
   -- a flow of the input where it stands counts for the classes that the flow is of
@@ -65,6 +88,7 @@ module _ (list : List ℕ) where
   own-counts (flow g) at f h e = is-flow f (isOf (flow g) (portOf list)) h
   own-counts (input i) at f h e = rw (e, ne-eqb (suc f) 0 (omega arith)) (byBool (eqb at i) (λ d. rw d) (λ d. rw d))
   own-counts (output o) at f h e = is-flow f (isOf (output o) (portOf list)) h
+  own-counts (link x) at f h e = is-flow f (isOf (link x) (portOf list)) h
   own-counts total at f h e = is-flow f (λ _. true) h
 
   -- so a right entry counts for a class through the flow that it is

@@ -10,17 +10,17 @@ use lib.ListN.{length, getD, set}
 use lib.Seq.{getD-set-other}
 use borrow.Author.Tests.{eqb-true, eqb-false, eq-eqb, ne-eqb, not-true}
 use Rattle.model.specs.Words.{both, bit, upFrom, keep, sumTo}
-use Rattle.model.specs.Flows.{Side, inputs, outputs}
+use Rattle.model.specs.Flows.{Side, inputs, links}
 use Rattle.model.specs.Rules.{odd, Joined, itself, onward, backward}
 use Rattle.model.specs.Schedule.{walk, favouring}
 use Rattle.model.proofs.Cases.{byBool, byEq, byLt, both-true, both-false, is-yes, is-no}
 use Rattle.model.proofs.Sums.{sum-ext, sum-add}
 use Rattle.model.proofs.Kept.{keep-keep, kept-length}
-use Rattle.model.proofs.Partners.{rule-partner, partner-rule}
+use Rattle.model.proofs.Singles.{mate, rule-partner, partner-rule}
 use Rattle.model.proofs.Walks.{Good, Pairing, walk-on, walk-off}
 use Rattle.model.proofs.Favouring.{favouring-sum}
 use Rattle.model.proofs.Shares.{Level}
-use Rattle.model.proofs.Settled.{Settled, Keeps, Taken, settle-cases, scan, scan-settled, scan-keeps, scan-done, scan-level, partner-pairing, mate, zero-at}
+use Rattle.model.proofs.Settled.{Settled, Keeps, Taken, settle-cases, scan, scan-settled, scan-keeps, scan-done, scan-level, zero-at}
 
 -- what is reached from p by partners
 pub data Reached (f : Side → ℕ → ℕ) (p : ℕ) : ℕ → Type 0 where
@@ -109,29 +109,29 @@ module _ (n : ℕ) (c d : List ℕ) (lc : length c ≡ n) (ld : length d ≡ n) 
 -- ---- the groups that the scan takes
 module _ (m : List ℕ) (f : Side → ℕ → ℕ) (pf : (s : Side) → Pairing (odd m) (f s)) where
   -- by either side, from what holds by each
-  both-sides : (P : ℕ → Type 0) → ((q : ℕ) → P q → P (f inputs q)) → ((q : ℕ) → P q → P (f outputs q)) → (s : Side) (q : ℕ) → P q → P (f s q)
+  both-sides : (P : ℕ → Type 0) → ((q : ℕ) → P q → P (f inputs q)) → ((q : ℕ) → P q → P (f links q)) → (s : Side) (q : ℕ) → P q → P (f s q)
   both-sides P g h inputs = g
-  both-sides P g h outputs = h
+  both-sides P g h links = h
 
   -- what is settled before position a comes
   abbrev pub state : ℕ → List ℕ
-  state a = scan m (f inputs) (f outputs) (pf inputs) (pf outputs) a
+  state a = scan m (f inputs) (f links) (pf inputs) (pf links) a
 
-  pub state-settled : (a : ℕ) → Settled m (f inputs) (f outputs) (state a)
-  state-settled a = scan-settled m (f inputs) (f outputs) (pf inputs) (pf outputs) a
+  pub state-settled : (a : ℕ) → Settled m (f inputs) (f links) (state a)
+  state-settled a = scan-settled m (f inputs) (f links) (pf inputs) (pf links) a
 
   pub state-keeps : (a b : ℕ) → a ≤ b → Keeps (state a) (state b)
-  state-keeps a b h = scan-keeps m (f inputs) (f outputs) (pf inputs) (pf outputs) a b h
+  state-keeps a b h = scan-keeps m (f inputs) (f links) (pf inputs) (pf links) a b h
 
   pub state-level : (a : ℕ) → Level (state a)
-  state-level a = scan-level m (f inputs) (f outputs) (pf inputs) (pf outputs) a
+  state-level a = scan-level m (f inputs) (f links) (pf inputs) (pf links) a
 
   -- a group is taken at p
   abbrev pub Takes : ℕ → Type 0
-  Takes p = Taken m (f inputs) (f outputs) (pf inputs) (pf outputs) p (state p) (state (suc p))
+  Takes p = Taken m (f inputs) (f links) (pf inputs) (pf links) p (state p) (state (suc p))
 
   pub takes-cases : {P : Type 0} (p : ℕ) → (Takes p → P) → (both (odd m p) (eqb (getD (state p) p 0) 0) ≡ false → state (suc p) ≡ state p → P) → P
-  takes-cases p g h = settle-cases m (f inputs) (f outputs) (pf inputs) (pf outputs) p (state p) (state-settled p .fine .len) g h
+  takes-cases p g h = settle-cases m (f inputs) (f links) (pf inputs) (pf links) p (state p) (state-settled p .fine .len) g h
 
   module _ (p : ℕ) (t : Takes p) where
     -- what p reaches is odd, was not settled before, and is settled after
@@ -142,15 +142,15 @@ module _ (m : List ℕ) (f : Side → ℕ → ℕ) (pf : (s : Side) → Pairing 
     reached-before q j =
         let st = state-settled p in
         reached-closed f p (λ r. getD (state p) r 0 ≡ 0) (t .unsettled)
-        (both-sides (λ r. getD (state p) r 0 ≡ 0) (unsettled (odd m) (f inputs) (state p) (pf inputs) (st .fine .two) (st .ins)) (unsettled (odd m) (f outputs) (state p) (pf outputs) (st .fine .two) (st .outs)))
+        (both-sides (λ r. getD (state p) r 0 ≡ 0) (unsettled (odd m) (f inputs) (state p) (pf inputs) (st .fine .two) (st .ins)) (unsettled (odd m) (f links) (state p) (pf links) (st .fine .two) (st .outs)))
         q j
 
     reached-after : (q : ℕ) → Reached f p q → getD (state (suc p)) q 0 ≢ 0
     reached-after q j =
         let st = state-settled (suc p) in
         reached-closed f p (λ r. getD (state (suc p)) r 0 ≢ 0)
-        (scan-done m (f inputs) (f outputs) (pf inputs) (pf outputs) (suc p) p (omega arith) (t .odd-count))
-        (both-sides (λ r. getD (state (suc p)) r 0 ≢ 0) (on (f inputs) (st .ins)) (on (f outputs) (st .outs))) q j
+        (scan-done m (f inputs) (f links) (pf inputs) (pf links) (suc p) p (omega arith) (t .odd-count))
+        (both-sides (λ r. getD (state (suc p)) r 0 ≢ 0) (on (f inputs) (st .ins)) (on (f links) (st .outs))) q j
       where
         on : (g : ℕ → ℕ) → ((r : ℕ) → Good g (state (suc p)) r) → (r : ℕ) → getD (state (suc p)) r 0 ≢ 0 → getD (state (suc p)) (g r) 0 ≢ 0
         on g good r s =
@@ -161,7 +161,7 @@ module _ (m : List ℕ) (f : Side → ℕ → ℕ) (pf : (s : Side) → Pairing 
     pub takes-first : (q : ℕ) → Reached f p q → p ≤ q
     takes-first q j =
         byLt q p
-        (λ l. absurd (scan-done m (f inputs) (f outputs) (pf inputs) (pf outputs) p q l (reached-odd q j) (reached-before q j)))
+        (λ l. absurd (scan-done m (f inputs) (f links) (pf inputs) (pf links) p q l (reached-odd q j) (reached-before q j)))
         (λ l. l)
 
     -- what is newly settled is what p reaches
@@ -169,8 +169,8 @@ module _ (m : List ℕ) (f : Side → ℕ → ℕ) (pf : (s : Side) → Pairing 
     added =
         let h = t .half in
         rw (t .is)
-        (walk-adds (λ r. Reached f p r) (λ r. getD (state p) r 0 ≢ 0) (length m) (f outputs) (f inputs) p h (walk (length m) (f inputs) (f outputs) p h (set (state p) p h)) (step outputs) (step inputs) here
-        (walk-adds (λ r. Reached f p r) (λ r. getD (state p) r 0 ≢ 0) (length m) (f inputs) (f outputs) p h (set (state p) p h) (step inputs) (step outputs) here
+        (walk-adds (λ r. Reached f p r) (λ r. getD (state p) r 0 ≢ 0) (length m) (f links) (f inputs) p h (walk (length m) (f inputs) (f links) p h (set (state p) p h)) (step links) (step inputs) here
+        (walk-adds (λ r. Reached f p r) (λ r. getD (state p) r 0 ≢ 0) (length m) (f inputs) (f links) p h (set (state p) p h) (step inputs) (step links) here
         (λ r s. byEq r p (λ k. inl (rw k here)) (λ k. inr (rw (getD-set-other (state p) p r h 0 k) at s)))))
 
     abbrev pub member : ℕ → Bool
@@ -239,21 +239,20 @@ module _ (m : List ℕ) (f : Side → ℕ → ℕ) (pf : (s : Side) → Pairing 
       let g = least (l .0) (reached-sym f (λ s. pf s .twice) (l .0) p (l .2)) in
       absurd (omega arith)))
 
-abbrev pub pairings : (port : Side → ℕ → ℕ) (m : List ℕ) (s : Side) → Pairing (odd m) (mate port m s)
-pairings port m s = partner-pairing (port s) m
-
 -- ---- the rule's groups are what partners reach
 module _ (port : Side → ℕ → ℕ) (m : List ℕ) (p : ℕ) where
   pub joined-reached : (q : ℕ) → Joined port m p q → Reached (mate port m) p q
   joined-reached q (itself) = here
-  joined-reached q (onward s x {q = r} j w) =
-      subst (λ (t : ℕ). Reached (mate port m) p t) (rule-partner (port s) m x r q w .3) (step s r (joined-reached r j))
-  joined-reached q (backward s x {q = r} j w) =
-      subst (λ (t : ℕ). Reached (mate port m) p t) (rule-partner (port s) m x q r w .4) (step s r (joined-reached r j))
+  joined-reached q (onward c {q = r} j w) =
+      let e = rule-partner port m c r q w in
+      subst (λ (t : ℕ). Reached (mate port m) p t) (e .there) (step (e .side) r (joined-reached r j))
+  joined-reached q (backward c {q = r} j w) =
+      let e = rule-partner port m c q r w in
+      subst (λ (t : ℕ). Reached (mate port m) p t) (e .back) (step (e .side) r (joined-reached r j))
 
   pub reached-joined : (q : ℕ) → Reached (mate port m) p q → Joined port m p q
   reached-joined q j =
       reached-closed (mate port m) p (λ t. Joined port m p t) itself
       (λ s t k. byEq (mate port m s t) t (λ e. rw e k)
-      (λ n. ⊎-elim (λ w. onward s (port s t) k w) (λ w. backward s (port s t) k w) (partner-rule (port s) m t n)))
+      (λ n. let r = partner-rule port m s t n in ⊎-elim (λ w. onward (r .0) k w) (λ w. backward (r .0) k w) (r .1)))
       q j

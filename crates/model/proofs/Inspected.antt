@@ -1,5 +1,5 @@
 -- Inspect: what its tests of classes and blocks say.
-use Prim.Native.Nat.{ℕ, suc, zero, _+_, _≤_, _<_}
+use Prim.Native.Nat.{ℕ, suc, zero, _+_, _*_, _≤_, _<_}
 use mathlib.Core.Path.{_≡_, refl, sym, ap, _∙_}
 use mathlib.Core.List.{List, [], _∷_, _++_, map}
 use mathlib.Core.Bool.{Bool, true, false, not, true≢false}
@@ -7,7 +7,7 @@ use native.Mathlib.Omega.{arith}
 use lib.Dec.{leb}
 use borrow.Author.Tests.{leb-true, le-leb}
 use Rattle.model.specs.Words.{both, near, Near, upFrom}
-use Rattle.model.specs.Flows.{flows, Class, flow, input, output, total, Of}
+use Rattle.model.specs.Flows.{flows, Class, flow, input, output, link, total, Of}
 use Rattle.model.specs.Frames.{cells, runOf}
 use Rattle.model.specs.Inspect.{classes, all, unbalanced}
 use Rattle.model.proofs.Cases.{byBool, byEq, byLt, both-true}
@@ -43,13 +43,15 @@ abbrev pub In : ℕ → List ℕ → Class → Type 0
 In ports list (flow f) = f < flows list
 In ports list (input i) = i < ports
 In ports list (output o) = o < ports
+In ports list (link x) = x < ports * 4
 In ports list total = Unit {0}
 
 module _ (ports : ℕ) (list : List ℕ) (t : Class → Bool) where
   -- kind by kind
   all-kinds : all t (classes ports list)
-      ≡ both (all t (map flow (upFrom 0 (flows list)))) (both (all t (map input (upFrom 0 ports))) (both (all t (map output (upFrom 0 ports))) (both (t total) true)))
-  all-kinds = rw (all-append, all-append, all-append)
+      ≡ both (all t (map flow (upFrom 0 (flows list)))) (both (all t (map input (upFrom 0 ports)))
+      (both (all t (map output (upFrom 0 ports))) (both (all t (map link (upFrom 0 (ports * 4)))) (both (t total) true))))
+  all-kinds = rw (all-append, all-append, all-append, all-append)
 
   pub all-classes : ((c : Class) → In ports list c → t c ≡ true) → all t (classes ports list) ≡ true
   all-classes h =
@@ -58,6 +60,7 @@ module _ (ports : ℕ) (list : List ℕ) (t : Class → Bool) where
         all-yes t flow 0 (flows list) (λ f _ k. h (flow f) (omega arith)),
         all-yes t input 0 ports (λ i _ k. h (input i) (omega arith)),
         all-yes t output 0 ports (λ o _ k. h (output o) (omega arith)),
+        all-yes t link 0 (ports * 4) (λ x _ k. h (link x) (omega arith)),
         h total tt,
       )
 
@@ -77,11 +80,15 @@ module _ (ports : ℕ) (list : List ℕ) (t : Class → Bool) where
       os : Bool
       os = all t (map output (upFrom 0 ports))
 
-      by : (c : Class) → In ports list c → t c ≡ false → both fs (both is (both os (both (t total) true))) ≡ false
+      ls : Bool
+      ls = all t (map link (upFrom 0 (ports * 4)))
+
+      by : (c : Class) → In ports list c → t c ≡ false → both fs (both is (both os (both ls (both (t total) true)))) ≡ false
       by (flow f) of e = rw (all-no t flow 0 (flows list) f (omega arith) (omega arith) e)
       by (input i) of e = both-no fs _ (rw (all-no t input 0 ports i (omega arith) (omega arith) e))
       by (output o) of e = both-no fs _ (both-no is _ (rw (all-no t output 0 ports o (omega arith) (omega arith) e)))
-      by total of e = both-no fs _ (both-no is _ (both-no os _ (rw e)))
+      by (link x) of e = both-no fs _ (both-no is _ (both-no os _ (rw (all-no t link 0 (ports * 4) x (omega arith) (omega arith) e))))
+      by total of e = both-no fs _ (both-no is _ (both-no os _ (both-no ls _ (rw e))))
 
 -- ---- one block
 module _ (ports : ℕ) (list entries : List ℕ) (start half : ℕ) where
@@ -113,6 +120,7 @@ module _ (ports : ℕ) (list entries : List ℕ) (start half : ℕ) where
       (λ l. rw (cells-not list f ports (runOf ports start half entries) l, cells-not list f ports (runOf ports (start + half) half entries) l) (omega arith))
   balanced-near e (input i) of = in-near e (input i) of
   balanced-near e (output o) of = in-near e (output o) of
+  balanced-near e (link x) of = in-near e (link x) of
   balanced-near e total of = in-near e total of
 
   -- the classes of a list are of the switch
@@ -120,4 +128,5 @@ module _ (ports : ℕ) (list entries : List ℕ) (start half : ℕ) where
   in-of (flow f) of = tt
   in-of (input i) of = of
   in-of (output o) of = of
+  in-of (link x) of = of
   in-of total of = of

@@ -1,7 +1,7 @@
 -- What is kept of a list: the numbers from a on that pass a test, their number, and sums over them.
 use Prim.Native.Nat.{ℕ, suc, zero, _+_, _<_}
 use mathlib.Core.Path.{_≡_, refl, sym, ap, _∙_}
-use mathlib.Core.List.{List, [], _∷_}
+use mathlib.Core.List.{List, [], _∷_, _++_}
 use mathlib.Core.Bool.{Bool, true, false, not}
 use native.Mathlib.Omega.{arith}
 use lib.ListN.{length}
@@ -12,6 +12,10 @@ use Rattle.model.proofs.Sums.{sum-ext, sum-shift, sum-zero}
 pub keep-same : (t u : ℕ → Bool) (a n : ℕ) → ((p : ℕ) → p < a + n → t p ≡ u p) → keep t (upFrom a n) ≡ keep u (upFrom a n)
 keep-same t u a zero f = refl
 keep-same t u a (suc n) f = rw (f a (omega arith), keep-same t u (suc a) n (λ p h. f p (omega arith)))
+
+pub keep-none : (t : ℕ → Bool) (a n : ℕ) → ((p : ℕ) → p < a + n → t p ≡ false) → keep t (upFrom a n) ≡ []
+keep-none t a zero f = refl
+keep-none t a (suc n) f = rw (f a (omega arith)) (keep-none t (suc a) n (λ p h. f p (omega arith)))
 
 pub keep-keep : (t u : ℕ → Bool) (l : List ℕ) → keep u (keep t l) ≡ keep (λ p. both (t p) (u p)) l
 keep-keep t u [] = refl
@@ -34,6 +38,10 @@ keep-parts t (x ∷ l) = let r = keep-parts t l in byBool (t x) (λ e. rw e (ome
 abbrev pub sumOver : (ℕ → ℕ) → List ℕ → ℕ
 sumOver f [] = 0
 sumOver f (p ∷ l) = f p + sumOver f l
+
+pub over-append : (f : ℕ → ℕ) (l r : List ℕ) → sumOver f (l ++ r) ≡ sumOver f l + sumOver f r
+over-append f [] r = omega arith
+over-append f (p ∷ l) r = omega (arith, over-append f l r)
 
 keep-sum : (t : ℕ → Bool) (f : ℕ → ℕ) (a n : ℕ) → sumOver f (keep t (upFrom a n)) ≡ sumTo n (λ p. if (t (a + p)) (f (a + p)) 0)
 keep-sum t f a zero = sym (sum-zero 0 (λ p. if (t (a + p)) (f (a + p)) 0) (λ p h. absurd (omega arith)))

@@ -98,16 +98,16 @@ module _ {ports slots : ℕ} {list entries : List ℕ} (legal : Legal ports slot
 
 -- ---- of what Build leaves
 pub built-lead : BuiltLead
-built-lead ports slots list buffer e k power c of =
-    let s = build-sound ports slots list buffer e in
+built-lead ports slots list limits buffer e k power c of =
+    let s = build-sound ports slots list limits buffer e in
     sound-lead (s .0) (s .1) c of k power
 
 -- ---- of what Service count answers
 pub answered-lead : AnsweredLead
 unfolding service
-answered-lead ports slots list buffer e k power who start len =
-    let entries = left ports slots list buffer in
+answered-lead ports slots list limits buffer e k power who start len =
+    let entries = left ports slots list limits buffer in
     byBool (clear (countChecks ports slots list entries who start len))
     (λ c. let of = who-of ports list who (clear-who ports slots list entries who start len c) in
-    rw c (built-lead ports slots list buffer e k power (classOf who) of (start - 1) len .near))
+    rw c (built-lead ports slots list limits buffer e k power (classOf who) of (start - 1) len .near))
     (λ c. rw c (omega arith))

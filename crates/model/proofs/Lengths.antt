@@ -10,7 +10,7 @@ use lib.Seq.{getD-drop, set-out, getD-set-same, getD-set-other}
 use borrow.Author.Tests.{eq-eqb, ne-eqb, eqb-false, leb-true, leb-false, ltb-false, not-true, not-false}
 use Rattle.model.specs.Words.{if, both, within, upFrom, keep, Every}
 use Rattle.model.specs.Flows.{flows, Side, inputs, portOf, countsOf, Class, input, output, isOf, loadIn, load}
-use Rattle.model.specs.Refusals.{Check, report, clear, bad-ports, bad-slots, levels, lowestAbove, overload, overloads}
+use Rattle.model.specs.Refusals.{Check, report, clear, bad-ports, bad-slots, levels, lowestAbove, overload, portOverloads}
 use Rattle.model.specs.Rules.{odd}
 use Rattle.model.specs.Schedule.{favours, halfBy, put, slotOf, frameOf}
 use Rattle.model.specs.Sheet.{text, decimal, portsLine, slotsLine, pairLine, lines, numberIn, same, bad-line, bad-line-flow, bad-port, Asked, loads, refused, unless, most, readPairs, readSlots, readPorts, bad-sheet, overloaded, readSheet, printCells, printSlots, printFrame, printRefusal, printed, response}
@@ -157,8 +157,11 @@ refusal-most [] s = omega arith
 refusal-most (number ∷ []) s = simp length-append (omega (arith, decimal-short 7 number (s .0)))
 refusal-most (number ∷ line ∷ []) s =
     simp length-append (omega (arith, decimal-short 7 number (s .0), decimal-short 7 line (s .1 .0)))
-refusal-most (number ∷ port ∷ count ∷ l) s =
+refusal-most (number ∷ port ∷ count ∷ []) s =
     simp length-append (omega (arith, decimal-short 7 number (s .0), decimal-short 7 port (s .1 .0), decimal-short 7 count (s .1 .1 .0)))
+refusal-most (number ∷ o ∷ x ∷ count ∷ l) s =
+    simp length-append
+    (omega (arith, decimal-short 7 number (s .0), decimal-short 7 o (s .1 .0), decimal-short 7 x (s .1 .1 .0), decimal-short 7 count (s .1 .1 .1 .0)))
 
 -- the first of some short refusals is short
 report-short : (cs : List Check) → Every (λ c. Short (c .1)) cs → Short (report cs [])
@@ -184,20 +187,21 @@ unless-asks cs asked s f = byBool (clear cs) (λ e. rw e (f e)) (λ e. rw e (rep
 
 -- a flow more
 flow-read : {ports slots : ℕ} {list : List ℕ} (i o m : ℕ) → Read ports slots list → flows list < 512 → i ≤ 65535 → o ≤ 65535 → m ≤ 65535
-    → Read ports slots (list ++ (i ∷ o ∷ m ∷ []))
+    → Read ports slots (list ++ (i ∷ o ∷ m ∷ 1 ∷ []))
 flow-read {list = list} i o m x h a b c =
     record {
       rack = x .rack;
       power = x .power;
-      few = omega (arith, length-append list (i ∷ o ∷ m ∷ []));
-      low = append-low 65535 list (i ∷ o ∷ m ∷ []) (x .low) three-low;
+      few = omega (arith, length-append list (i ∷ o ∷ m ∷ 1 ∷ []));
+      low = append-low 65535 list (i ∷ o ∷ m ∷ 1 ∷ []) (x .low) four-low;
     }
   where
-    three-low : Low 65535 (i ∷ o ∷ m ∷ [])
-    three-low zero = a
-    three-low (suc zero) = b
-    three-low (suc (suc zero)) = c
-    three-low (suc (suc (suc q))) = omega arith
+    four-low : Low 65535 (i ∷ o ∷ m ∷ 1 ∷ [])
+    four-low zero = a
+    four-low (suc zero) = b
+    four-low (suc (suc zero)) = c
+    four-low (suc (suc (suc zero))) = omega arith
+    four-low (suc (suc (suc (suc q)))) = omega arith
 
 -- the pair lines are read as such loads, or refused
 pairs-read : (ports slots number : ℕ) (list : List ℕ) (ls : List (List ℕ)) → number + length ls ≤ 32769 → Read ports slots list
@@ -209,7 +213,7 @@ pairs-read ports slots number list (line ∷ ls) h x =
     let o = numberIn 1 line in
     let m = numberIn 2 line in
     unless-asks (bad-line number line (pairLine i o m) (most i (most o m)) ∷ bad-line-flow list ∷ bad-port number ports i o ∷ [])
-    (readPairs ports slots (suc number) (list ++ (i ∷ o ∷ m ∷ [])) ls)
+    (readPairs ports slots (suc number) (list ++ (i ∷ o ∷ m ∷ 1 ∷ [])) ls)
     ((omega arith, (omega arith, tt)), ((omega arith, tt), ((omega arith, (omega arith, tt)), tt)))
     (λ e.
     let a = both-true (not (not (both (same line (pairLine i o m)) (leb (most i (most o m)) 65535)))) _ e in
@@ -217,7 +221,7 @@ pairs-read ports slots number list (line ∷ ls) h x =
     let c = most-low i (most o m) 65535 (leb-true (most i (most o m)) 65535 (b .1)) in
     let d = most-low o m 65535 (c .1) in
     let f = both-true (not (leb 512 (flows list))) _ (a .1) in
-    pairs-read ports slots (suc number) (list ++ (i ∷ o ∷ m ∷ [])) ls (omega arith)
+    pairs-read ports slots (suc number) (list ++ (i ∷ o ∷ m ∷ 1 ∷ [])) ls (omega arith)
     (flow-read i o m x (leb-false 512 (flows list) (not-true _ (f .0))) (c .0) (d .0) (d .1)))
 
 -- line 2 and what follows are read so, or refused
@@ -263,7 +267,7 @@ load-most {list = list} x c =
     each : (f : ℕ) → f < length (countsOf list) → if (isOf c (portOf list) f) (getD (countsOf list) f 0) 0 ≤ 65535
     each f h =
         byBool (isOf c (portOf list) f)
-        (λ e. rw e (omega (arith, counts-at list f (omega (arith, counts-length list)), x .low (f * 3 + 2))))
+        (λ e. rw e (omega (arith, counts-at list f (omega (arith, counts-length list)), x .low (f * 4 + 2))))
         (λ e. rw e (omega arith))
 
 -- an overload is refused with a port and its load
@@ -278,7 +282,7 @@ overload-short number kind {ports} {slots} {list} x h =
 overloaded-asks : (asked : Asked) → Asks asked → Asks (overloaded asked)
 overloaded-asks (refused r) x = x
 overloaded-asks (loads ports slots list) x =
-    unless-asks (overloads ports slots list) (loads ports slots list)
+    unless-asks (portOverloads ports slots list) (loads ports slots list)
     (overload-short 5 input x (omega arith), (overload-short 6 output x (omega arith), tt)) (λ e. x)
 
 -- what is asked for is printed as no more than 76,749 bytes

@@ -5,6 +5,7 @@ pub mod Kept
 pub mod Searches
 pub mod Levels
 pub mod Partners
+pub mod Singles
 pub mod Favouring
 pub mod Walks
 pub mod Shares
@@ -35,6 +36,7 @@ pub mod Runs
 pub mod Integers
 pub mod Queues
 pub mod Rows
+pub mod Lines
 pub mod Waits
 pub mod WholeBlocks
 pub mod Latest

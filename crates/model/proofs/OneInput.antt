@@ -9,24 +9,27 @@ use native.Mathlib.Omega.{arith}
 use native.Mathlib.Nat.{add-zero, zero-add}
 use lib.Dec.{eqb}
 use lib.ListN.{length, getD, replicate, length-append}
-use Rattle.model.specs.Words.{both, sumTo, upFrom}
-use Rattle.model.specs.Flows.{Side, inputs, outputs, portOf, countsOf, Class, flow, loadIn, Fits}
+use Rattle.model.specs.Words.{if, both, sumTo, upFrom}
+use Rattle.model.specs.Flows.{Side, inputs, links, portOf, countsOf, Class, flow, link, isOf, loadIn, Fits}
 use Rattle.model.specs.Frames.{cells, runOf}
+use Rattle.model.specs.Refusals.{slotsEach}
 use Rattle.model.specs.Rules.{odd}
-use Rattle.model.specs.Schedule.{partner, walk, groupOf, level, settleAt, settle, favours, frameOf}
+use Rattle.model.specs.Schedule.{walk, groupOf, level, settleAt, settle, favours, frameOf}
 use Rattle.model.specs.Build.{buildAccepts}
 use Rattle.model.specs.Wire.{Call, Carried, none, chain}
+use Rattle.model.proofs.Cases.{byBool}
 use Rattle.model.proofs.Levels.{levels-of}
 use Rattle.model.proofs.Walks.{walk-on, walk-off}
 use Rattle.model.proofs.Cells.{cells-run, run-first, run-second, run-all}
 use Rattle.model.proofs.OneFrame.{frame-is, frame-length, rules-sound}
 use Rattle.model.proofs.Slots.{Placed}
-use Rattle.model.proofs.Reports.{Ported}
+use Rattle.model.proofs.Reports.{Ported, Linked}
+use Rattle.model.proofs.Overloads.{each-allows}
 use Rattle.model.proofs.Demand2.{accepts-yes}
 
--- a flow of d cells from the first input to the first output, and one of c to the second: the list, and its counts
+-- a flow of d cells from the first input to the first output, and one of c to the second, each on link 1: the list, and its counts
 abbrev pub listed : ℕ → ℕ → List ℕ
-listed d c = 1 ∷ 1 ∷ d ∷ 1 ∷ 2 ∷ c ∷ []
+listed d c = 1 ∷ 1 ∷ d ∷ 1 ∷ 1 ∷ 2 ∷ c ∷ 1 ∷ []
 
 abbrev pub row : ℕ → ℕ → List ℕ
 row d c = d ∷ c ∷ []
@@ -78,12 +81,12 @@ module _ (D C : ℕ) where
   -- an odd count alone favours the first half
   alone-favours : (c : ℕ) → c % 2 ≡ 1 → favours port (row 0 c) ≡ row 0 1
   unfolding favours portOf
-  alone-favours c e = alone-settled (partner (port inputs) (row 0 c)) (partner (port outputs) (row 0 c)) c e (rw e) (rw e)
+  alone-favours c e = alone-settled _ _ c e (rw e) (rw e)
 
   -- of two odd counts the first favours the first half and the other the second
   full-favours : (d c : ℕ) → d % 2 ≡ 1 → c % 2 ≡ 1 → favours port (row d c) ≡ row 1 2
   unfolding favours portOf
-  full-favours d c e f = full-settled (partner (port inputs) (row d c)) (partner (port outputs) (row d c)) d c e f (rw (e, f)) (rw (e, f)) (rw (e, f))
+  full-favours d c e f = full-settled _ _ d c e f (rw (e, f)) (rw (e, f)) (rw (e, f))
 
   -- the entries of a block with d cells of the one and c of the other
   abbrev pub laid : ℕ → ℕ → ℕ → List ℕ
@@ -118,6 +121,14 @@ module _ (D C : ℕ) where
   row-fits n d c h zero l = (omega arith, omega arith)
   row-fits n d c h (suc zero) l = (omega arith, omega arith)
   row-fits n d c h (suc (suc x)) l = absurd (omega arith)
+
+  -- nor are there more for a link
+  row-link : (n d c : ℕ) → d + c ≤ n → (x : ℕ) → loadIn (link x) port (row d c) ≤ n
+  unfolding loadIn sumTo
+  row-link n d c h x =
+      let has : ℕ → ℕ → ℕ = λ f m. if (isOf (link x) port f) m 0 in
+      let most : (f m : ℕ) → has f m ≤ m = λ f m. byBool (isOf (link x) port f) (λ e. rw e (omega arith)) (λ e. rw e (omega arith)) in
+      omega (arith, most 0 d, most 1 c)
 
   pub row-placed : Placed 2 port 2
   unfolding portOf
@@ -155,29 +166,43 @@ module _ (D C : ℕ) where
 -- ---- Build
 -- a call of two ports and 2 ^ k slots, carried once
 abbrev pub once : ℕ → List ℕ → Call
-once k list = record { ports = 2; slots = 2 ^ k; list = list; times = 1 }
+once k list = record { ports = 2; slots = 2 ^ k; list = list; limits = slotsEach (2 ^ k); times = 1 }
 
 -- what it puts on the wire
 abbrev pub framed : ℕ → ℕ → ℕ → Carried
 framed k d c = record { call = once k (listed d c); entries = laid d c k d c }
 
 -- Build accepts no more cells than slots
-pub row-accepted : (k d c : ℕ) (buffer : List ℕ) → k ≤ 10 → d + c ≤ 2 ^ k → length buffer ≡ 2 ^ k * 2 → buildAccepts 2 (2 ^ k) (listed d c) buffer ≡ true
+pub row-accepted : (k d c : ℕ) (buffer : List ℕ) → k ≤ 10 → d + c ≤ 2 ^ k → length buffer ≡ 2 ^ k * 2
+    → buildAccepts 2 (2 ^ k) (listed d c) (slotsEach (2 ^ k)) buffer ≡ true
 row-accepted k d c buffer h l e =
-    accepts-yes 2 (2 ^ k) (listed d c) buffer
+    accepts-yes 2 (2 ^ k) (listed d c) (slotsEach (2 ^ k)) buffer
     (record {
-      well = record { rack = (omega arith, omega arith); power = record { k = k; most = h; is = refl }; whole = refl; few = omega arith; ported = ported };
+      well = record {
+        rack = (omega arith, omega arith);
+        power = record { k = k; most = h; is = refl };
+        whole = refl;
+        few = omega arith;
+        ported = ported;
+        linked = linked;
+      };
       size = e;
       fits = rw (listed-counts d c) (row-fits d c (2 ^ k) d c l);
+      allowed = each-allows 2 (2 ^ k) (listed d c) (omega arith) (λ x _. rw (listed-counts d c) (row-link d c (2 ^ k) d c l x));
     })
   where
     ported : Ported 2 (listed d c)
     ported inputs zero h = (omega arith, omega arith)
     ported inputs (suc zero) h = (omega arith, omega arith)
     ported inputs (suc (suc f)) h = absurd (omega arith)
-    ported outputs zero h = (omega arith, omega arith)
-    ported outputs (suc zero) h = (omega arith, omega arith)
-    ported outputs (suc (suc f)) h = absurd (omega arith)
+    ported links zero h = (omega arith, omega arith)
+    ported links (suc zero) h = (omega arith, omega arith)
+    ported links (suc (suc f)) h = absurd (omega arith)
+
+    linked : Linked (listed d c)
+    linked zero h = (omega arith, omega arith)
+    linked (suc zero) h = (omega arith, omega arith)
+    linked (suc (suc f)) h = absurd (omega arith)
 
 -- so two such calls put their two frames on the wire
 pub rows-framed : (k d c d′ c′ : ℕ) (buffer : List ℕ) → k ≤ 10 → d + c ≤ 2 ^ k → d′ + c′ ≤ 2 ^ k → length buffer ≡ 2 ^ k * 2

@@ -1,4 +1,4 @@
--- Partners: in a rising list the partner is an involution, and it is the rule's; which counts are partners is settled here.
+-- Partners: in a list without a count twice the partner is an involution, and it is the rule's; and so at an input or a link.
 use Prim.Native.Nat.{ℕ, suc, zero, _+_, _%_, _≤_, _<_}
 use mathlib.Core.Path.{_≡_, refl, sym, ap, _∙_}
 use mathlib.Core.Logic.{_≢_, _⊎_, inl, inr, ⊎-elim}
@@ -64,48 +64,62 @@ in-every P [] p al h = h
 in-every P (a ∷ []) p al h = h
 in-every P (a ∷ b ∷ l) p al h = in-cases P a b l p (λ e. al .1 .0) (λ n e. al .0) (λ n e. in-every P l p (al .1 .1) h)
 
-pub in-below : (k : ℕ) (l : List ℕ) (p : ℕ) → Rising k l → p < k → partnerIn l p ≡ p
-in-below k [] p asc h = refl
-in-below k (a ∷ []) p asc h = refl
-in-below k (a ∷ b ∷ l) p asc h = in-rest a b l p (omega arith) (omega arith) ∙ in-below (suc b) l p (asc .1 .1) (omega arith)
+-- one that is not in a list has no partner in it
+pub in-none : (l : List ℕ) (p : ℕ) → Every (λ q. q ≢ p) l → partnerIn l p ≡ p
+in-none [] p al = refl
+in-none (a ∷ []) p al = refl
+in-none (a ∷ b ∷ l) p al = in-rest a b l p (λ e. al .0 (sym e)) (λ e. al .1 .0 (sym e)) ∙ in-none l p (al .1 .1)
 
-in-above : (k : ℕ) (l : List ℕ) (p : ℕ) → Rising k l → k ≤ p → k ≤ partnerIn l p
-in-above k [] p asc h = h
-in-above k (a ∷ []) p asc h = h
-in-above k (a ∷ b ∷ l) p asc h =
-    in-cases (λ q. k ≤ q) a b l p (λ e. omega arith) (λ n e. omega arith)
-    (λ n e. byLt b p (λ g. let r = in-above (suc b) l p (asc .1 .1) g in omega arith) (λ g. rw (in-below (suc b) l p (asc .1 .1) (omega arith)) h))
+-- ---- lists without a count twice
+abbrev pub Apart : List ℕ → Type 0
+Apart [] = Unit {0}
+Apart (x ∷ l) = Every (λ y. y ≢ x) l × Apart l
 
-in-twice : (k : ℕ) (l : List ℕ) (p : ℕ) → Rising k l → partnerIn l (partnerIn l p) ≡ p
-in-twice k [] p asc = refl
-in-twice k (a ∷ []) p asc = refl
-in-twice k (a ∷ b ∷ l) p asc =
+-- a rising list has none twice
+rising-above : (j k : ℕ) (l : List ℕ) → j < k → Rising k l → Every (λ y. y ≢ j) l
+rising-above j k [] h r = tt
+rising-above j k (x ∷ l) h r = ((λ e. let a = r .0 in absurd (omega arith)), rising-above j (suc x) l (let a = r .0 in omega arith) (r .1))
+
+pub rising-apart : (k : ℕ) (l : List ℕ) → Rising k l → Apart l
+rising-apart k [] r = tt
+rising-apart k (x ∷ l) r = (rising-above x (suc x) l (omega arith) (r .1), rising-apart (suc x) l (r .1))
+
+pub in-twice : (l : List ℕ) (p : ℕ) → Apart l → partnerIn l (partnerIn l p) ≡ p
+in-twice [] p apart = refl
+in-twice (a ∷ []) p apart = refl
+in-twice (a ∷ b ∷ l) p apart =
     in-cases (λ q. partnerIn (a ∷ b ∷ l) q ≡ p) a b l p
-    (λ e. in-second a b l b (omega arith) refl ∙ sym e)
+    (λ e. in-second a b l b (apart .0 .0) refl ∙ sym e)
     (λ n e. in-first a b l a refl ∙ sym e)
-    (λ n e. byLt b p
-    (λ g. let r = in-above (suc b) l p (asc .1 .1) g in in-rest a b l (partnerIn l p) (omega arith) (omega arith) ∙ in-twice (suc b) l p (asc .1 .1))
-    (λ g. rw (in-below (suc b) l p (asc .1 .1) (omega arith)) (in-rest a b l p n e ∙ in-below (suc b) l p (asc .1 .1) (omega arith))))
+    (λ n e.
+    in-rest a b l (partnerIn l p) (in-every (λ q. q ≢ a) l p (apart .0 .1) n) (in-every (λ q. q ≢ b) l p (apart .1 .0) e)
+    ∙ in-twice l p (apart .1 .1))
 
--- ---- the rule: partners of a rising list are each other's partner, and differ
-pub record Mates (l : List ℕ) (k p q : ℕ) : Type 0 where
-  pub low : k ≤ p
-  pub less : p < q
+-- ---- the rule: partners of such a list are each other's partner, and differ
+pub partners-every : (P : ℕ → Type 0) (l : List ℕ) (p q : ℕ) → Every P l → Partners l p q → P p × P q
+partners-every P m p q al these = (al .0, al .1 .0)
+partners-every P m p q al (later {l = l} r) = partners-every P l p q (al .1 .1) r
+
+pub partners-two : (l : List ℕ) (p q : ℕ) → Partners l p q → 2 ≤ length l
+partners-two m p q (these {l = l}) = omega arith
+partners-two m p q (later {l = l} r) = omega (arith, partners-two l p q r)
+
+pub record Mates (l : List ℕ) (p q : ℕ) : Type 0 where
+  pub differ : p ≢ q
   pub there : partnerIn l p ≡ q
   pub back : partnerIn l q ≡ p
 
-pub rule-mates : (k : ℕ) (l : List ℕ) (p q : ℕ) → Rising k l → Partners l p q → Mates l k p q
-rule-mates k m p q asc (these {l = l}) =
-    record { low = asc .0; less = asc .1 .0; there = in-first p q l p refl; back = in-second p q l q (let h = asc .1 .0 in omega arith) refl }
-rule-mates k n p q asc (later {x = x} {y = y} {l = l} r) =
-    let m = rule-mates (suc y) l p q (asc .1 .1) r in
-    let a = m .low in
-    let b = m .less in
+pub rule-mates : (l : List ℕ) (p q : ℕ) → Apart l → Partners l p q → Mates l p q
+rule-mates m p q apart (these {l = l}) =
+    record { differ = λ e. apart .0 .0 (sym e); there = in-first p q l p refl; back = in-second p q l q (apart .0 .0) refl }
+rule-mates n p q apart (later {x = x} {y = y} {l = l} r) =
+    let m = rule-mates l p q (apart .1 .1) r in
+    let at-x = partners-every (λ z. z ≢ x) l p q (apart .0 .1) r in
+    let at-y = partners-every (λ z. z ≢ y) l p q (apart .1 .0) r in
     record {
-      low = omega arith;
-      less = b;
-      there = in-rest x y l p (omega arith) (omega arith) ∙ m .there;
-      back = in-rest x y l q (omega arith) (omega arith) ∙ m .back;
+      differ = m .differ;
+      there = in-rest x y l p (at-x .0) (at-y .0) ∙ m .there;
+      back = in-rest x y l q (at-x .1) (at-y .1) ∙ m .back;
     }
 
 -- and who has another for a partner is a partner by the rule
@@ -135,6 +149,9 @@ module _ (port : ℕ → ℕ) (m : List ℕ) where
   pub odds-rising : (x : ℕ) → Rising 0 (oddsAt port m x)
   odds-rising x = keep-rising (λ p. both (odd m p) (eqb (port p) x)) 0 (length m)
 
+  pub odds-apart : (x : ℕ) → Apart (oddsAt port m x)
+  odds-apart x = rising-apart 0 (oddsAt port m x) (odds-rising x)
+
   pub odds-every : (x : ℕ) → Every (AtPort port m x) (oddsAt port m x)
   odds-every x =
       every-map (λ p. (both (odd m p) (eqb (port p) x) ≡ true) × (p < length m)) (AtPort port m x)
@@ -152,25 +169,8 @@ module _ (port : ℕ → ℕ) (m : List ℕ) where
 
   pub partner-twice : (p : ℕ) → partner port m (partner port m p) ≡ p
   partner-twice p =
-      ap (λ (x : ℕ). partnerIn (oddsAt port m x) (partner port m p)) (partner-port p) ∙ in-twice 0 (oddsAt port m (port p)) p (odds-rising (port p))
+      ap (λ (x : ℕ). partnerIn (oddsAt port m x) (partner port m p)) (partner-port p) ∙ in-twice (oddsAt port m (port p)) p (odds-apart (port p))
 
-  -- partners by the rule at any port x are odd counts of x, and partners by the function
-  pub rule-partner : (x p q : ℕ) → Partners (oddsAt port m x) p q
-      → (AtPort port m x p) × (AtPort port m x q) × (p < q) × (partner port m p ≡ q) × (partner port m q ≡ p)
-  rule-partner x p q r =
-      let s = rule-mates 0 (oddsAt port m x) p q (odds-rising x) r in
-      let ev = partners-every (AtPort port m x) (oddsAt port m x) p q (odds-every x) r in (
-        ev .0,
-        ev .1,
-        s .less,
-        ap (λ (y : ℕ). partnerIn (oddsAt port m y) p) (ev .0 .1) ∙ s .there,
-        ap (λ (y : ℕ). partnerIn (oddsAt port m y) q) (ev .1 .1) ∙ s .back,
-      )
-    where
-      partners-every : (P : ℕ → Type 0) (l : List ℕ) (p q : ℕ) → Every P l → Partners l p q → P p × P q
-      partners-every P m p q al these = (al .0, al .1 .0)
-      partners-every P m p q al (later {l = l} r) = partners-every P l p q (al .1 .1) r
-
-  pub partner-rule : (p : ℕ) → partner port m p ≢ p
-      → Partners (oddsAt port m (port p)) p (partner port m p) ⊎ Partners (oddsAt port m (port p)) (partner port m p) p
-  partner-rule p n = mates-rule (oddsAt port m (port p)) p n
+  -- the partner of a count of port x is that among those of x
+  pub partner-among : (x p : ℕ) → port p ≡ x → partner port m p ≡ partnerIn (oddsAt port m x) p
+  partner-among x p e = ap (λ (y : ℕ). partnerIn (oddsAt port m y) p) e

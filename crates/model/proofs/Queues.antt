@@ -89,6 +89,10 @@ pub share-is : (c : Class) (ports k m : ℕ) (fs : List Carried) → Every (Shap
     → (start len : ℕ) → start + len ≤ length fs * 2 ^ k → share c 0 fs start len ≡ len * m
 share-is = share-run (λ a b. a ≡ b) refl (λ a b x y p q. omega arith) (λ z a b p. ap (λ v. v * z) p)
 
+pub share-most : (c : Class) (ports k m : ℕ) (fs : List Carried) → Every (Shape ports (2 ^ k)) fs → Every (λ f. load c (f .call .list) ≤ m) fs
+    → (start len : ℕ) → start + len ≤ length fs * 2 ^ k → share c 0 fs start len ≤ len * m
+share-most = share-run (λ a b. a ≤ b) (omega arith) (λ a b x y p q. omega arith) (λ z a b p. mul-le-mul-right z p)
+
 pub share-least : (c : Class) (ports k m : ℕ) (fs : List Carried) → Every (Shape ports (2 ^ k)) fs → Every (λ f. m ≤ load c (f .call .list)) fs
     → (start len : ℕ) → start + len ≤ length fs * 2 ^ k → len * m ≤ share c 0 fs start len
 share-least = share-run (λ a b. b ≤ a) (omega arith) (λ a b x y p q. omega arith) (λ z a b p. mul-le-mul-right z p)
@@ -111,7 +115,7 @@ arrived-one : (arrive : ℕ → ℕ) (start : ℕ) → arrived arrive start 1 �
 unfolding arrived sumTo
 arrived-one arrive start = let e : start + 0 ≡ start = omega arith in omega (arith, ap arrive e)
 
-arrived-more : (arrive : ℕ → ℕ) (start len : ℕ) → arrived arrive start (len + 1) ≡ arrived arrive start len + arrive (start + len)
+pub arrived-more : (arrive : ℕ → ℕ) (start len : ℕ) → arrived arrive start (len + 1) ≡ arrived arrive start len + arrive (start + len)
 arrived-more arrive start len = arrived-append arrive start len 1 ∙ ap (λ z. arrived arrive start len + z) (arrived-one arrive (start + len))
 
 -- what a chain schedules in a run is the run's cells
@@ -173,10 +177,10 @@ sound-steady ports k fs sound shape c of m same a arrive paced t h =
 
 -- How deep a buffer to order, where the flow's load is the same in every frame, and where it changes at seams.
 pub buffers : Buffers
-buffers buffer calls ports k = sound-steady ports k (chain none buffer calls) (chain-sound none buffer calls tt)
+buffers buffer calls ports k = sound-steady ports k (chain none buffer calls) (chain-sound buffer calls)
 
 pub buffers-at-seams : BuffersAtSeams
-buffers-at-seams buffer calls ports k = sound-held ports k (chain none buffer calls) (chain-sound none buffer calls tt)
+buffers-at-seams buffer calls ports k = sound-held ports k (chain none buffer calls) (chain-sound buffer calls)
 
 -- ---- one frame that repeats for ever
 module _ (c : Class) (ports slots : ℕ) (list entries : List ℕ) (size : length entries ≡ slots * ports) (least : 1 ≤ slots) where

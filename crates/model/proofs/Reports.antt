@@ -10,12 +10,12 @@ use lib.ListN.{length, getD}
 use lib.Pow.{pow-pos}
 use borrow.Author.Tests.{eqb-true, eqb-false, eq-eqb, ne-eqb, le-ltb, ltb-false, not-false}
 use Rattle.model.specs.Words.{within, first, Every}
-use Rattle.model.specs.Flows.{stride, flows, numberOf, Side, inputs, outputs, placeOf}
-use Rattle.model.specs.Refusals.{Check, report, clear, refusal, accepted, levels, bad-ports, bad-slots, bad-list, bad-flows, portsWithin, bad-flow, bad-frame, bad-slot}
+use Rattle.model.specs.Flows.{stride, flows, numberOf, Side, inputs, links, placeOf}
+use Rattle.model.specs.Refusals.{Check, report, clear, refusal, accepted, levels, bad-ports, bad-slots, bad-list, bad-flows, portsWithin, bad-flow, linkWithin, bad-link, bad-frame, bad-slot}
 use Rattle.model.specs.Service.{bad-length}
 use Rattle.model.specs.Sheet.{bad-sheet}
 use Rattle.model.specs.declared.Refusal.{Refusal}
-use Rattle.model.specs.declared.Refusal.the-variants.{Ports, Slots, ListLength, FrameLength, InputLoad, OutputLoad, LineForm, LinePort, SheetLength, SlotNumber, FlowOrPort, RunLength, TooManyFlows, FlowPort}
+use Rattle.model.specs.declared.Refusal.the-variants.{Ports, Slots, ListLength, FrameLength, InputLoad, OutputLoad, LineForm, LinePort, SheetLength, SlotNumber, FlowOrPort, RunLength, TooManyFlows, FlowPort, FlowLink, LinkLoad}
 use Rattle.model.proofs.Cases.{byBool, Within, within-yes, within-true, both-true, both-yes}
 use Rattle.model.proofs.Searches.{first-none, first-before}
 use Rattle.model.proofs.Levels.{Power, power-known, power-most, known-power}
@@ -72,6 +72,8 @@ refusal-number FlowOrPort = omega arith
 refusal-number RunLength = omega arith
 refusal-number TooManyFlows = omega arith
 refusal-number FlowPort = omega arith
+refusal-number FlowLink = omega arith
+refusal-number (LinkLoad output link cells) = omega arith
 
 -- a check whose answer is a refusal's: its number is not 0
 abbrev pub Refuses : Check → Type 0
@@ -152,11 +154,11 @@ Ported ports list = (s : Side) (f : ℕ) → f < flows list → Within 1 ports (
 
 pub ports-within : (ports : ℕ) (list : List ℕ) (f : ℕ) → portsWithin ports list f ≡ true → (s : Side) → Within 1 ports (numberOf (placeOf s) list f)
 ports-within ports list f e inputs = within-true 1 ports (numberOf 0 list f) (both-true (within 1 ports (numberOf 0 list f)) (within 1 ports (numberOf 1 list f)) e .0)
-ports-within ports list f e outputs = within-true 1 ports (numberOf 1 list f) (both-true (within 1 ports (numberOf 0 list f)) (within 1 ports (numberOf 1 list f)) e .1)
+ports-within ports list f e links = within-true 1 ports (numberOf 1 list f) (both-true (within 1 ports (numberOf 0 list f)) (within 1 ports (numberOf 1 list f)) e .1)
 
 pub within-ports : (ports : ℕ) (list : List ℕ) (f : ℕ) → ((s : Side) → Within 1 ports (numberOf (placeOf s) list f)) → portsWithin ports list f ≡ true
 within-ports ports list f w =
-    both-yes _ _ (within-yes 1 ports (numberOf 0 list f) (w inputs .0) (w inputs .1)) (within-yes 1 ports (numberOf 1 list f) (w outputs .0) (w outputs .1))
+    both-yes _ _ (within-yes 1 ports (numberOf 0 list f) (w inputs .0) (w inputs .1)) (within-yes 1 ports (numberOf 1 list f) (w links .0) (w links .1))
 
 pub flow-tells : (ports : ℕ) (list : List ℕ) → Tells (bad-flow ports list) (Ported ports list)
 flow-tells ports list =
@@ -164,6 +166,18 @@ flow-tells ports list =
     record {
       met = λ w. t .met (λ f h. ap not (within-ports ports list f (λ s. w s f h)));
       known = λ e s f h. ports-within ports list f (not-false _ (t .known e f h)) s;
+    }
+
+-- 23: the link of each of them is 1 to 4
+abbrev pub Linked : List ℕ → Type 0
+Linked list = (f : ℕ) → f < flows list → Within 1 4 (numberOf 3 list f)
+
+pub link-tells : (list : List ℕ) → Tells (bad-link list) (Linked list)
+link-tells list =
+    let t = search-tells (λ f. not (linkWithin list f)) (flows list) (23 ∷ []) in
+    record {
+      met = λ w. t .met (λ f h. ap not (within-yes 1 4 (numberOf 3 list f) (w f h .0) (w f h .1)));
+      known = λ e f h. within-true 1 4 (numberOf 3 list f) (not-false _ (t .known e f h));
     }
 
 -- 4: the frame has slots × ports entries

@@ -7,59 +7,74 @@ use lib.ListN.{length, getD, length-append, List·getD-append}
 use lib.Seq.{getD-append-add}
 use borrow.Author.Tests.{lt-leb, leb-false, not-false}
 use Rattle.model.specs.Words.{within}
-use Rattle.model.specs.Flows.{stride, flows, numberOf, inputs, outputs, portOf, countsOf, output, load, input}
-use Rattle.model.specs.Refusals.{Check, report, overload, overloads}
+use Rattle.model.specs.Flows.{stride, flows, numberOf, inputs, links, portOf, countsOf, output, load, input}
+use Rattle.model.specs.Refusals.{Check, report, overload, portOverloads}
 use Rattle.model.specs.Schedule.{frameOf}
 use Rattle.model.specs.Sheet.{printFrame, digits, portsLine, slotsLine, pairLine, lines, bad-line-flow, bad-port, Asked, loads, readPairs, readPorts, readSheet, response}
 use Rattle.model.specs.Sheet as asked
 use Rattle.model.proofs.Cases.{byLt, Within, both-true, within-yes, within-true}
 use Rattle.model.proofs.Levels.{Power, power-level, power-most}
 use Rattle.model.proofs.OneFrame.{only-frame}
-use Rattle.model.proofs.Reports.{Ported, report-found, report-on, Tells, ports-tells, slots-tells, clear-some, broken, byFact, sheet-tells}
+use Rattle.model.proofs.Reports.{Ported, Linked, report-found, report-on, Tells, ports-tells, slots-tells, clear-some, broken, byFact, sheet-tells}
 use Rattle.model.proofs.Overloads.{Light, Over, over-reported, overload-tells, byOver}
 use Rattle.model.proofs.Demand2.{WellFormed, well-frame, light-fits, fits-clear}
 use Rattle.model.proofs.Answers.{Exactly, exactly, input-5, output-6, ReadsPairs, ended, form-7, flows-21, port-8, taken, Reads, line-1-7, line-1-1, line-2-7, line-2-2, from-3, Responds, sheet-10, lines-refused, frame}
 use Rattle.model.proofs.Sheets.{ports-yes, ports-no, byPortsLine, slots-yes, slots-no, bySlotsLine, pairs-yes, pairs-none, pairs-no, byPairLine, pair-lines, no-lines, some-lines}
 
 -- ---- a list, flow by flow
+-- a flow more, on link 1
 module _ (list : List ℕ) (i o m : ℕ) (whole : length list % stride ≡ 0) where
   abbrev more : List ℕ
-  more = list ++ (i ∷ o ∷ m ∷ [])
+  more = list ++ (i ∷ o ∷ m ∷ 1 ∷ [])
 
   flows-more : flows more ≡ suc (flows list)
-  flows-more = omega (arith, length-append list (i ∷ o ∷ m ∷ []))
+  flows-more = omega (arith, length-append list (i ∷ o ∷ m ∷ 1 ∷ []))
 
   -- the numbers of the flows before stay
   number-kept : (place f : ℕ) → place < stride → f < flows list → numberOf place more f ≡ numberOf place list f
-  number-kept place f p h = List·getD-append list (i ∷ o ∷ m ∷ []) 0 (f * stride + place) (omega arith)
+  number-kept place f p h = List·getD-append list (i ∷ o ∷ m ∷ 1 ∷ []) 0 (f * stride + place) (omega arith)
 
   -- and its own are those given
-  number-new : (place : ℕ) → numberOf place more (flows list) ≡ getD (i ∷ o ∷ m ∷ []) place 0
+  number-new : (place : ℕ) → numberOf place more (flows list) ≡ getD (i ∷ o ∷ m ∷ 1 ∷ []) place 0
   number-new place =
       let e : flows list * stride + place ≡ length list + place = omega arith in
-      ap (λ q. getD more q 0) e ∙ getD-append-add list (i ∷ o ∷ m ∷ []) place 0
+      ap (λ q. getD more q 0) e ∙ getD-append-add list (i ∷ o ∷ m ∷ 1 ∷ []) place 0
 
   ported-more : {ports : ℕ} → Ported ports list → Within 1 ports i → Within 1 ports o → Ported ports more
   ported-more w a b inputs f h =
       byLt f (flows list) (λ l. rw (number-kept 0 f (omega arith) l) (w inputs f l))
       (λ l. let e : f ≡ flows list = omega (arith, flows-more) in rw (e, number-new 0) a)
-  ported-more w a b outputs f h =
-      byLt f (flows list) (λ l. rw (number-kept 1 f (omega arith) l) (w outputs f l))
+  ported-more w a b links f h =
+      byLt f (flows list) (λ l. rw (number-kept 1 f (omega arith) l) (w links f l))
       (λ l. let e : f ≡ flows list = omega (arith, flows-more) in rw (e, number-new 1) b)
 
--- no flow is well-formed, and one more within the limits
+  linked-more : Linked list → Linked more
+  linked-more w f h =
+      byLt f (flows list) (λ l. rw (number-kept 3 f (omega arith) l) (w f l))
+      (λ l. let e : f ≡ flows list = omega (arith, flows-more) in rw (e, number-new 3) (omega arith, omega arith))
+
+-- no flow is well-formed, and one more on link 1 within the limits
 pub well-none : {ports slots : ℕ} → Within 1 16 ports → Power slots → WellFormed ports slots []
-well-none w p = record { rack = w; power = p; whole = refl; few = omega arith; ported = λ s f h. absurd (omega arith) }
+well-none w p =
+    record {
+      rack = w;
+      power = p;
+      whole = refl;
+      few = omega arith;
+      ported = λ s f h. absurd (omega arith);
+      linked = λ f h. absurd (omega arith);
+    }
 
 pub well-more : {ports slots : ℕ} {list : List ℕ} (i o m : ℕ) → WellFormed ports slots list → flows list < 512 → Within 1 ports i → Within 1 ports o
-    → WellFormed ports slots (list ++ (i ∷ o ∷ m ∷ []))
+    → WellFormed ports slots (list ++ (i ∷ o ∷ m ∷ 1 ∷ []))
 well-more {list = list} i o m w h a b =
     record {
       rack = w .rack;
       power = w .power;
-      whole = (let e = w .whole in omega (arith, length-append list (i ∷ o ∷ m ∷ [])));
+      whole = (let e = w .whole in omega (arith, length-append list (i ∷ o ∷ m ∷ 1 ∷ [])));
       few = (let e = flows-more list i o m (w .whole) in omega arith);
       ported = ported-more list i o m (w .whole) (w .ported) a b;
+      linked = linked-more list i o m (w .whole) (w .linked);
     }
 
 -- ---- pair lines
@@ -99,7 +114,7 @@ module _ (ports slots : ℕ) (rack : Within 1 16 ports) where
       (λ few. byFact (port-tells n ports i o) (λ out. (asked.refused (8 ∷ n ∷ []), port-8 i o c rest a b d few out))
       (λ w.
       let both-lines : l ∷ ls ≡ pairLine i o c ∷ lines rest = sym e ∙ (ap lines q ∙ pair-lines i o c rest) in
-      let z = pairs-some ls (suc n) (list ++ (i ∷ o ∷ c ∷ [])) rest (cc) in
+      let z = pairs-some ls (suc n) (list ++ (i ∷ o ∷ c ∷ 1 ∷ [])) rest (cc) in
       (z .0, taken i o c rest (w .0) (w .1) d few (z .1))))))
       (λ none. (asked.refused (7 ∷ n ∷ []), form-7 (some-lines bytes l ls e) none))
     where
@@ -168,9 +183,9 @@ unless-refused : (cs : List Check) (read : Asked) {n : ℕ} {values : List ℕ} 
 unless-refused cs read {n} {values} h e = rw (clear-some cs (0 ∷ []) refl (λ z. let y = ap (λ (l : List ℕ). getD l 0 0) (e (0 ∷ [])) in omega arith), e [])
 
 module _ (ports slots : ℕ) (list : List ℕ) where
-  overload-asked : {n : ℕ} {values : List ℕ} → 0 < n → ((other : List ℕ) → report (overloads ports slots list) other ≡ n ∷ values)
+  overload-asked : {n : ℕ} {values : List ℕ} → 0 < n → ((other : List ℕ) → report (portOverloads ports slots list) other ≡ n ∷ values)
       → asked.overloaded (loads ports slots list) ≡ asked.refused (n ∷ values)
-  overload-asked h e = unless-refused (overloads ports slots list) (loads ports slots list) h e
+  overload-asked h e = unless-refused (portOverloads ports slots list) (loads ports slots list) h e
 
   input-asked : (x : ℕ) → Over input ports slots list x → asked.overloaded (loads ports slots list) ≡ asked.refused (5 ∷ suc x ∷ load (input x) list ∷ [])
   input-asked x o =

@@ -91,13 +91,13 @@ module _ (leave : ℕ → ℕ) (delay : ℕ) where
 -- In no run of its chain does a switch send more than the run's share and 2 × deviation k.
 pub sends : Sends
 sends buffer calls ports k shape c of =
-    chain-sends c ports k of (chain none buffer calls) (good-of ports (2 ^ k) (chain none buffer calls) (chain-sound none buffer calls tt) shape)
+    chain-sends c ports k of (chain none buffer calls) (good-of ports (2 ^ k) (chain none buffer calls) (chain-sound buffer calls) shape)
 
 module _ (k m : ℕ) where
   -- so what comes to the next switch is paced with that allowance,
   pub onward-paced : (h : Hop) → Reserved k m h → (arrive : ℕ → ℕ) (slots : ℕ) → Paced k (2 * deviation k) slots (λ start len. len * m) (onward h arrive)
   onward-paced h r arrive slots start len fits =
-      let good = good-of (h .ports) (2 ^ k) (framesAt h) (chain-sound none (h .buffer) (h .calls) tt) (r .shape) in
+      let good = good-of (h .ports) (2 ^ k) (framesAt h) (chain-sound (h .buffer) (h .calls)) (r .shape) in
       let is = share-is (h .flow) (h .ports) k m (framesAt h) (r .shape) (r .steady) in
       late-paced (sent arrive (scheduledAt h)) (h .delay) k m (2 * deviation k)
       (always (h .flow) (h .ports) k (r .flow-of) (framesAt h) good arrive m is) start len
@@ -107,7 +107,7 @@ module _ (k m : ℕ) where
       → HeldAlong k m a hops (onward h arrive)
   row-held a enough h [] r arrive = tt
   row-held a enough h (g ∷ hops) r arrive = (
-    sound-steady (g .ports) k (framesAt g) (chain-sound none (g .buffer) (g .calls) tt) (r .1 .0 .shape) (g .flow) (r .1 .0 .flow-of) m (r .1 .0 .steady)
+    sound-steady (g .ports) k (framesAt g) (chain-sound (g .buffer) (g .calls)) (r .1 .0 .shape) (g .flow) (r .1 .0 .flow-of) m (r .1 .0 .steady)
         a (onward h arrive) (λ start len fits. omega (arith, onward-paced h (r .0) arrive (start + len) start len (omega arith))),
     row-held a enough g hops (r .1) (onward h arrive),
   )

@@ -1,48 +1,70 @@
 -- Ports that are the same for each flow of a block: each count then favours the same half, and the frame is the same.
-use Prim.Native.Nat.{ℕ, suc, zero, _≤_, _<_}
+use Prim.Native.Nat.{ℕ, suc, zero, _*_, _≤_, _<_}
 use mathlib.Core.Path.{_≡_, refl, sym, ap, ap₂, _∙_, fun-ext}
+use mathlib.Core.Logic.{_≢_}
 use mathlib.Core.List.{List, [], _∷_, _++_}
 use mathlib.Core.Bool.{true}
 use native.Mathlib.Omega.{arith}
 use lib.Dec.{eqb}
 use lib.ListN.{length, set, replicate}
-use borrow.Author.Tests.{ne-eqb}
-use Rattle.model.specs.Words.{both, upFrom, keep, Every}
-use Rattle.model.specs.Flows.{Side, inputs, outputs}
-use Rattle.model.specs.Rules.{odd, oddsAt}
-use Rattle.model.specs.Schedule.{partnerIn, partner, settle, favours, halfBy, halfOf, put, slotOf, frameOf}
+use Rattle.model.specs.Words.{if, both, upFrom, keep, Every}
+use Rattle.model.specs.Flows.{Side, inputs, links, outputOf}
+use Rattle.model.specs.Rules.{odd, oddsAt, single, singlesOf}
+use Rattle.model.specs.Schedule.{partnerIn, partner, outputPartner, favoursBy, favours, halfBy, halfOf, put, slotOf, frameOf}
 use Rattle.model.proofs.Cases.{byLt}
-use Rattle.model.proofs.Partners.{every-map, keep-every}
+use Rattle.model.proofs.Partners.{every-map, keep-every, in-none, odd-lt, AtPort, odds-every}
+use Rattle.model.proofs.Singles.{Single, singles-every, output-single}
 use Rattle.model.proofs.Kept.{keep-same}
 use Rattle.model.proofs.Settled.{favours-law}
 use Rattle.model.proofs.Splits.{half-length}
 
--- one that is above all of a list has no partner in it
-pub none-at : (l : List ℕ) (p : ℕ) → Every (λ q. q < p) l → partnerIn l p ≡ p
-none-at [] p al = refl
-none-at (a ∷ []) p al = refl
-none-at (a ∷ b ∷ l) p al =
-    let h = al .0 in
-    let k = al .1 .0 in
-    rw (ne-eqb p a (omega arith), ne-eqb p b (omega arith)) (none-at l p (al .1 .1))
+module _ (m : List ℕ) (p : ℕ) (h : length m ≤ p) where
+  odds-below : (port : ℕ → ℕ) (x : ℕ) → Every (λ q. q ≢ p) (oddsAt port m x)
+  odds-below port x =
+      every-map (AtPort port m x) (λ q. q ≢ p) (λ q k. let l = odd-lt m q (k .0) in omega arith) (oddsAt port m x) (odds-every port m x)
 
-partner-same : (f g : ℕ → ℕ) (m : List ℕ) → ((p : ℕ) → p < length m → f p ≡ g p) → (p : ℕ) → partner f m p ≡ partner g m p
-partner-same f g m e p =
+  partner-none : (port : ℕ → ℕ) → partner port m p ≡ p
+  partner-none port = in-none (oddsAt port m (port p)) p (odds-below port (port p))
+
+  output-none : (port : ℕ → ℕ) → outputPartner port m p ≡ p
+  output-none port =
+      let x = outputOf (port p) * 4 in
+      output-single port m p (partner-none port)
+      ∙ in-none (singlesOf port m x 4) p
+      (every-map (Single port m x 4) (λ q. q ≢ p) (λ q s. let l = odd-lt m q (s .odd-count) in omega arith) (singlesOf port m x 4) (singles-every port m x 4))
+
+-- two names for the ports by which the same counts are at the same port
+pub partner-alike : (f g : ℕ → ℕ) (m : List ℕ) → ((p q : ℕ) → p < length m → q < length m → eqb (f q) (f p) ≡ eqb (g q) (g p))
+    → (p : ℕ) → partner f m p ≡ partner g m p
+partner-alike f g m e p =
     byLt p (length m)
     (λ h. ap (λ (l : List ℕ). partnerIn l p)
-    (keep-same (λ q. both (odd m q) (eqb (f q) (f p))) (λ q. both (odd m q) (eqb (g q) (g p))) 0 (length m) (λ q k. rw (e q (omega arith), e p h))))
-    (λ h. none-at (oddsAt f m (f p)) p (below f (f p) h) ∙ sym (none-at (oddsAt g m (g p)) p (below g (g p) h)))
-  where
-    below : (f : ℕ → ℕ) (x : ℕ) → length m ≤ p → Every (λ q. q < p) (oddsAt f m x)
-    below f x h =
-        every-map (λ q. (both (odd m q) (eqb (f q) x) ≡ true) × (q < length m)) (λ q. q < p) (λ q k. let a = k .1 in omega arith) (oddsAt f m x)
-        (keep-every (λ q. both (odd m q) (eqb (f q) x)) (length m) 0 (length m) (omega arith))
+    (keep-same (λ q. both (odd m q) (eqb (f q) (f p))) (λ q. both (odd m q) (eqb (g q) (g p))) 0 (length m) (λ q k. rw (e p q h (omega arith)))))
+    (λ h. partner-none m p h f ∙ sym (partner-none m p h g))
+
+module _ (f g : ℕ → ℕ) (m : List ℕ) (e : (p : ℕ) → p < length m → f p ≡ g p) where
+  partner-same : (p : ℕ) → partner f m p ≡ partner g m p
+  partner-same = partner-alike f g m (λ p q h k. rw (e q k, e p h))
+
+  odds-same : (x : ℕ) → oddsAt f m x ≡ oddsAt g m x
+  odds-same x = keep-same (λ q. both (odd m q) (eqb (f q) x)) (λ q. both (odd m q) (eqb (g q) x)) 0 (length m) (λ q k. rw (e q (omega arith)))
+
+  singles-same : (x n : ℕ) → singlesOf f m x n ≡ singlesOf g m x n
+  singles-same x zero = refl
+  singles-same x (suc n) = ap₂ (λ (l r : List ℕ). single l ++ r) (odds-same x) (singles-same (suc x) n)
+
+  pub output-same : (p : ℕ) → outputPartner f m p ≡ outputPartner g m p
+  output-same p =
+      byLt p (length m)
+      (λ h. ap₂ (λ (q : ℕ) (l : List ℕ). if (eqb q p) (partnerIn l p) q) (partner-same p)
+      (ap (λ (y : ℕ). singlesOf f m (outputOf y * 4) 4) (e p h) ∙ singles-same (outputOf (g p) * 4) 4))
+      (λ h. output-none m p h f ∙ sym (output-none m p h g))
 
 pub favours-same : (f g : Side → ℕ → ℕ) (m : List ℕ) → ((s : Side) (p : ℕ) → p < length m → f s p ≡ g s p) → favours f m ≡ favours g m
 unfolding favours
 favours-same f g m e =
-    ap₂ (λ (i o : ℕ → ℕ). settle i o m (upFrom 0 (length m)) (replicate (length m) 0))
-    (fun-ext (partner-same (f inputs) (g inputs) m (e inputs))) (fun-ext (partner-same (f outputs) (g outputs) m (e outputs)))
+    ap₂ (λ (i o : ℕ → ℕ). favoursBy i o m)
+    (fun-ext (partner-same (f inputs) (g inputs) m (e inputs))) (fun-ext (output-same (f links) (g links) m (e links)))
 
 -- ---- the frame
 put-same : (f g : Side → ℕ → ℕ) (n : ℕ) → ((p : ℕ) → p < n → f inputs p ≡ g inputs p) → (l slot : List ℕ) → Every (λ p. p < n) l → put f l slot ≡ put g l slot

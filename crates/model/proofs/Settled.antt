@@ -10,11 +10,12 @@ use lib.ListN.{length, getD, set, replicate, length-set, length-replicate}
 use lib.Seq.{getD-set-same, getD-set-other}
 use borrow.Author.Tests.{eqb-true, eq-eqb}
 use Rattle.model.specs.Words.{if, both, upFrom}
-use Rattle.model.specs.Flows.{Side, inputs, outputs}
+use Rattle.model.specs.Flows.{Side, inputs, links}
 use Rattle.model.specs.Rules.{odd}
-use Rattle.model.specs.Schedule.{partner, walk, groupOf, favouring, level, settleAt, settle, favours}
+use Rattle.model.specs.Schedule.{walk, groupOf, favouring, level, settleAt, settle, favours}
 use Rattle.model.proofs.Cases.{byBool, byEq, both-true, both-false, within-yes, within-true}
 use Rattle.model.proofs.Partners.{odd-lt, partner-at, partner-twice}
+use Rattle.model.proofs.Singles.{mate, output-twice, output-odd}
 use Rattle.model.proofs.Favouring.{none-favour, unsettled-less}
 use Rattle.model.proofs.Walks.{Good, Pairing, Fine, Walked, grow, grow-fine, walk-keeps, walk-law}
 use Rattle.model.proofs.Shares.{Shared, group-shares, Level, EvenMore, level-two, odd-two}
@@ -212,8 +213,9 @@ module _ (m : List ℕ) (i o : ℕ → ℕ) (pi : Pairing (odd m) i) (po : Pairi
   scan-level (suc a) = let l = scan-level a in settle-cases a (scan a) (scan-settled a .fine .len) (λ t. t .level l) (λ e k. rw k l)
 
 -- ---- the whole
-pub partner-pairing : (port : ℕ → ℕ) (m : List ℕ) → Pairing (odd m) (partner port m)
-partner-pairing port m = record { twice = partner-twice port m; odds = λ p o. partner-at port m p o .0 }
+pub pairings : (port : Side → ℕ → ℕ) (m : List ℕ) (s : Side) → Pairing (odd m) (mate port m s)
+pairings port m inputs = record { twice = partner-twice (port inputs) m; odds = λ p o. partner-at (port inputs) m p o .0 }
+pairings port m links = record { twice = output-twice (port links) m; odds = output-odd (port links) m }
 
 -- each count has the half that it favours, an even one 0, and partners on a side favour opposite halves
 pub record Favoured (m : List ℕ) (mate : Side → ℕ → ℕ) (c : List ℕ) : Type 0 where
@@ -223,16 +225,12 @@ pub record Favoured (m : List ℕ) (mate : Side → ℕ → ℕ) (c : List ℕ) 
   pub high : (q : ℕ) → getD c q 0 ≤ 2
   pub mates : (s : Side) (q : ℕ) → odd m q ≡ true → mate s q ≢ q → getD c (mate s q) 0 + getD c q 0 ≡ 3
 
--- the partners of a matrix on each side
-abbrev pub mate : (Side → ℕ → ℕ) → List ℕ → Side → ℕ → ℕ
-mate port m s = partner (port s) m
-
 -- what the counts favour is what the scan leaves
 pub favours-scan : (port : Side → ℕ → ℕ) (m : List ℕ)
-    → favours port m ≡ scan m (partner (port inputs) m) (partner (port outputs) m) (partner-pairing (port inputs) m) (partner-pairing (port outputs) m) (length m)
+    → favours port m ≡ scan m (mate port m inputs) (mate port m links) (pairings port m inputs) (pairings port m links) (length m)
 unfolding favours
 favours-scan port m =
-    scan-from m (partner (port inputs) m) (partner (port outputs) m) (partner-pairing (port inputs) m) (partner-pairing (port outputs) m) (length m) 0 (length m) (omega arith)
+    scan-from m (mate port m inputs) (mate port m links) (pairings port m inputs) (pairings port m links) (length m) 0 (length m) (omega arith)
 
 pub favours-law : (port : Side → ℕ → ℕ) (m : List ℕ) → Favoured m (mate port m) (favours port m)
 favours-law port m =
@@ -245,16 +243,16 @@ favours-law port m =
     }
   where
     i : ℕ → ℕ
-    i = partner (port inputs) m
+    i = mate port m inputs
 
     o : ℕ → ℕ
-    o = partner (port outputs) m
+    o = mate port m links
 
     pi : Pairing (odd m) i
-    pi = partner-pairing (port inputs) m
+    pi = pairings port m inputs
 
     po : Pairing (odd m) o
-    po = partner-pairing (port outputs) m
+    po = pairings port m links
 
     st : Settled m i o (favours port m)
     st = rw (favours-scan port m) (scan-settled m i o pi po (length m))
@@ -264,9 +262,9 @@ favours-law port m =
 
     sides : (s : Side) (q : ℕ) → odd m q ≡ true → mate port m s q ≢ q → getD (favours port m) (mate port m s q) 0 + getD (favours port m) q 0 ≡ 3
     sides inputs q e = st .ins q (done q e)
-    sides outputs q e = st .outs q (done q e)
+    sides links q e = st .outs q (done q e)
 
 -- as many favour the first half as the second, or one more
 pub favours-level : (port : Side → ℕ → ℕ) (m : List ℕ) → Level (favours port m)
 favours-level port m =
-    rw (favours-scan port m) (scan-level m (partner (port inputs) m) (partner (port outputs) m) (partner-pairing (port inputs) m) (partner-pairing (port outputs) m) (length m))
+    rw (favours-scan port m) (scan-level m (mate port m inputs) (mate port m links) (pairings port m inputs) (pairings port m links) (length m))

@@ -333,7 +333,8 @@ most-high a b n x y = byBool (leb a b) (λ e. rw e y) (λ e. rw e x)
 module _ (ports slots number : ℕ) (list : List ℕ) where
   pub pairs-yes : (i o m : ℕ) (t : List ℕ) → i ≤ 65535 → o ≤ 65535 → m ≤ 65535
       → readPairs ports slots number list (lines (pairLine i o m ++ t))
-      ≡ unless (bad-line-flow list ∷ bad-port number ports i o ∷ []) (readPairs ports slots (suc number) (list ++ (i ∷ o ∷ m ∷ [])) (lines t))
+      ≡ unless (bad-line-flow list ∷ bad-port number ports i o ∷ [])
+      (readPairs ports slots (suc number) (list ++ (i ∷ o ∷ m ∷ 1 ∷ [])) (lines t))
   unfolding readPairs Whole
   pairs-yes i o m t a b c =
       rw (pair-whole i o m t, pair-numbers i o m, good-form (pairLine i o m) (most i (most o m)) (most-high i (most o m) 65535 a (most-high o m 65535 b c)))

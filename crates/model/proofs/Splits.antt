@@ -10,14 +10,15 @@ use lib.ListN.{length, getD}
 use lib.Seq.{ext-getD}
 use borrow.Author.Tests.{eqb-true, eqb-false, eq-eqb, ne-eqb, lt-ltb, le-ltb, ltb-true, ltb-false}
 use Rattle.model.specs.Words.{bit, upFrom, keep, Near, Every}
-use Rattle.model.specs.Flows.{Side}
-use Rattle.model.specs.Rules.{odd, oddsAt, Partners, Joined, Group, favoursFirst, Split}
+use Rattle.model.specs.Flows.{Side, Class}
+use Rattle.model.specs.Rules.{odd, partnered, Partners, Joined, Group, favoursFirst, Split}
 use Rattle.model.specs.Schedule.{favours, halfBy, halfOf}
 use Rattle.model.proofs.Cases.{byBool, byEq, is-yes, is-no}
-use Rattle.model.proofs.Partners.{every-map, rule-partner, partner-rule}
-use Rattle.model.proofs.Settled.{mate, favours-law}
+use Rattle.model.proofs.Partners.{every-map}
+use Rattle.model.proofs.Singles.{mate, rule-partner, partner-rule}
+use Rattle.model.proofs.Settled.{pairings, favours-law}
 use Rattle.model.proofs.Kept.{keep-alike, keep-parts}
-use Rattle.model.proofs.Groups.{Reached, reached-closed, pairings, joined-reached}
+use Rattle.model.proofs.Groups.{Reached, reached-closed, joined-reached}
 use Rattle.model.proofs.Ties.{lists-every, has-group, even-favours, odd-test, odd-lists, odd-share}
 
 -- ---- halves by what each count favours
@@ -115,16 +116,15 @@ module _ (port : Side → ℕ → ℕ) (m : List ℕ) where
             ((λ e. omega arith), λ e. omega arith);
       }
     where
-      opposite : (s : Side) (x p q : ℕ) → Partners (oddsAt (port s) m x) p q → favoursFirst (halfOf port 1 m) (halfOf port 2 m) p ≡ not (favoursFirst (halfOf port 1 m) (halfOf port 2 m) q)
-      opposite s x p q w =
-          let r = rule-partner (port s) m x p q w in
+      opposite : (c : Class) (p q : ℕ) → Partners (partnered c port m) p q → favoursFirst (halfOf port 1 m) (halfOf port 2 m) p ≡ not (favoursFirst (halfOf port 1 m) (halfOf port 2 m) q)
+      opposite c p q w =
+          let r = rule-partner port m c p q w in
           let f = favours-law port m in
-          let less = r .2 in
-          let moved : mate port m s p ≢ p = λ e. let k : q ≡ p = sym (r .3) ∙ e in omega arith in
-          let sum : colour q + colour p ≡ 3 = subst (λ (t : ℕ). colour t + colour p ≡ 3) (r .3) (f .mates s p (r .0 .0) moved) in
-          first-is p (r .0 .0)
-          ∙ opposite-is (colour p) (colour q) (f .low p (r .0 .0)) (f .low q (r .1 .0)) (omega arith)
-          ∙ ap not (sym (first-is q (r .1 .0)))
+          let moved : mate port m (r .side) p ≢ p = λ e. r .differ (sym e ∙ r .there) in
+          let sum : colour q + colour p ≡ 3 = subst (λ (t : ℕ). colour t + colour p ≡ 3) (r .there) (f .mates (r .side) p (r .odd-first) moved) in
+          first-is p (r .odd-first)
+          ∙ opposite-is (colour p) (colour q) (f .low p (r .odd-first)) (f .low q (r .odd-second)) (omega arith)
+          ∙ ap not (sym (first-is q (r .odd-second)))
 
   -- ---- whatever meets the rules
   module _ (a b : List ℕ) (sp : Split port m a b) where
@@ -155,10 +155,11 @@ module _ (port : Side → ℕ → ℕ) (m : List ℕ) where
         let oq = pairings port m s .odds p (g .0) in
         let sum = f .mates s p (g .0) n in
         let here : eqb (colour q) 1 ≡ not (eqb (colour p) 1) = opposite-is (colour q) (colour p) (f .low q oq) (f .low p (g .0)) sum in
+        let rule = partner-rule port m s p n in
         let there : favoursFirst a b q ≡ not (favoursFirst a b p) = ⊎-elim
-        (λ w. sym (flip (favoursFirst a b p) (favoursFirst a b q) (sp .opposite s (port s p) p q w)))
-        (λ w. sp .opposite s (port s p) q p w)
-        (partner-rule (port s) m p n) in
+        (λ w. sym (flip (favoursFirst a b p) (favoursFirst a b q) (sp .opposite (rule .0) p q w)))
+        (λ w. sp .opposite (rule .0) q p w)
+        (rule .1) in
         (oq, there ∙ ap not (g .1) ∙ sym (turns (eqb (colour p) 1)) ∙ ap way (sym here)))
 
     -- the other way round in a group with an odd number of counts, the other half would have more of it

@@ -9,7 +9,7 @@ use lib.Dec.{eqb}
 use lib.ListN.{length, getD}
 use borrow.Author.Tests.{eqb-true, eqb-false, eq-eqb, ne-eqb}
 use Rattle.model.specs.Words.{bit, upFrom, keep, sumTo, Every}
-use Rattle.model.specs.Flows.{Side, inputs, outputs}
+use Rattle.model.specs.Flows.{Side, inputs, links}
 use Rattle.model.specs.Rules.{odd, Joined, Lists, Group, OddGroup}
 use Rattle.model.specs.Schedule.{favouring, favours}
 use Rattle.model.proofs.Cases.{byBool, byEq}
@@ -17,8 +17,9 @@ use Rattle.model.proofs.Sums.{sum-none, sum-more}
 use Rattle.model.proofs.Kept.{keep-same, kept-length}
 use Rattle.model.proofs.Partners.{odd-lt, every-map, keep-every}
 use Rattle.model.proofs.Favouring.{none-favour}
-use Rattle.model.proofs.Settled.{Keeps, mate, group-first, favours-scan, favours-law}
-use Rattle.model.proofs.Groups.{Reached, reached-joined, joined-reached, pairings, state, state-settled, state-keeps, state-level, Takes, takes-cases, takes-first, taken-before, first-takes, member, member-yes, member-no, members, members-size, members-share}
+use Rattle.model.proofs.Singles.{mate}
+use Rattle.model.proofs.Settled.{Keeps, pairings, group-first, favours-scan, favours-law}
+use Rattle.model.proofs.Groups.{Reached, reached-joined, joined-reached, state, state-settled, state-keeps, state-level, Takes, takes-cases, takes-first, taken-before, first-takes, member, member-yes, member-no, members, members-size, members-share}
 
 -- ---- lists of numbers of which something holds
 lists-same : (n : ℕ) (P : ℕ → Type 0) (k l : List ℕ) → Lists n P k → Lists n P l → k ≡ l
@@ -112,7 +113,7 @@ module _ (port : Side → ℕ → ℕ) (m : List ℕ) where
         let t = takes in
         let low = t .low in
         let here : getD (scanned (suc p)) p 0 ≡ t .half = ap (λ (c : List ℕ). getD c p 0) (t .is)
-        ∙ group-first m (mate port m inputs) (mate port m outputs) (pairings port m inputs) (pairings port m outputs) (t .half) (t .low) (t .high) p (scanned p) (t .odd-count) (t .unsettled)
+        ∙ group-first m (mate port m inputs) (mate port m links) (pairings port m inputs) (pairings port m links) (t .half) (t .low) (t .high) p (scanned p) (t .odd-count) (t .unsettled)
         (state-settled m (mate port m) (pairings port m) p) in
         kept p (omega arith) ∙ here ∙ t .even-first (state-level m (mate port m) (pairings port m) p) (parity ∙ e)
 

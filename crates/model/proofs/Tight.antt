@@ -9,6 +9,7 @@ use lib.ListN.{length}
 use Rattle.model.specs.Words.{sumTo, Every}
 use Rattle.model.specs.Flows.{portOf, countsOf, loadIn, load}
 use Rattle.model.specs.Frames.{cells, runOf}
+use Rattle.model.specs.Refusals.{slotsEach}
 use Rattle.model.specs.Schedule.{walk, settleAt, favours, slotOf, frameOf}
 use Rattle.model.specs.Build.{buildChecks}
 use Rattle.model.specs.Wire.{Call, Carried, none, chain, cellsAt, cellsIn, share, Shape, deviation}
@@ -20,7 +21,7 @@ use Rattle.model.proofs.OneInput.{listed, second}
 
 -- a call of two ports and two slots, carried once, and one that is refused, carried once more
 abbrev pub once : List ℕ → Call
-once list = record { ports = 2; slots = 2; list = list; times = 1 }
+once list = record { ports = 2; slots = 2; list = list; limits = slotsEach 2; times = 1 }
 
 abbrev pub seamCalls : List Call
 seamCalls = once (listed 3 0) ∷ once (listed 0 1) ∷ once (listed 1 1) ∷ once (listed 0 9) ∷ []

@@ -145,10 +145,10 @@ sound-waits gap ports k wide fs sound shape c of m w one least has len enough = 
 
 -- The longest wait over every list of Build calls, by the sharp bound, and by demand 3's, which is no less.
 pub sharp-wait : LongestWait bySharp
-sharp-wait buffer calls ports k shape = sound-waits (bySharp k) ports k (omega arith) (chain none buffer calls) (chain-sound none buffer calls tt) shape
+sharp-wait buffer calls ports k shape = sound-waits (bySharp k) ports k (omega arith) (chain none buffer calls) (chain-sound buffer calls) shape
 
 pub longest-wait : LongestWait byDemand3
-longest-wait buffer calls ports k shape = sound-waits (byDemand3 k) ports k (deviation-most k) (chain none buffer calls) (chain-sound none buffer calls tt) shape
+longest-wait buffer calls ports k shape = sound-waits (byDemand3 k) ports k (deviation-most k) (chain none buffer calls) (chain-sound buffer calls) shape
 
 -- So the least length that is long enough suffices, by the one and by the other.
 pub least-wait : (gap : ℕ → ℕ) → LongestWait gap → LeastWait gap
@@ -199,4 +199,4 @@ sound-paced ports k fs sound shape c of m has a arrive paced len enough t w fits
         (λ h. h)
 
 pub paced-wait : PacedWait
-paced-wait buffer calls ports k shape = sound-paced ports k (chain none buffer calls) (chain-sound none buffer calls tt) shape
+paced-wait buffer calls ports k shape = sound-paced ports k (chain none buffer calls) (chain-sound buffer calls) shape

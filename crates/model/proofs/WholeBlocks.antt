@@ -111,4 +111,4 @@ sound-blocks ports k fs sound shape c of j w low least has len long =
 
 -- and so has every list of Build calls.
 pub block-wait : BlockWait
-block-wait buffer calls ports k shape = sound-blocks ports k (chain none buffer calls) (chain-sound none buffer calls tt) shape
+block-wait buffer calls ports k shape = sound-blocks ports k (chain none buffer calls) (chain-sound buffer calls) shape

@@ -1,6 +1,7 @@
 -- Work: the odd counts settled for a frame are those of its load, split down to blocks of two slots; and how many they can be.
 use Prim.Native.Nat.{ℕ, suc, zero, _+_, _-_, _*_, _/_, _%_, _^_, _≤_, _<_, min}
 use mathlib.Core.Path.{_≡_, refl, sym, ap, ap₂, _∙_, subst}
+use mathlib.Core.Logic.{_≢_}
 use mathlib.Core.List.{List, _++_}
 use mathlib.Core.Bool.{true}
 use native.Mathlib.Omega.{arith}
@@ -11,27 +12,27 @@ use lib.Pow.{pow-pos}
 use lib.ListN.{length, getD, replicate, length-append, length-replicate, getD-replicate}
 use borrow.Author.Tests.{eq-eqb, ne-eqb}
 use Rattle.model.specs.Words.{if, bit, Near, sumTo, sumIf}
-use Rattle.model.specs.Flows.{flows, Side, inputs, outputs, portOf, countsOf, flow, total, loadIn, load, Fits}
+use Rattle.model.specs.Flows.{stride, flows, Side, inputs, links, outputOf, portOf, countsOf, flow, input, output, total, loadIn, load, Fits}
 use Rattle.model.specs.Frames.{counts, cells, runOf, Block}
-use Rattle.model.specs.Refusals.{levels}
+use Rattle.model.specs.Refusals.{levels, slotsEach}
 use Rattle.model.specs.Rules.{Split, Scheduled}
 use Rattle.model.specs.Schedule.{oddShares, settled}
 use Rattle.model.specs.Work.{oddFlows, blockOf, work}
 use Rattle.model.specs.Build.{buildAccepts, left}
-use Rattle.model.specs.Pairs.{pairPort}
 use Rattle.model.specs.Budget.{WorkMost, WorkByDepth, ones, WorkReached}
 use Rattle.model.proofs.Cases.{byEq, byLt, is-yes, is-no}
 use Rattle.model.proofs.Sums.{sum-none, sum-more, sum-ext, sum-shift, sum-append, sum-add, sum-le, sum-most, sum-zero, sum-one, sum-swap, sum-rows, sum-times, sum-ones}
 use Rattle.model.proofs.Levels.{Power, pow-only, levels-of, power-level, level-is, depth-size, depth-fill}
 use Rattle.model.proofs.Shares.{two-halves}
 use Rattle.model.proofs.Halves.{halves-fit}
-use Rattle.model.proofs.Flows.{counts-length, flow-counts}
+use Rattle.model.proofs.Flows.{counts-length, link-under, flow-counts}
 use Rattle.model.proofs.Slots.{Placed}
 use Rattle.model.proofs.Reports.{Ported}
 use Rattle.model.proofs.Cells.{run-all, run-length, run-first, run-second}
 use Rattle.model.proofs.Blocks.{number-block, block-numbered}
 use Rattle.model.proofs.OneFrame.{double, Laid, rules-sound}
-use Rattle.model.proofs.Pairs.{order-length, order-flows, order-number, order-counts, order-ports}
+use Rattle.model.proofs.Pairs.{order-length, order-flows, order-number, order-counts, order-linked, order-input, order-output}
+use Rattle.model.proofs.Overloads.{Allows, each-allows}
 use Rattle.model.proofs.Demand2.{well-placed, accepts-is, accepts-yes, build-frame, build-sound}
 
 -- ---- the blocks of a frame of 2 ^ k slots, depth by depth
@@ -174,15 +175,15 @@ module _ (ports : ℕ) (list : List ℕ) (placed : Placed ports (portOf list) (f
       ap (λ n. sumTo n (atDepth ports (2 ^ k) list entries)) (levels-of k low) ∙ rules-deep k (countsOf list) entries (counts-length list) fits s
 
 -- so is Build's
-pub work-built : (ports slots : ℕ) (list buffer : List ℕ) → buildAccepts ports slots list buffer ≡ true
-    → work ports slots list (left ports slots list buffer) ≡ settled (levels slots) (countsOf list)
-work-built ports slots list buffer e =
-    let a = accepts-is ports slots list buffer e in
-    let b = build-frame ports slots list buffer e in
+pub work-built : (ports slots : ℕ) (list limits buffer : List ℕ) → buildAccepts ports slots list limits buffer ≡ true
+    → work ports slots list (left ports slots list limits buffer) ≡ settled (levels slots) (countsOf list)
+work-built ports slots list limits buffer e =
+    let a = accepts-is ports slots list limits buffer e in
+    let b = build-frame ports slots list limits buffer e in
     let k = levels slots in
     let low : k ≤ 10 = (let n = a .well .power .most in omega (arith, power-level (a .well .power))) in
-    ap (λ (n : ℕ). work ports n list (left ports slots list buffer)) (b .1)
-    ∙ work-settled ports list (well-placed (a .well)) k (left ports slots list buffer) low
+    ap (λ (n : ℕ). work ports n list (left ports slots list limits buffer)) (b .1)
+    ∙ work-settled ports list (well-placed (a .well)) k (left ports slots list limits buffer) low
     (subst (λ (n : ℕ). Fits ports n (portOf list) (countsOf list)) (b .1) (a .fits)) (b .0 .meets)
 
 -- ---- how many they can be
@@ -225,11 +226,12 @@ settled-most port k m =
     omega (arith, each, sum-times (length m) k (λ p. getD m p 0))
 
 -- No load that Build accepts settles more than k for each of its cells.
-pub work-cells : (ports slots : ℕ) (list buffer : List ℕ) → buildAccepts ports slots list buffer ≡ true → (k : ℕ) → slots ≡ 2 ^ k
-    → work ports slots list (left ports slots list buffer) ≤ k * load total list
-work-cells ports slots list buffer e k power =
-    let a = accepts-is ports slots list buffer e in
-    rw (work-built ports slots list buffer e, level-is (a .well .power) power) (settled-most (portOf list) k (countsOf list))
+pub work-cells : (ports slots : ℕ) (list limits buffer : List ℕ)
+    → buildAccepts ports slots list limits buffer ≡ true → (k : ℕ) → slots ≡ 2 ^ k
+    → work ports slots list (left ports slots list limits buffer) ≤ k * load total list
+work-cells ports slots list limits buffer e k power =
+    let a = accepts-is ports slots list limits buffer e in
+    rw (work-built ports slots list limits buffer e, level-is (a .well .power) power) (settled-most (portOf list) k (countsOf list))
 
 -- ---- nor more than the cells of all slots, whatever the entries
 -- an entry is a cell of one flow at most
@@ -275,24 +277,26 @@ frame-most ports slots k list entries p power size =
     rw (level-is p power, power) (sum-le k (atDepth ports (2 ^ k) list entries) _ (depth-most ports k list entries (size ∙ ap (λ n. n * ports) power)))
 
 pub work-by-depth : WorkByDepth
-work-by-depth ports slots list buffer e k power =
-    frame-most ports slots k list (left ports slots list buffer) (accepts-is ports slots list buffer e .well .power) power (build-sound ports slots list buffer e .0 .size)
+work-by-depth ports slots list limits buffer e k power =
+    frame-most ports slots k list (left ports slots list limits buffer) (accepts-is ports slots list limits buffer e .well .power) power
+    (build-sound ports slots list limits buffer e .0 .size)
 
 -- Nor more than ports × slots × k.
 pub work-most : WorkMost
-work-most ports slots list buffer e k power =
+work-most ports slots list limits buffer e k power =
     let most = sum-most k (ports * slots) (λ t. min (ports * slots) (2 ^ t * flows list)) (λ t h. min-le-left (ports * slots) (2 ^ t * flows list)) in
-    omega (arith, most, work-by-depth ports slots list buffer e k power)
+    omega (arith, most, work-by-depth ports slots list limits buffer e k power)
 
 -- ---- that is reached
 -- Where no flow has more than one cell, each cell settles k.
-pub work-single : (ports slots : ℕ) (list buffer : List ℕ) → buildAccepts ports slots list buffer ≡ true → (k : ℕ) → slots ≡ 2 ^ k
-    → ((f : ℕ) → getD (countsOf list) f 0 ≤ 1) → work ports slots list (left ports slots list buffer) ≡ k * load total list
+pub work-single : (ports slots : ℕ) (list limits buffer : List ℕ)
+    → buildAccepts ports slots list limits buffer ≡ true → (k : ℕ) → slots ≡ 2 ^ k
+    → ((f : ℕ) → getD (countsOf list) f 0 ≤ 1) → work ports slots list (left ports slots list limits buffer) ≡ k * load total list
 unfolding loadIn settled
-work-single ports slots list buffer e k power low =
-    let a = accepts-is ports slots list buffer e in
+work-single ports slots list limits buffer e k power low =
+    let a = accepts-is ports slots list limits buffer e in
     let m = countsOf list in
-    rw (work-built ports slots list buffer e, level-is (a .well .power) power)
+    rw (work-built ports slots list limits buffer e, level-is (a .well .power) power)
     (sum-ext (length m) _ (λ f. k * getD m f 0) (λ f h. one-or-none f) ∙ sum-times (length m) k (λ f. getD m f 0))
   where
     one-or-none : (f : ℕ) → oddShares k (getD (countsOf list) f 0) ≡ k * getD (countsOf list) f 0
@@ -321,51 +325,82 @@ module _ (k : ℕ) (low : k ≤ 4) where
   pairs : flows (ones k) ≡ n * n
   pairs = order-flows n each ∙ size
 
-  -- each input and each output has a cell of every other
-  side-load : (s : Side) (x : ℕ) → x < n → sumIf (n * n) (λ p. eqb (pairPort n s p) x) (λ p. getD each p 0) ≤ n
-  side-load inputs x h =
+  -- each input has a cell of every output, and each output one of every input
+  row-load : (x : ℕ) → x < n → sumIf (n * n) (λ p. eqb (p / n) x) (λ p. getD each p 0) ≤ n
+  row-load x h =
       let at : ℕ → ℕ → ℕ = λ i o. if (eqb ((i * n + o) / n) x) (getD each (i * n + o) 0) 0 in
       let one = sum-one n x (λ i. sumTo n (at i)) h (λ i hi d. sum-zero n (at i) (λ o ho. rw (ne-eqb ((i * n + o) / n) x (λ e. d (sym (digits-div i ho) ∙ e))))) in
       let few = sum-most n 1 (at x) (λ o ho. rw (eq-eqb ((x * n + o) / n) x (digits-div x ho)) (one-most (n * n) (x * n + o))) in
       omega (arith, sum-rows n n (λ p. if (eqb (p / n) x) (getD each p 0) 0))
-  side-load outputs x h =
+
+  column-load : (x : ℕ) → sumIf (n * n) (λ p. eqb (p % n) x) (λ p. getD each p 0) ≤ n
+  column-load x =
       let at : ℕ → ℕ → ℕ = λ i o. if (eqb ((i * n + o) % n) x) (getD each (i * n + o) 0) 0 in
+      let other : (i o : ℕ) → o < n → o ≢ x → at i o ≡ 0
+      = λ i o ho d. rw (ne-eqb ((i * n + o) % n) x (λ e. d (sym (digits-mod i ho) ∙ e))) in
       let few = sum-most n 1 (λ i. sumTo n (at i)) (λ i hi.
-      let one = sum-one n x (at i) h (λ o ho d. rw (ne-eqb ((i * n + o) % n) x (λ e. d (sym (digits-mod i ho) ∙ e)))) in
+      byLt x n
+      (λ h.
+      let one = sum-one n x (at i) h (other i) in
       let own : at i x ≤ 1 = rw (eq-eqb ((i * n + x) % n) x (digits-mod i h)) (one-most (n * n) (i * n + x)) in
-      omega arith) in
+      omega arith)
+      (λ h. omega (arith, sum-zero n (at i) (λ o ho. other i o ho (omega arith))))) in
       omega (arith, sum-rows n n (λ p. if (eqb (p % n) x) (getD each p 0) 0))
 
   -- the list has the same ports
-  at-side : (s : Side) (x : ℕ) → x < n → sumIf (n * n) (λ p. eqb (portOf (ones k) s p) x) (λ p. getD each p 0) ≤ n
-  at-side s x h =
-      omega (arith, side-load s x h, sum-ext (n * n) _ _ (λ p l. ap (λ z. if (eqb z x) (getD each p 0) 0) (order-ports n each s p (omega (arith, size)))))
+  input-load : (x : ℕ) → x < n → loadIn (input x) (portOf (ones k)) each ≤ n
+  unfolding loadIn
+  input-load x h =
+      rw size
+      (omega (
+        arith,
+        row-load x h,
+        sum-ext (n * n) _ _
+            (λ p l. ap (λ z. if (eqb z x) (getD each p 0) 0) (order-input n each p (omega (arith, size)))),
+      ))
+
+  output-load : (x : ℕ) → loadIn (output x) (portOf (ones k)) each ≤ n
+  unfolding loadIn
+  output-load x =
+      rw size
+      (omega (
+        arith,
+        column-load x,
+        sum-ext (n * n) _ _
+            (λ p l. ap (λ z. if (eqb z x) (getD each p 0) 0) (order-output n each p (omega (arith, size)))),
+      ))
 
   fits : Fits n n (portOf (ones k)) (countsOf (ones k))
-  unfolding loadIn
-  fits x h = rw (order-counts n each, size) (at-side inputs x h, at-side outputs x h)
+  fits x h = rw (order-counts n each) (input-load x h, output-load x)
+
+  allowed : Allows n (ones k) (slotsEach n)
+  allowed =
+      each-allows n n (ones k) most
+      (λ x h. rw (order-counts n each) (omega (arith, link-under x (portOf (ones k)) each, output-load (outputOf x))))
 
   ported : Ported n (ones k)
   ported inputs f h =
       let l : f < n * n = omega (arith, pairs) in
       rw (order-number n each f (omega (arith, size)) .0) (omega arith, div-lt-iff-lt-mul {k = n} {x = f} {y = n} (pow-pos k) .1 l)
-  ported outputs f h =
+  ported links f h =
       let l : f < n * n = omega (arith, pairs) in
       rw (order-number n each f (omega (arith, size)) .1) (omega arith, mod-lt f (pow-pos k))
 
-  pub ones-accepted : (buffer : List ℕ) → length buffer ≡ n * n → buildAccepts n n (ones k) buffer ≡ true
+  pub ones-accepted : (buffer : List ℕ) → length buffer ≡ n * n → buildAccepts n n (ones k) (slotsEach n) buffer ≡ true
   ones-accepted buffer e =
-      accepts-yes n n (ones k) buffer
+      accepts-yes n n (ones k) (slotsEach n) buffer
       (record {
         well = record {
           rack = (pow-pos k, most);
           power = record { k = k; most = omega arith; is = refl };
-          whole = rw (order-length n each) (mul-mod-left (length each) 3);
+          whole = rw (order-length n each) (mul-mod-left (length each) stride);
           few = omega (arith, pairs, mul-le-mul most most);
           ported = ported;
+          linked = order-linked n each;
         };
         size = e;
         fits = fits;
+        allowed = allowed;
       })
 
   pub ones-cells : load total (ones k) ≡ n * n
@@ -376,6 +411,7 @@ pub work-reached : WorkReached
 work-reached k low buffer size =
     let a = ones-accepted k low buffer size in (
       a,
-      work-single (2 ^ k) (2 ^ k) (ones k) buffer a k refl (λ f. rw (order-counts (2 ^ k) (replicate (2 ^ k * 2 ^ k) 1)) (one-most (2 ^ k * 2 ^ k) f))
+      work-single (2 ^ k) (2 ^ k) (ones k) (slotsEach (2 ^ k)) buffer a k refl
+          (λ f. rw (order-counts (2 ^ k) (replicate (2 ^ k * 2 ^ k) 1)) (one-most (2 ^ k * 2 ^ k) f))
           ∙ ap (λ n. k * n) (ones-cells k low) ∙ omega arith,
     )

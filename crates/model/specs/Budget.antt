@@ -6,6 +6,7 @@ use mathlib.Core.Bool.{true}
 use lib.ListN.{length, replicate}
 use Rattle.model.specs.Words.{sumTo}
 use Rattle.model.specs.Flows.{flows}
+use Rattle.model.specs.Refusals.{slotsEach}
 use Rattle.model.specs.Work.{work}
 use Rattle.model.specs.Build.{buildAccepts, left}
 use Rattle.model.specs.Pairs.{inMatrixOrder}
@@ -13,15 +14,15 @@ use Rattle.model.specs.Pairs.{inMatrixOrder}
 -- At most ports × slots × k, whatever list is accepted.
 abbrev pub WorkMost : Type 0
 WorkMost =
-    (ports slots : ℕ) (list buffer : List ℕ) → buildAccepts ports slots list buffer ≡ true → (k : ℕ) → slots ≡ 2 ^ k
-    → work ports slots list (left ports slots list buffer) ≤ ports * slots * k
+    (ports slots : ℕ) (list limits buffer : List ℕ) → buildAccepts ports slots list limits buffer ≡ true → (k : ℕ) → slots ≡ 2 ^ k
+    → work ports slots list (left ports slots list limits buffer) ≤ ports * slots * k
 
 -- No block has more odd flows than the list has flows, and the blocks of one depth together no more than all slots can have
 -- cells: so at depth t, where there are 2 ^ t blocks, at most the less of the two.
 abbrev pub WorkByDepth : Type 0
 WorkByDepth =
-    (ports slots : ℕ) (list buffer : List ℕ) → buildAccepts ports slots list buffer ≡ true → (k : ℕ) → slots ≡ 2 ^ k
-    → work ports slots list (left ports slots list buffer) ≤ sumTo k (λ t. min (ports * slots) (2 ^ t * flows list))
+    (ports slots : ℕ) (list limits buffer : List ℕ) → buildAccepts ports slots list limits buffer ≡ true → (k : ℕ) → slots ≡ 2 ^ k
+    → work ports slots list (left ports slots list limits buffer) ≤ sumTo k (λ t. min (ports * slots) (2 ^ t * flows list))
 
 -- ports × slots × k is reached: by a flow of one cell for each pair of a switch of 2 ^ k ports, in as many slots.
 abbrev pub ones : ℕ → List ℕ
@@ -30,5 +31,5 @@ ones k = inMatrixOrder (2 ^ k) (replicate (2 ^ k * 2 ^ k) 1)
 abbrev pub WorkReached : Type 0
 WorkReached =
     (k : ℕ) → k ≤ 4 → (buffer : List ℕ) → length buffer ≡ 2 ^ k * 2 ^ k
-    → (buildAccepts (2 ^ k) (2 ^ k) (ones k) buffer ≡ true)
-    × (work (2 ^ k) (2 ^ k) (ones k) (left (2 ^ k) (2 ^ k) (ones k) buffer) ≡ 2 ^ k * 2 ^ k * k)
+    → (buildAccepts (2 ^ k) (2 ^ k) (ones k) (slotsEach (2 ^ k)) buffer ≡ true)
+    × (work (2 ^ k) (2 ^ k) (ones k) (left (2 ^ k) (2 ^ k) (ones k) (slotsEach (2 ^ k)) buffer) ≡ 2 ^ k * 2 ^ k * k)

@@ -6,9 +6,9 @@ use lib.Dec.{eqb}
 use lib.ListN.{length, getD}
 use Rattle.model.specs.Words.{upFrom, sumIf}
 
--- The list is lent as numbers, so many to a flow: its input, its output, its cells. A flow is named by its place in the list.
+-- The list is lent as numbers, so many to a flow: its input, its output, its cells, its link. A flow is named by its place in the list.
 abbrev pub stride : ℕ
-stride = 3
+stride = 4
 
 abbrev pub flows : List ℕ → ℕ
 flows list = length list / stride
@@ -17,46 +17,55 @@ flows list = length list / stride
 abbrev pub numberOf : ℕ → List ℕ → ℕ → ℕ
 numberOf place list f = getD list (f * stride + place) 0
 
--- The two sides of a switch, and the port of a flow on each.
+-- The two sides of a switch: inputs on one, and on the other links, up to four of which an output drives. On these pages both are
+-- numbered from 0, the links through all outputs, output by output: four to each.
 pub data Side : Type 0 where
   inputs : Side
-  outputs : Side
+  links : Side
 
+abbrev pub outputOf : ℕ → ℕ
+outputOf x = x / 4
+
+-- The place of a flow's port on each side; and the flow's input, and its link by output and link.
 abbrev pub placeOf : Side → ℕ
 placeOf inputs = 0
-placeOf outputs = 1
+placeOf links = 1
 
 unfoldable pub portOf : List ℕ → Side → ℕ → ℕ
-portOf list side f = numberOf (placeOf side) list f - 1
+portOf list inputs f = numberOf (placeOf inputs) list f - 1
+portOf list links f = (numberOf (placeOf links) list f - 1) * 4 + (numberOf 3 list f - 1)
 
 -- The cells of each flow, in the order of the list.
 unfoldable pub countsOf : List ℕ → List ℕ
 countsOf list = map (numberOf 2 list) (upFrom 0 (flows list))
 
--- What is counted: a flow; an input; an output; the total, which is all of them.
+-- What is counted: a flow; an input; an output; a link; the total, which is all of them.
 pub data Class : Type 0 where
   flow : ℕ → Class
   input : ℕ → Class
   output : ℕ → Class
+  link : ℕ → Class
   total : Class
 
--- The ports of the class are ports of the switch, which has as many inputs as outputs. A flow may be any number: of one that is
--- not in the list there are no cells.
+-- The ports of the class are ports of the switch, which has as many inputs as outputs, and its links those of the outputs. A flow
+-- may be any number: of one that is not in the list there are no cells.
 abbrev pub Of : ℕ → Class → Type 0
 Of ports (flow f) = Unit {0}
 Of ports (input i) = i < ports
 Of ports (output o) = o < ports
+Of ports (link x) = x < ports * 4
 Of ports total = Unit {0}
 
 -- Flow f is of the class, where the ports of flows are given.
 abbrev pub isOf : Class → (Side → ℕ → ℕ) → ℕ → Bool
 isOf (flow g) port f = eqb f g
 isOf (input i) port f = eqb (port inputs f) i
-isOf (output o) port f = eqb (port outputs f) o
+isOf (output o) port f = eqb (outputOf (port links f)) o
+isOf (link x) port f = eqb (port links f) x
 isOf total port f = true
 
--- The load of a flow is its cells, the load of a port the cells of all its flows, and the total those of all: a sum over the
--- counts m, one for each flow, in natural numbers, of no width.
+-- The load of a flow is its cells, the load of a port or a link the cells of all its flows, and the total those of all: a sum over
+-- the counts m, one for each flow, in natural numbers, of no width.
 unfoldable pub loadIn : Class → (Side → ℕ → ℕ) → List ℕ → ℕ
 loadIn c port m = sumIf (length m) (isOf c port) (λ f. getD m f 0)
 

@@ -6,7 +6,7 @@ use mathlib.Core.Bool.{Bool, true, not}
 use lib.Dec.{eqb}
 use lib.ListN.{length, getD, take, drop}
 use Rattle.model.specs.Words.{if, both, bit, within, sumTo, Near}
-use Rattle.model.specs.Flows.{flows, inputs, portOf, Class, flow, input, output, total, Of, isOf, load}
+use Rattle.model.specs.Flows.{flows, inputs, portOf, Class, flow, input, output, link, total, Of, isOf, load}
 
 -- A frame is its slots, first slot first; a slot is one entry per input: the number of the flow that it sends a cell of, from 1,
 -- or 0 for idle. So entry q of any whole slots, end to end, is that of input q % ports.
@@ -20,12 +20,13 @@ isFlow list e = within 1 (flows list) e
 abbrev pub right : List ℕ → ℕ → ℕ → Bool
 right list at e = if (eqb e 0) true (both (isFlow list e) (eqb (portOf list inputs (e - 1)) at))
 
--- An entry that is a flow counts for that flow, its output and the total, wherever it stands; for an input counts every entry of
--- its own that is not 0. So one that is no flow counts for its input only.
+-- An entry that is a flow counts for that flow, its output, its link and the total, wherever it stands; for an input counts every
+-- entry of its own that is not 0. So one that is no flow counts for its input only.
 abbrev pub counts : Class → List ℕ → ℕ → ℕ → Bool
 counts (flow f) list at e = both (isFlow list e) (isOf (flow f) (portOf list) (e - 1))
 counts (input i) list at e = both (eqb at i) (not (eqb e 0))
 counts (output o) list at e = both (isFlow list e) (isOf (output o) (portOf list) (e - 1))
+counts (link x) list at e = both (isFlow list e) (isOf (link x) (portOf list) (e - 1))
 counts total list at e = both (isFlow list e) (isOf total (portOf list) (e - 1))
 
 -- The cells of a class in the entries of whole slots: those that count for it.
@@ -50,8 +51,8 @@ pub data Block (slots : ℕ) : ℕ → ℕ → Type 0 where
   front : (start half : ℕ) → Block slots start (2 * half) → Block slots start half
   back : (start half : ℕ) → Block slots start (2 * half) → Block slots (start + half) half
 
--- A frame is balanced if in every block that has halves they differ by at most 1 for each flow, input and output and for the
--- total.
+-- A frame is balanced if in every block that has halves they differ by at most 1 for each flow, input, output and link and for
+-- the total.
 abbrev pub Balanced : ℕ → ℕ → List ℕ → List ℕ → Type 0
 Balanced ports slots list entries =
     (c : Class) → Of ports c → (start half : ℕ) → Block slots start (2 * half)

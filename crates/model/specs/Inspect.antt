@@ -5,7 +5,7 @@ use mathlib.Core.Bool.{Bool, true, not}
 use lib.Dec.{eqb, ltb}
 use lib.ListN.{getD}
 use Rattle.model.specs.Words.{both, near, upFrom, first}
-use Rattle.model.specs.Flows.{flows, Class, flow, input, output, total, load}
+use Rattle.model.specs.Flows.{flows, Class, flow, input, output, link, total, load}
 use Rattle.model.specs.Frames.{right, cells, runOf}
 use Rattle.model.specs.Refusals.{Check, report, refusal, listChecks, bad-frame, levels}
 use Rattle.model.specs.declared.Inspection.{Inspection}
@@ -53,17 +53,17 @@ flowCount ports list entries =
     let f = first (wrongCount ports list entries) 0 (flows list) in
     (ltb f (flows list), 103 ∷ suc f ∷ [])
 
--- All that is counted: each flow, each input, each output, and the total.
+-- All that is counted: each flow, each input, each output, each link, and the total.
 abbrev pub classes : ℕ → List ℕ → List Class
 classes ports list =
     map flow (upFrom 0 (flows list))
-    ++ (map input (upFrom 0 ports) ++ (map output (upFrom 0 ports) ++ (total ∷ [])))
+    ++ (map input (upFrom 0 ports) ++ (map output (upFrom 0 ports) ++ (map link (upFrom 0 (ports * 4)) ++ (total ∷ []))))
 
 abbrev pub all : (Class → Bool) → List Class → Bool
 all t [] = true
 all t (c ∷ l) = both (t c) (all t l)
 
--- The two halves, half slots each from slot start on, differ by more than 1 for some flow, input or output, or in total.
+-- The two halves, half slots each from slot start on, differ by more than 1 for some flow, input, output or link, or in total.
 unfoldable pub unbalanced : ℕ → List ℕ → List ℕ → ℕ → ℕ → Bool
 unbalanced ports list entries start half =
     not (all (λ c. near 1 (cells c ports list (runOf ports start half entries)) (cells c ports list (runOf ports (start + half) half entries))) (classes ports list))
@@ -86,7 +86,7 @@ unbalancedBlock ports slots list entries =
     let size = slots / 2 ^ t in
     (ltb t (levels slots), 104 ∷ suc (firstAt ports slots list entries t * size) ∷ size ∷ [])
 
--- Inspect: 1, 2, 3, 21, 22, 4; then the faults, in their order over the whole frame.
+-- Inspect: 1, 2, 3, 21, 22, 23, 4; then the faults, in their order over the whole frame.
 unfoldable pub inspected : ℕ → ℕ → List ℕ → List ℕ → List ℕ
 inspected ports slots list entries =
     report (

@@ -23,15 +23,15 @@ pub record Led (c : Class) (ports slots k : ℕ) (list entries : List ℕ) (star
   -- Whole turns of the frame, none too, are neither ahead nor behind.
   pub turns : (w : ℕ) → len ≡ w * slots → lead c ports slots list entries start len ≡ pos 0
 
--- What an accepted Build leaves, counted with what Build was given: for every flow, input and output and for the total, from
+-- What an accepted Build leaves, counted with what Build was given: for every flow, input, output and link and for the total, from
 -- every slot on and for every length, of no limit.
 abbrev pub BuiltLead : Type 0
 BuiltLead =
-    (ports slots : ℕ) (list buffer : List ℕ) → buildAccepts ports slots list buffer ≡ true → (k : ℕ) → slots ≡ 2 ^ k
-    → (c : Class) → Of ports c → (start len : ℕ) → Led c ports slots k list (left ports slots list buffer) start len
+    (ports slots : ℕ) (list limits buffer : List ℕ) → buildAccepts ports slots list limits buffer ≡ true → (k : ℕ) → slots ≡ 2 ^ k
+    → (c : Class) → Of ports c → (start len : ℕ) → Led c ports slots k list (left ports slots list limits buffer) start len
 
 -- So Service count answers no lead farther from zero than that, whatever is asked of it.
 abbrev pub AnsweredLead : Type 0
 AnsweredLead =
-    (ports slots : ℕ) (list buffer : List ℕ) → buildAccepts ports slots list buffer ≡ true → (k : ℕ) → slots ≡ 2 ^ k
-    → (who : Who) (start len : ℕ) → 3 * natAbs (service ports slots list (left ports slots list buffer) who start len .ahead) ≤ (2 * k + 1) * slots
+    (ports slots : ℕ) (list limits buffer : List ℕ) → buildAccepts ports slots list limits buffer ≡ true → (k : ℕ) → slots ≡ 2 ^ k
+    → (who : Who) (start len : ℕ) → 3 * natAbs (service ports slots list (left ports slots list limits buffer) who start len .ahead) ≤ (2 * k + 1) * slots

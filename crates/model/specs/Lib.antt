@@ -17,4 +17,5 @@ pub mod Lead
 pub mod Queue
 pub mod Wait
 pub mod Row
+pub mod Line
 pub mod Sheet

@@ -1,20 +1,19 @@
--- The frame by pairs, as document 01 with card 2 fixes it, for one law alone: a list with one flow for each pair in matrix order puts
--- the same pairs in the same slots.
+-- The frame by pairs, as document 01 with card 2 fixes it, for one law alone: a list with one flow for each pair in matrix order, all
+-- on link 1, puts the same pairs in the same slots.
 use Prim.Native.Nat.{ℕ, suc, zero, _+_, _-_, _/_, _%_}
 use mathlib.Core.Path.{_≡_}
 use mathlib.Core.List.{List, [], _∷_, _++_, map}
 use lib.Dec.{eqb}
 use lib.ListN.{length, set, replicate}
 use Rattle.model.specs.Words.{if, upFrom, keep}
-use Rattle.model.specs.Flows.{Side, inputs, outputs, portOf, countsOf}
+use Rattle.model.specs.Flows.{links, outputOf, portOf, countsOf}
 use Rattle.model.specs.Rules.{odd}
-use Rattle.model.specs.Schedule.{favours, halfBy, frameOf}
+use Rattle.model.specs.Schedule.{partner, favoursBy, halfBy, frameOf}
 
 -- A matrix has one count for each pair, row by row: all outputs of the first input, then of the next. So position p of it is of
--- the input p / ports and the output p % ports.
-abbrev pub pairPort : ℕ → Side → ℕ → ℕ
-pairPort ports inputs p = p / ports
-pairPort ports outputs p = p % ports
+-- the input p / ports and the output p % ports. At each of them partners are taken by rising position.
+abbrev pub favoursByPairs : ℕ → List ℕ → List ℕ
+favoursByPairs ports m = favoursBy (partner (λ p. p / ports) m) (partner (λ p. p % ports) m) m
 
 -- A slot has for each input the output that it sends to, numbered from 1, or 0.
 abbrev pub putPairs : ℕ → List ℕ → List ℕ → List ℕ
@@ -27,20 +26,20 @@ slotByPairs ports m = putPairs ports (keep (odd m) (upFrom 0 (length m))) (repli
 unfoldable pub frameByPairs : ℕ → ℕ → List ℕ → List ℕ
 frameByPairs ports zero m = slotByPairs ports m
 frameByPairs ports (suc k) m =
-    let c = favours (pairPort ports) m in
+    let c = favoursByPairs ports m in
     frameByPairs ports k (halfBy 1 m c) ++ frameByPairs ports k (halfBy 2 m c)
 
--- The list with one flow for each pair, in matrix order.
+-- The list with one flow for each pair, in matrix order, all on link 1.
 unfoldable pub flowsFrom : ℕ → ℕ → List ℕ → List ℕ
 flowsFrom ports p [] = []
-flowsFrom ports p (m ∷ matrix) = suc (p / ports) ∷ suc (p % ports) ∷ m ∷ flowsFrom ports (suc p) matrix
+flowsFrom ports p (m ∷ matrix) = suc (p / ports) ∷ suc (p % ports) ∷ m ∷ 1 ∷ flowsFrom ports (suc p) matrix
 
 abbrev pub inMatrixOrder : ℕ → List ℕ → List ℕ
 inMatrixOrder ports matrix = flowsFrom ports 0 matrix
 
 -- The output that an entry sends to, numbered from 1, and 0 for idle.
 abbrev pub sendsTo : List ℕ → ℕ → ℕ
-sendsTo list e = if (eqb e 0) 0 (suc (portOf list outputs (e - 1)))
+sendsTo list e = if (eqb e 0) 0 (suc (outputOf (portOf list links (e - 1))))
 
 -- Whatever the ports, the slots and the counts, every input sends to the same output in every slot.
 abbrev pub SamePairs : Type 0

@@ -1,13 +1,13 @@
--- Refusals 1 to 13, 21 and 22: each condition with its number and what it carries, and the number and values of each answer.
+-- Refusals 1 to 13 and 21 to 24: each condition with its number and what it carries, and the number and values of each answer.
 use Prim.Native.Nat.{ℕ, suc, _*_, _%_, _^_}
 use mathlib.Core.List.{List, [], _∷_, _++_}
 use mathlib.Core.Bool.{Bool, true, not}
 use lib.Dec.{eqb, ltb}
-use lib.ListN.{length}
+use lib.ListN.{length, getD, replicate}
 use Rattle.model.specs.Words.{if, both, within, first}
-use Rattle.model.specs.Flows.{stride, flows, numberOf, inputs, outputs, placeOf, Class, input, output, load}
+use Rattle.model.specs.Flows.{stride, flows, numberOf, inputs, links, outputOf, placeOf, Class, input, output, link, load}
 use Rattle.model.specs.declared.Refusal.{Refusal}
-use Rattle.model.specs.declared.Refusal.the-variants.{Ports, Slots, ListLength, FrameLength, InputLoad, OutputLoad, LineForm, LinePort, SheetLength, SlotNumber, FlowOrPort, RunLength, TooManyFlows, FlowPort}
+use Rattle.model.specs.declared.Refusal.the-variants.{Ports, Slots, ListLength, FrameLength, InputLoad, OutputLoad, LineForm, LinePort, SheetLength, SlotNumber, FlowOrPort, RunLength, TooManyFlows, FlowPort, FlowLink, LinkLoad}
 use Rattle.model.specs.declared.Answer.{Answer}
 use Rattle.model.specs.declared.Answer.the-variants.{Accepted, Refused}
 
@@ -27,6 +27,8 @@ refusal FlowOrPort = 12 ∷ []
 refusal RunLength = 13 ∷ []
 refusal TooManyFlows = 21 ∷ []
 refusal FlowPort = 22 ∷ []
+refusal FlowLink = 23 ∷ []
+refusal (LinkLoad o l cells) = 24 ∷ o ∷ l ∷ cells ∷ []
 
 abbrev pub accepted : List ℕ
 accepted = 0 ∷ []
@@ -71,14 +73,21 @@ bad-flows list = (ltb 512 (flows list), 21 ∷ [])
 
 -- 22: a flow's input or output outside 1 to ports.
 abbrev pub portsWithin : ℕ → List ℕ → ℕ → Bool
-portsWithin ports list f = both (within 1 ports (numberOf (placeOf inputs) list f)) (within 1 ports (numberOf (placeOf outputs) list f))
+portsWithin ports list f = both (within 1 ports (numberOf (placeOf inputs) list f)) (within 1 ports (numberOf (placeOf links) list f))
 
 abbrev pub bad-flow : ℕ → List ℕ → Check
 bad-flow ports list = (ltb (first (λ f. not (portsWithin ports list f)) 0 (flows list)) (flows list), 22 ∷ [])
 
--- What is tried first wherever a list is taken: 1, 2, 3, 21, 22.
+-- 23: a flow's link outside 1 to 4.
+abbrev pub linkWithin : List ℕ → ℕ → Bool
+linkWithin list f = within 1 4 (numberOf 3 list f)
+
+abbrev pub bad-link : List ℕ → Check
+bad-link list = (ltb (first (λ f. not (linkWithin list f)) 0 (flows list)) (flows list), 23 ∷ [])
+
+-- What is tried first wherever a list is taken: 1, 2, 3, 21, 22, 23.
 abbrev pub listChecks : ℕ → ℕ → List ℕ → List Check
-listChecks ports slots list = bad-ports ports ∷ bad-slots slots ∷ bad-list list ∷ bad-flows list ∷ bad-flow ports list ∷ []
+listChecks ports slots list = bad-ports ports ∷ bad-slots slots ∷ bad-list list ∷ bad-flows list ∷ bad-flow ports list ∷ bad-link list ∷ []
 
 -- 4: frame length not slots × ports.
 abbrev pub bad-frame : ℕ → ℕ → List ℕ → Check
@@ -98,13 +107,36 @@ aboveSlots number ports slots loads =
 abbrev pub overload : ℕ → (ℕ → Class) → ℕ → ℕ → List ℕ → Check
 overload number kind ports slots list = aboveSlots number ports slots (λ x. load (kind x) list)
 
-abbrev pub overloads : ℕ → ℕ → List ℕ → List Check
-overloads ports slots list = overload 5 input ports slots list ∷ overload 6 output ports slots list ∷ []
+abbrev pub portOverloads : ℕ → ℕ → List ℕ → List Check
+portOverloads ports slots list = overload 5 input ports slots list ∷ overload 6 output ports slots list ∷ []
+
+-- The lowest of the links of so many outputs whose load is above its own cells per frame; their number where there is none. The 64
+-- limits stand output by output, as links are numbered.
+abbrev pub lowestPast : ℕ → List ℕ → (ℕ → ℕ) → ℕ
+lowestPast ports limits loads = first (λ x. ltb (getD limits x 0) (loads x)) 0 (ports * 4)
+
+-- 24: a link is asked for more than its cells per frame, decided from the links' loads and the limits alone. Carries the lowest such
+-- output, its lowest such link and that link's load.
+abbrev pub aboveLimits : ℕ → List ℕ → (ℕ → ℕ) → Check
+aboveLimits ports limits loads =
+    let x = lowestPast ports limits loads in
+    (ltb x (ports * 4), 24 ∷ suc (outputOf x) ∷ suc (x % 4) ∷ loads x ∷ [])
+
+abbrev pub linkOverload : ℕ → List ℕ → List ℕ → Check
+linkOverload ports list limits = aboveLimits ports limits (λ x. load (link x) list)
+
+-- Overload: 5, 6, 24.
+abbrev pub overloads : ℕ → ℕ → List ℕ → List ℕ → List Check
+overloads ports slots list limits = portOverloads ports slots list ++ (linkOverload ports list limits ∷ [])
+
+-- The limits of links that may have as many cells as the frame has slots.
+abbrev pub slotsEach : ℕ → List ℕ
+slotsEach slots = replicate 64 slots
 
 -- 11: slot or start outside 1 to slots.
 abbrev pub bad-slot : ℕ → ℕ → Check
 bad-slot slots slot = (not (within 1 slots slot), 11 ∷ [])
 
--- Admit: 1, 2, 3, 21, 22, 5, 6.
-unfoldable pub admitted : ℕ → ℕ → List ℕ → List ℕ
-admitted ports slots list = report (listChecks ports slots list ++ overloads ports slots list) accepted
+-- Admit: 1, 2, 3, 21, 22, 23, 5, 6, 24.
+unfoldable pub admitted : ℕ → ℕ → List ℕ → List ℕ → List ℕ
+admitted ports slots list limits = report (listChecks ports slots list ++ overloads ports slots list limits) accepted

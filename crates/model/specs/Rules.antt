@@ -1,19 +1,19 @@
 -- Rules 2 to 6 of the splitting, as stated; rule 1 is `Block` of Frames.
 use Prim.Native.Nat.{ℕ, suc, zero, _+_, _*_, _%_, _≤_, _<_}
 use mathlib.Core.Path.{_≡_}
-use mathlib.Core.List.{List, _∷_, _++_}
+use mathlib.Core.List.{List, [], _∷_, _++_}
 use mathlib.Core.Bool.{Bool, true, false, not}
 use lib.Dec.{eqb, ltb}
 use lib.ListN.{length, getD}
 use Rattle.model.specs.Words.{both, bit, upFrom, keep, Near}
-use Rattle.model.specs.Flows.{Side, inputs}
+use Rattle.model.specs.Flows.{Side, inputs, links, Class, flow, input, output, link, total}
 
--- A block has a count for each flow, of which the port on each side is given; an odd one is named by its flow.
+-- A block has a count for each flow, of which the input and the link are given; an odd one is named by its flow.
 
 abbrev pub odd : List ℕ → ℕ → Bool
 odd m p = eqb (getD m p 0 % 2) 1
 
--- The odd counts of port x, by rising flow number.
+-- The odd counts of an input or a link, by rising flow number.
 abbrev pub oddsAt : (ℕ → ℕ) → List ℕ → ℕ → List ℕ
 oddsAt port m x = keep (λ p. both (odd m p) (eqb (port p) x)) (upFrom 0 (length m))
 
@@ -22,11 +22,31 @@ pub data Partners : List ℕ → ℕ → ℕ → Type 0 where
   these : {p q : ℕ} {l : List ℕ} → Partners (p ∷ q ∷ l) p q
   later : {x y p q : ℕ} {l : List ℕ} → Partners l p q → Partners (x ∷ y ∷ l) p q
 
--- Rule 5: a group is all odd counts joined by partnership, directly or through others, at the ports of either side.
+-- That one.
+abbrev pub single : List ℕ → List ℕ
+single [] = []
+single (p ∷ []) = p ∷ []
+single (p ∷ q ∷ l) = single l
+
+-- The single ones that n links from x on leave, by rising link.
+abbrev pub singlesOf : (ℕ → ℕ) → List ℕ → ℕ → ℕ → List ℕ
+singlesOf port m x zero = []
+singlesOf port m x (suc n) = single (oddsAt port m x) ++ singlesOf port m (suc x) n
+
+-- The odd counts that are partnered, in their order. At an input all of them, by rising flow number. At an output first those of one
+-- link, by rising flow number; then the single ones left, at most one a link, by rising link.
+abbrev pub partnered : Class → (Side → ℕ → ℕ) → List ℕ → List ℕ
+partnered (flow f) port m = []
+partnered (input i) port m = oddsAt (port inputs) m i
+partnered (output o) port m = singlesOf (port links) m (o * 4) 4
+partnered (link x) port m = oddsAt (port links) m x
+partnered total port m = []
+
+-- Rule 5: a group is all odd counts joined by partnership, directly or through others, at inputs, links and outputs.
 pub data Joined (port : Side → ℕ → ℕ) (m : List ℕ) (p : ℕ) : ℕ → Type 0 where
   itself : Joined port m p p
-  onward : (s : Side) (x : ℕ) {q r : ℕ} → Joined port m p q → Partners (oddsAt (port s) m x) q r → Joined port m p r
-  backward : (s : Side) (x : ℕ) {q r : ℕ} → Joined port m p q → Partners (oddsAt (port s) m x) r q → Joined port m p r
+  onward : (c : Class) {q r : ℕ} → Joined port m p q → Partners (partnered c port m) q r → Joined port m p r
+  backward : (c : Class) {q r : ℕ} → Joined port m p q → Partners (partnered c port m) r q → Joined port m p r
 
 -- The list has the numbers below n of which P holds, rising, and no others.
 pub record Lists (n : ℕ) (P : ℕ → Type 0) (l : List ℕ) : Type 0 where
@@ -56,7 +76,7 @@ favoursFirst a b p = ltb (getD b p 0) (getD a p 0)
 abbrev pub LargerShare : ℕ → ℕ → ℕ → Type 0
 LargerShare n all firsts = (n % 2 ≡ 1 → all < 2 * firsts) × (n % 2 ≡ 0 → 2 * firsts < all)
 
--- The counts m of a block, shared between its halves, a and b, over the port of each flow on each side.
+-- The counts m of a block, shared between its halves, a and b, over the input and the link of each flow.
 pub record Split (port : Side → ℕ → ℕ) (m a b : List ℕ) : Type 0 where
   pub first-size : length a ≡ length m
   pub second-size : length b ≡ length m
@@ -64,7 +84,7 @@ pub record Split (port : Side → ℕ → ℕ) (m a b : List ℕ) : Type 0 where
   pub shared : (p : ℕ) → getD a p 0 + getD b p 0 ≡ getD m p 0
   pub evenly : (p : ℕ) → Near 1 (getD a p 0) (getD b p 0)
   -- Rule 4: partners favour opposite halves.
-  pub opposite : (s : Side) (x p q : ℕ) → Partners (oddsAt (port s) m x) p q → favoursFirst a b p ≡ not (favoursFirst a b q)
+  pub opposite : (c : Class) (p q : ℕ) → Partners (partnered c port m) p q → favoursFirst a b p ≡ not (favoursFirst a b q)
   -- Rule 5, the tie rule: in a group with an even number of counts the first one gives its extra cell to the first half.
   pub even-group : (p : ℕ) (group : List ℕ) → Group port m p group → length group % 2 ≡ 0 → favoursFirst a b p ≡ true
   -- A group with an odd number gives its larger share to the first half if it is the first, third, fifth, .. of such groups in

@@ -1,12 +1,12 @@
 -- The frame as a function. The laws of proofs/ show that this is the only thing that meets the rules.
-use Prim.Native.Nat.{ℕ, suc, zero, _+_, _-_, _/_, _%_}
+use Prim.Native.Nat.{ℕ, suc, zero, _+_, _*_, _-_, _/_, _%_}
 use mathlib.Core.List.{List, [], _∷_, _++_}
 use mathlib.Core.Bool.{Bool, true, false}
 use lib.Dec.{eqb}
 use lib.ListN.{length, getD, set, replicate}
 use Rattle.model.specs.Words.{if, both, bit, within, upFrom, keep, sumTo}
-use Rattle.model.specs.Flows.{Side, inputs, outputs}
-use Rattle.model.specs.Rules.{odd, oddsAt}
+use Rattle.model.specs.Flows.{Side, inputs, links, outputOf}
+use Rattle.model.specs.Rules.{odd, oddsAt, singlesOf}
 
 -- The partner of p in a list, first with second, third with fourth, ..; a single one is its own.
 abbrev pub partnerIn : List ℕ → ℕ → ℕ
@@ -14,8 +14,15 @@ partnerIn [] p = p
 partnerIn (a ∷ []) p = p
 partnerIn (a ∷ b ∷ l) p = if (eqb p a) b (if (eqb p b) a (partnerIn l p))
 
+-- The partner of p at its input, or at its link.
 abbrev pub partner : (ℕ → ℕ) → List ℕ → ℕ → ℕ
 partner port m p = partnerIn (oddsAt port m (port p)) p
+
+-- The partner of p at its output: that at its link, and of one that its link leaves single the one among the single ones.
+abbrev pub outputPartner : (ℕ → ℕ) → List ℕ → ℕ → ℕ
+outputPartner port m p =
+    let q = partner port m p in
+    if (eqb q p) (partnerIn (singlesOf port m (outputOf (port p) * 4) 4) p) q
 
 -- Each count has 0 until it is settled, then the half that it favours, 1 or 2. From p, which favours h, its partner on
 -- one side is settled with the other half, that one's partner on the other side with h, and so on, until a settled one.
@@ -51,10 +58,13 @@ abbrev pub settle : (ℕ → ℕ) → (ℕ → ℕ) → List ℕ → List ℕ �
 settle i o m [] c = c
 settle i o m (p ∷ l) c = settle i o m l (settleAt i o m p c)
 
--- The half that each count favours, 0 for an even one: groups are settled by their first counts, in the order of the flows.
+-- The half that each count favours, 0 for an even one, by the partners of each on the two sides: groups are settled by their first
+-- counts, in the order of the flows.
+abbrev pub favoursBy : (ℕ → ℕ) → (ℕ → ℕ) → List ℕ → List ℕ
+favoursBy i o m = settle i o m (upFrom 0 (length m)) (replicate (length m) 0)
+
 unfoldable pub favours : (Side → ℕ → ℕ) → List ℕ → List ℕ
-favours port m =
-    settle (partner (port inputs) m) (partner (port outputs) m) m (upFrom 0 (length m)) (replicate (length m) 0)
+favours port m = favoursBy (partner (port inputs) m) (outputPartner (port links) m) m
 
 -- What half h gets of each count.
 abbrev pub halfBy : ℕ → List ℕ → List ℕ → List ℕ

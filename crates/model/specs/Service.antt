@@ -72,7 +72,7 @@ abbrev pub served : Service → Reply
 served (Counted c) = record { numbers = 0 ∷ c .cells ∷ []; ahead = c .lead }
 served (Refused r) = record { numbers = refusal r; ahead = pos 0 }
 
--- Service count: 1, 2, 3, 21, 22, 4, 11, 12, 13.
+-- Service count: 1, 2, 3, 21, 22, 23, 4, 11, 12, 13.
 unfoldable pub countChecks : ℕ → ℕ → List ℕ → List ℕ → Who → ℕ → ℕ → List Check
 countChecks ports slots list entries who start len =
     listChecks ports slots list ++ (

@@ -9,7 +9,7 @@ use lib.Dec.{eqb, ltb, leb}
 use lib.ListN.{length, getD}
 use Rattle.model.specs.Words.{if, both, within}
 use Rattle.model.specs.Flows.{flows}
-use Rattle.model.specs.Refusals.{Check, report, clear, bad-ports, bad-slots, overloads}
+use Rattle.model.specs.Refusals.{Check, report, clear, bad-ports, bad-slots, portOverloads}
 use Rattle.model.specs.Build.{frameFor}
 
 -- The bytes of a text.
@@ -87,7 +87,7 @@ unless checks asked = if (clear checks) asked (refused (report checks []))
 abbrev pub most : ℕ → ℕ → ℕ
 most a b = if (leb a b) b a
 
--- The pair lines, the first of which has the number given, each one flow more of the list: on each 7, 21, 8.
+-- The pair lines, the first of which has the number given, each one flow more of the list, on link 1: on each 7, 21, 8.
 unfoldable pub readPairs : ℕ → ℕ → ℕ → List ℕ → List (List ℕ) → Asked
 readPairs ports slots number list [] = loads ports slots list
 readPairs ports slots number list (line ∷ ls) =
@@ -99,7 +99,7 @@ readPairs ports slots number list (line ∷ ls) =
     ∷ bad-line-flow list
     ∷ bad-port number ports i o
     ∷ []
-    ) (readPairs ports slots (suc number) (list ++ (i ∷ o ∷ m ∷ [])) ls)
+    ) (readPairs ports slots (suc number) (list ++ (i ∷ o ∷ m ∷ 1 ∷ [])) ls)
 
 -- Line 2; a missing one is 7 at that line.
 abbrev pub readSlots : ℕ → List (List ℕ) → Asked
@@ -119,10 +119,11 @@ readPorts (line ∷ ls) =
 abbrev pub bad-sheet : List ℕ → Check
 bad-sheet bytes = (ltb 32768 (length bytes), 10 ∷ [])
 
--- Refusal 10 comes before all else; overload, 5 then 6, comes last.
+-- Refusal 10 comes before all else; overload, 5 then 6, comes last. The limit of each link is the slots: no link is asked for more
+-- where no output is.
 abbrev pub overloaded : Asked → Asked
 overloaded (refused r) = refused r
-overloaded (loads ports slots list) = unless (overloads ports slots list) (loads ports slots list)
+overloaded (loads ports slots list) = unless (portOverloads ports slots list) (loads ports slots list)
 
 unfoldable pub readSheet : List ℕ → Asked
 readSheet bytes = unless (bad-sheet bytes ∷ []) (overloaded (readPorts (lines bytes)))
@@ -143,11 +144,14 @@ abbrev pub printFrame : ℕ → ℕ → List ℕ → List ℕ
 printFrame ports slots entries =
     text "(frame (ports " ++ (decimal ports ++ (text ") (slots " ++ (decimal slots ++ (text "))\n" ++ printSlots ports 1 slots entries))))
 
--- A refusal is printed as its number, with the line for 7 and 8, and with port and cells for 5 and 6.
+-- A refusal is printed as its number, with the line for 7 and 8, and with port and cells for 5 and 6. No sheet has one of three values,
+-- which is printed as 24's: output, link and cells.
 abbrev pub printValues : List ℕ → List ℕ
 printValues [] = []
 printValues (line ∷ []) = text " (line " ++ (decimal line ++ text ")")
-printValues (port ∷ cells ∷ l) = text " (port " ++ (decimal port ++ (text ") (cells " ++ (decimal cells ++ text ")")))
+printValues (port ∷ cells ∷ []) = text " (port " ++ (decimal port ++ (text ") (cells " ++ (decimal cells ++ text ")")))
+printValues (o ∷ x ∷ cells ∷ l) =
+    text " (output " ++ (decimal o ++ (text ") (link " ++ (decimal x ++ (text ") (cells " ++ (decimal cells ++ text ")")))))
 
 abbrev pub printRefusal : List ℕ → List ℕ
 printRefusal [] = []

@@ -15,6 +15,7 @@ pub record Call : Type 0 where
   pub ports : ℕ
   pub slots : ℕ
   pub list : List ℕ
+  pub limits : List ℕ
   pub times : ℕ
 
 -- One frame of the chain: the entries of the buffer, and the last accepted call before it, whose ports, slots and list are the
@@ -41,8 +42,8 @@ next false call before = before
 unfoldable pub chain : Last → List ℕ → List Call → List Carried
 chain before buffer [] = []
 chain before buffer (c ∷ calls) =
-    let now = next (buildAccepts (c .ports) (c .slots) (c .list) buffer) c before in
-    let after = left (c .ports) (c .slots) (c .list) buffer in
+    let now = next (buildAccepts (c .ports) (c .slots) (c .list) (c .limits) buffer) c before in
+    let after = left (c .ports) (c .slots) (c .list) (c .limits) buffer in
     carry now after (c .times) ++ chain now after calls
 
 -- The frames stand end to end, first slot first. The cells of a class in slot t of them: those of that slot of its frame, counted
@@ -75,8 +76,8 @@ pub record Shape (ports slots : ℕ) (f : Carried) : Type 0 where
   pub ports-are : f .call .ports ≡ ports
   pub slots-are : f .call .slots ≡ slots
 
--- Over a chain of frames of 2 ^ k slots: over any run of consecutive slots, none too, and for every flow, input and output and
--- for the total, 3 × 2 ^ k × cells differs by at most (2k + 1) × 2 ^ k, either way, from three times the share times 2 ^ k.
+-- Over a chain of frames of 2 ^ k slots: over any run of consecutive slots, none too, and for every flow, input, output and
+-- link and for the total, 3 × 2 ^ k × cells differs by at most (2k + 1) × 2 ^ k, either way, from three times the share times 2 ^ k.
 abbrev pub Accurate : ℕ → ℕ → List Carried → Type 0
 Accurate ports k frames =
     (start len : ℕ) → start + len ≤ length frames * 2 ^ k → (c : Class) → Of ports c

@@ -6,16 +6,32 @@ pub enum Refusal {
     Slots,
     ListLength,
     FrameLength,
-    InputLoad { port: usize, cells: usize },
-    OutputLoad { port: usize, cells: usize },
-    LineForm { line: usize },
-    LinePort { line: usize },
+    InputLoad {
+        port: usize,
+        cells: usize,
+    },
+    OutputLoad {
+        port: usize,
+        cells: usize,
+    },
+    LineForm {
+        line: usize,
+    },
+    LinePort {
+        line: usize,
+    },
     SheetLength,
     SlotNumber,
     FlowOrPort,
     RunLength,
     TooManyFlows,
     FlowPort,
+    FlowLink,
+    LinkLoad {
+        output: usize,
+        link: usize,
+        cells: usize,
+    },
 }
 
 // What Admit answers.
