@@ -13,14 +13,16 @@ use Rattle.admission.proofs.Listed.{list-refused, list-well, well-taken
 use Rattle.admission.proofs.Deciding.{decided-loads}
 
 module _ {ports slots : ℕ} {list : List ℕ} {a : Answer} (l : ListAnswer ports slots list (answered a)) where
-  pub admit-refused : {x : Refusal} → a ≡ Refused x → refusal x ≡ admitted ports slots list
+  pub admit-refused : {x : Refusal} → a ≡ Refused x → (limits : List ℕ) → refusal x ≡ admitted ports slots list limits
   unfolding admitted
-  admit-refused e = list-refused l e (overloads ports slots list) accepted
+  admit-refused e limits = list-refused l e (overloads ports slots list limits) accepted
 
   pub admit-taken : a ≡ Accepted → Taken ports list
   admit-taken e = well-taken (list-well l e)
 
-  pub admit-decided : a ≡ Accepted → {ins outs : List ℕ} → EveryLoad ports list ins outs → {answer : List ℕ} → answer ≡ decided slots ins outs → answer ≡ admitted ports slots list
+  pub admit-decided : a ≡ Accepted → {ins outs lines : List ℕ} → EveryLoad ports list ins outs lines
+      → (limits : List ℕ) → {answer : List ℕ} → answer ≡ decided slots ins outs lines limits → answer ≡ admitted ports slots list limits
   unfolding admitted
-  admit-decided e {ins} {outs} loads d =
-      d ∙ decided-loads slots ins outs (admit-taken e) loads ∙ sym (past-load ports slots list (list-well l e) (overloads ports slots list) accepted)
+  admit-decided e {ins} {outs} {lines} loads limits d =
+      d ∙ decided-loads slots ins outs lines limits (admit-taken e) loads
+      ∙ sym (past-load ports slots list (list-well l e) (overloads ports slots list limits) accepted)

@@ -19,8 +19,9 @@ module _ {ports slots : ℕ} {list : List ℕ} {a : Answer} (l : ListAnswer port
   pub list-well : a ≡ Accepted → WellFormed ports slots list
   list-well e =
       clear-well ports slots list
-      (clear-none (listChecks ports slots list) accepted (omega arith, (omega arith, (omega arith, (omega arith, (omega arith, tt)))))
+      (clear-none (listChecks ports slots list) accepted
+      (omega arith, (omega arith, (omega arith, (omega arith, (omega arith, (omega arith, tt))))))
       (ap (λ (l : List ℕ). getD l 0 0) (sym (l .is) ∙ ap answered e)))
 
 pub well-taken : {ports slots : ℕ} {list : List ℕ} → WellFormed ports slots list → Taken ports list
-well-taken w = record { most = w .rack .1; few = w .few; ported = w .ported }
+well-taken w = record { most = w .rack .1; few = w .few; ported = w .ported; linked = w .linked }

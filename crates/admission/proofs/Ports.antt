@@ -1,13 +1,14 @@
--- 22, of one flow, and by a loop: of the flows of a list, none of those tried has a port outside.
+-- 22 and 23, of one flow, and by a loop: of the flows of a list, none of those tried has a port or a link outside.
 use Prim.Native.Nat.{ℕ, _+_, _≤_, _<_}
 use mathlib.Core.Path.{_≡_, sym, _∙_}
 use mathlib.Core.List.{List}
 use mathlib.Core.Bool.{Bool, true, false, not}
 use native.Mathlib.Omega.{arith}
+use lib.Dec.{ltb}
 use borrow.Author.Tests.{lt-ltb, le-ltb, not-true, not-false}
 use Rattle.model.specs.Words.{within, first}
 use Rattle.model.specs.Flows.{flows, numberOf}
-use Rattle.model.specs.Refusals.{portsWithin, bad-flow}
+use Rattle.model.specs.Refusals.{portsWithin, linkWithin}
 use Rattle.model.proofs.Searches.{Passed, passed-start, passed-on, passed-found, passed-done}
 
 -- ---- one flow, by its two ports
@@ -18,32 +19,40 @@ module _ (ports f : ℕ) (list : List ℕ) {x : ℕ} {q : Bool} (input : x ≡ n
   pub output-decides : {y : ℕ} {r : Bool} → q ≡ false → y ≡ numberOf 1 list f → r ≡ not (within 1 ports y) → r ≡ not (portsWithin ports list f)
   output-decides {y} good output two = two ∙ sym (rw (sym input, not-false (within 1 ports x) (sym one ∙ good), sym output))
 
--- ---- all of them
-abbrev hasBad : ℕ → List ℕ → ℕ → Bool
-hasBad ports list f = not (portsWithin ports list f)
-
-pub record Trying (ports : ℕ) (list : List ℕ) (n f : ℕ) : Type 0 where
+-- ---- all of them, by a test of each
+pub record Trying (bad : ℕ → Bool) (list : List ℕ) (n f : ℕ) : Type 0 where
   pub all : n ≡ flows list
-  pub passed : Passed (hasBad ports list) 0 (flows list) f
+  pub passed : Passed bad 0 (flows list) f
 
-pub trying-start : {ports n : ℕ} {list : List ℕ} → n ≡ flows list → Trying ports list n 0
-trying-start {ports} {n} {list} e = record { all = e; passed = passed-start (hasBad ports list) 0 (flows list) }
+pub trying-start : {bad : ℕ → Bool} {n : ℕ} {list : List ℕ} → n ≡ flows list → Trying bad list n 0
+trying-start {bad} {n} {list} e = record { all = e; passed = passed-start bad 0 (flows list) }
 
-pub trying-in : {ports n f : ℕ} {list : List ℕ} → Trying ports list n f → f < n → f < flows list
+pub trying-in : {bad : ℕ → Bool} {n f : ℕ} {list : List ℕ} → Trying bad list n f → f < n → f < flows list
 trying-in t h = omega (arith, t .all)
 
-module _ {ports n f : ℕ} {list : List ℕ} {r : Bool} (t : Trying ports list n f) (here : f < n) (is : r ≡ not (portsWithin ports list f)) where
-  pub trying-found : r ≡ true → true ≡ bad-flow ports list .0
+module _ {bad : ℕ → Bool} {n f : ℕ} {list : List ℕ} {r : Bool} (t : Trying bad list n f) (here : f < n) (is : r ≡ bad f) where
+  pub trying-found : r ≡ true → true ≡ ltb (first bad 0 (flows list)) (flows list)
   trying-found e =
       let l = trying-in t here in
-      let at : f ≡ first (hasBad ports list) 0 (flows list) = passed-found (t .passed) (omega arith) (sym is ∙ e) in
+      let at : f ≡ first bad 0 (flows list) = passed-found (t .passed) (omega arith) (sym is ∙ e) in
       sym (rw (sym at) (lt-ltb f (flows list) l))
 
-  pub trying-on : r ≡ false → Trying ports list n (f + 1)
+  pub trying-on : r ≡ false → Trying bad list n (f + 1)
   trying-on e = record { all = t .all; passed = passed-on (t .passed) (omega (arith, t .all)) (sym is ∙ e) }
 
-pub trying-end : {ports n f : ℕ} {list : List ℕ} → Trying ports list n f → n ≤ f → false ≡ bad-flow ports list .0
-trying-end {ports} {n} {f} {list} t h =
+pub trying-end : {bad : ℕ → Bool} {n f : ℕ} {list : List ℕ} → Trying bad list n f → n ≤ f
+    → false ≡ ltb (first bad 0 (flows list)) (flows list)
+trying-end {bad} {n} {f} {list} t h =
     let l : flows list ≤ f = omega (arith, t .all) in
-    let is : f ≡ first (hasBad ports list) 0 (flows list) = passed-done (t .passed) (omega arith) in
+    let is : f ≡ first bad 0 (flows list) = passed-done (t .passed) (omega arith) in
     sym (rw (sym is) (le-ltb f (flows list) l))
+
+-- ---- 22 and 23: what is tried of a flow
+abbrev pub portBad : ℕ → List ℕ → ℕ → Bool
+portBad ports list f = not (portsWithin ports list f)
+
+abbrev pub linkBad : List ℕ → ℕ → Bool
+linkBad list f = not (linkWithin list f)
+
+pub link-outside : (f : ℕ) (list : List ℕ) {x : ℕ} {q : Bool} → x ≡ numberOf 3 list f → q ≡ not (within 1 4 x) → q ≡ linkBad list f
+link-outside f list link one = rw (sym link) one

@@ -1,16 +1,15 @@
--- The two searches of Admit by a loop.
+-- The searches of Admit by a loop.
 use Prim.Native.Nat.{ℕ, _+_, _-_, _*_, _^_, _≤_, _<_}
 use mathlib.Core.Path.{_≡_, refl, sym, _∙_, subst}
 use mathlib.Core.Bool.{Bool}
-use mathlib.Core.List.{List}
 use native.Mathlib.Omega.{arith}
 use native.Mathlib.Nat.{pow-le-pow-right, two-pow-succ}
 use native.Mathlib.Numerals.{add-one}
 use lib.Dec.{eqb, ltb}
 use borrow.Author.Tests.{eq-eqb, ne-eqb, lt-ltb, le-ltb}
-use Rattle.model.specs.Refusals.{levels, lowestAbove}
+use Rattle.model.specs.Words.{first}
+use Rattle.model.specs.Refusals.{levels}
 use Rattle.model.proofs.Searches.{Passed, passed-start, passed-on, passed-found, passed-done}
-use Rattle.admission.specs.Overloads.{valueAt}
 
 -- ---- the level of slots: power is 2 ^ k, and no lower power is slots
 pub record Climbing (slots k power : ℕ) : Type 0 where
@@ -37,29 +36,33 @@ module _ {slots k power : ℕ} (c : Climbing slots k power) where
   pub climbing-none : 11 ≤ k → k ≡ levels slots
   climbing-none l = passed-done (c .passed) l
 
--- ---- the lowest port above slots: of sixteen ports, none of those tried is
-abbrev isAbove : ℕ → List ℕ → ℕ → Bool
-isAbove slots loads x = ltb slots (valueAt loads x)
+-- ---- the lowest place above its bound: of so many places, none of those tried is
+pub record Passing (size : ℕ) (bound loads : ℕ → ℕ) (untried : ℕ) : Type 0 where
+  pub most : untried ≤ size
+  pub passed : Passed (λ x. ltb (bound x) (loads x)) 0 size (size - untried)
 
-pub record Passing (slots : ℕ) (loads : List ℕ) (untried : ℕ) : Type 0 where
-  pub most : untried ≤ 16
-  pub passed : Passed (isAbove slots loads) 0 16 (16 - untried)
+pub passing-start : {size : ℕ} {bound loads : ℕ → ℕ} → Passing size bound loads size
+passing-start {size} {bound} {loads} =
+    let e : 0 ≡ size - size = omega arith in
+    let above : ℕ → Bool = λ x. ltb (bound x) (loads x) in
+    record { most = omega arith; passed = subst (Passed above 0 size) e (passed-start above 0 size) }
 
-pub passing-start : {slots : ℕ} {loads : List ℕ} → Passing slots loads 16
-passing-start {slots} {loads} = record { most = omega arith; passed = passed-start (isAbove slots loads) 0 16 }
-
-module _ {slots untried : ℕ} {loads : List ℕ} (p : Passing slots loads untried) where
-  pub passing-on : {cells : ℕ} → cells ≡ valueAt loads (16 - untried) → cells ≤ slots → 0 < untried → Passing slots loads (untried - 1)
-  passing-on {cells} e l h =
+module _ {size untried : ℕ} {bound loads : ℕ → ℕ} (p : Passing size bound loads untried) where
+  pub passing-on : loads (size - untried) ≤ bound (size - untried) → 0 < untried → Passing size bound loads (untried - 1)
+  passing-on l h =
       let m = p .most in
-      let next : 16 - untried + 1 ≡ 16 - (untried - 1) = omega arith in
+      let next : size - untried + 1 ≡ size - (untried - 1) = omega arith in
       record {
         most = omega arith;
-        passed = subst (Passed (isAbove slots loads) 0 16) next (passed-on (p .passed) (omega arith) (le-ltb slots (valueAt loads (16 - untried)) (omega arith)));
+        passed = subst (Passed (λ x. ltb (bound x) (loads x)) 0 size) next
+            (passed-on (p .passed) (omega arith) (le-ltb (bound (size - untried)) (loads (size - untried)) l));
       }
 
-  pub passing-found : {cells : ℕ} → cells ≡ valueAt loads (16 - untried) → slots < cells → 0 < untried → 16 - untried ≡ lowestAbove 16 slots (valueAt loads)
-  passing-found {cells} e l h = let m = p .most in passed-found (p .passed) (omega arith) (lt-ltb slots (valueAt loads (16 - untried)) (omega arith))
+  pub passing-found : bound (size - untried) < loads (size - untried) → 0 < untried
+      → size - untried ≡ first (λ x. ltb (bound x) (loads x)) 0 size
+  passing-found l h =
+      let m = p .most in
+      passed-found (p .passed) (omega arith) (lt-ltb (bound (size - untried)) (loads (size - untried)) l)
 
-  pub passing-none : untried ≤ 0 → 16 ≡ lowestAbove 16 slots (valueAt loads)
-  passing-none l = let e : 16 - untried ≡ 16 = omega arith in sym e ∙ passed-done (p .passed) (omega arith)
+  pub passing-none : untried ≤ 0 → size ≡ first (λ x. ltb (bound x) (loads x)) 0 size
+  passing-none l = let e : size - untried ≡ size = omega arith in sym e ∙ passed-done (p .passed) (omega arith)

@@ -6,11 +6,12 @@ ghost use lib.Dec.{eqb};
 ghost use lib.ListN.{length};
 ghost use Rattle.model.specs.Words.{within};
 ghost use Rattle.model.specs.Flows.{flows};
-ghost use Rattle.model.specs.Refusals.{levels, portsWithin, bad-flow, lowestAbove, answered, admitted};
+ghost use Rattle.model.specs.Refusals.{levels, portsWithin, bad-flow, bad-link, lowestAbove, lowestPast, answered, admitted};
 ghost use Rattle.admission.specs.Lists.{ListAnswer, Taken};
 ghost use Rattle.admission.specs.Overloads.{valueAt, EveryLoad, decided};
 use flows::STRIDE;
 use flows::flows_of;
+use flows::link_of;
 use flows::number_of;
 use model::Answer;
 use model::Refusal;
@@ -87,7 +88,22 @@ fn bad_port(ports: usize, list: &[u16]) -> bool
     false
 }
 
-// What is tried first wherever a list is taken: 1, 2, 3, 21, 22.
+// Refusal 23: the link of some flow is not one of 1, 2, 3, 4.
+fn bad_link(list: &[u16]) -> bool
+    ensures { λ r. ⌜ r ≡ bad-link (now (list .entry)) .0 ⌝ }
+{
+    let count = flows_of(list);
+    let mut f: usize = 0;
+    while f < count {
+        if outside(4, number_of(list, f, 3)) {
+            return true;
+        }
+        f += 1;
+    }
+    false
+}
+
+// What is tried first wherever a list is taken: 1, 2, 3, 21, 22, 23.
 pub fn check_list(ports: usize, slots: usize, list: &[u16]) -> Answer
     ensures { λ r. ⌜ ListAnswer ports slots (now (list .entry)) (answered r) ⌝ }
 {
@@ -106,32 +122,39 @@ pub fn check_list(ports: usize, slots: usize, list: &[u16]) -> Answer
     if bad_port(ports, list) {
         return Answer::Refused(Refusal::FlowPort);
     }
+    if bad_link(list) {
+        return Answer::Refused(Refusal::FlowLink);
+    }
     Answer::Accepted
 }
 
-// The load of each input and of each output, at the place of its number less 1, and 0 at a place of no port.
+// The load of each input, of each output and of each link, at its place from 0, and 0 at a place of no port.
 pub struct Loads {
     pub inputs: [usize; 16],
     pub outputs: [usize; 16],
+    pub links: [usize; 64],
 }
 
-// Every port's load, in one pass over the list.
+// Every port's and every link's load, in one pass over the list.
 pub fn loads_of(ports: usize, list: &[u16]) -> Loads
     requires { ⌜ Taken ports (now list) ⌝ }
-    ensures { λ r. ⌜ EveryLoad ports (now (list .entry)) (r .inputs) (r .outputs) ⌝ }
+    ensures { λ r. ⌜ EveryLoad ports (now (list .entry)) (r .inputs) (r .outputs) (r .links) ⌝ }
 {
     let mut loads = Loads {
         inputs: [0; 16],
         outputs: [0; 16],
+        links: [0; 64],
     };
     let count = flows_of(list);
     let mut f: usize = 0;
     while f < count {
         let i = number_of(list, f, 0) - 1;
-        let o = number_of(list, f, 1) - 1;
+        let x = link_of(list, f);
+        let o = x / 4;
         let cells = number_of(list, f, 2);
         loads.inputs[i] = loads.inputs[i] + cells;
         loads.outputs[o] = loads.outputs[o] + cells;
+        loads.links[x] = loads.links[x] + cells;
         f += 1;
     }
     loads
@@ -153,10 +176,32 @@ fn lowest_above(slots: usize, loads: &[usize; 16]) -> usize
     16
 }
 
-// Refusals 5 and 6, decided from every port's load and slots.
-pub fn overload<'a>(slots: usize, inputs: &'a [usize; 16], outputs: &'a [usize; 16]) -> Answer
-    requires { ⌜ (length (now inputs) ≡ 16) × (length (now outputs) ≡ 16) ⌝ }
-    ensures { λ r. ⌜ answered r ≡ decided slots (now (inputs .entry)) (now (outputs .entry)) ⌝ }
+// The lowest of the links of sixteen outputs whose load is above its limit; 64 where there is none.
+fn lowest_past(links: &[usize; 64], limits: [u16; 64]) -> usize
+    requires { ⌜ length (now links) ≡ 64 ⌝ }
+    ensures { λ r. ⌜ r ≡ lowestPast 16 limits (valueAt (now (links .entry))) ⌝ }
+{
+    let mut untried: usize = 64;
+    while 0 < untried {
+        let x = 64 - untried;
+        if (limits[x] as usize) < links[x] {
+            return x;
+        }
+        untried -= 1;
+    }
+    64
+}
+
+// Refusals 5, 6 and 24, decided from every load, slots and the limits.
+pub fn overload<'a>(
+    slots: usize,
+    inputs: &'a [usize; 16],
+    outputs: &'a [usize; 16],
+    links: &'a [usize; 64],
+    limits: [u16; 64],
+) -> Answer
+    requires { ⌜ (length (now inputs) ≡ 16) × (length (now outputs) ≡ 16) × (length (now links) ≡ 64) ⌝ }
+    ensures { λ r. ⌜ answered r ≡ decided slots (now (inputs .entry)) (now (outputs .entry)) (now (links .entry)) limits ⌝ }
 {
     let i = lowest_above(slots, inputs);
     if i < 16 {
@@ -172,16 +217,24 @@ pub fn overload<'a>(slots: usize, inputs: &'a [usize; 16], outputs: &'a [usize; 
             cells: outputs[o],
         });
     }
+    let x = lowest_past(links, limits);
+    if x < 64 {
+        return Answer::Refused(Refusal::LinkLoad {
+            output: x / 4 + 1,
+            link: x % 4 + 1,
+            cells: links[x],
+        });
+    }
     Answer::Accepted
 }
 
-// Admit: 1, 2, 3, 21, 22, 5, 6.
-pub fn admit(ports: usize, slots: usize, list: &[u16]) -> Answer
-    ensures { λ r. ⌜ answered r ≡ admitted ports slots (now (list .entry)) ⌝ }
+// Admit: 1, 2, 3, 21, 22, 23, 5, 6, 24.
+pub fn admit(ports: usize, slots: usize, list: &[u16], limits: [u16; 64]) -> Answer
+    ensures { λ r. ⌜ answered r ≡ admitted ports slots (now (list .entry)) limits ⌝ }
 {
     if let Answer::Refused(refusal) = check_list(ports, slots, list) {
         return Answer::Refused(refusal);
     }
     let loads = loads_of(ports, list);
-    overload(slots, &loads.inputs, &loads.outputs)
+    overload(slots, &loads.inputs, &loads.outputs, &loads.links, limits)
 }

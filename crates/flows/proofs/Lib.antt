@@ -1,2 +1,3 @@
--- Laws of a list that is written.
+-- Laws of a list that is written, and of the links in it.
 pub mod Puts
+pub mod Links

@@ -4,10 +4,11 @@ ghost use mathlib.Core.List.{[], _∷_};
 ghost use Prim.Native.Nat.{_*_, _<_, _≤_};
 ghost use lib.ListN.{length};
 ghost use lib.Seq.{sets};
-ghost use Rattle.model.specs.Flows.{stride, flows, numberOf};
+ghost use Rattle.model.specs.Flows.{stride, flows, numberOf, links, portOf};
+ghost use Rattle.model.proofs.Cases.{Within};
 
-// The numbers of a flow: its input, its output, its cells.
-pub const STRIDE: usize = 3;
+// The numbers of a flow: its input, its output, its cells, its link.
+pub const STRIDE: usize = 4;
 
 // The numbers of the longest list, of 512 flows.
 pub const LIST_MOST: usize = 512 * STRIDE;
@@ -19,7 +20,7 @@ pub fn flows_of(list: &[u16]) -> usize
     list.len() / STRIDE
 }
 
-// The number at a place among those of flow f, from 0: its input, its output, its cells.
+// The number at a place among those of flow f, from 0: its input, its output, its cells, its link.
 pub fn number_of(list: &[u16], f: usize, place: usize) -> usize
     requires { ⌜ (f < flows (now list)) × (place < stride) ⌝ }
     ensures { λ r. ⌜ (r ≡ numberOf place (now (list .entry)) f) × (r ≤ 65535) ⌝ }
@@ -37,6 +38,16 @@ pub fn cells_of(list: &[u16], f: usize) -> u16
     list[at]
 }
 
+// The link of flow f, numbered from 0 through all outputs, four to each.
+pub fn link_of(list: &[u16], f: usize) -> usize
+    requires { ⌜ (f < flows (now list)) × Within 1 16 (numberOf 1 (now list) f) × Within 1 4 (numberOf 3 (now list) f) ⌝ }
+    ensures { λ r. ⌜ (r ≡ portOf (now (list .entry)) links f) × (r < 64) ⌝ }
+{
+    let o = number_of(list, f, 1) - 1;
+    let l = number_of(list, f, 3) - 1;
+    o * 4 + l
+}
+
 // A number at the width of the list.
 fn narrow(x: usize) -> u16
     requires { ⌜ x ≤ 65535 ⌝ }
@@ -45,7 +56,7 @@ fn narrow(x: usize) -> u16
     x as u16
 }
 
-// Puts a flow behind so many others.
+// Puts a flow behind so many others, on link 1.
 pub fn put_flow(
     list: &mut [u16; LIST_MOST],
     flows: usize,
@@ -53,11 +64,12 @@ pub fn put_flow(
     output: usize,
     cells: usize,
 )
-    requires { ⌜ (length (now list) ≡ 1536) × (flows < 512) × (input ≤ 65535) × (output ≤ 65535) × (cells ≤ 65535) ⌝ }
-    ensures { λ _. ⌜ now (list .exit) ≡ sets (now (list .entry)) (flows * stride) (input ∷ output ∷ cells ∷ []) ⌝ }
+    requires { ⌜ (length (now list) ≡ 2048) × (flows < 512) × (input ≤ 65535) × (output ≤ 65535) × (cells ≤ 65535) ⌝ }
+    ensures { λ _. ⌜ now (list .exit) ≡ sets (now (list .entry)) (flows * stride) (input ∷ output ∷ cells ∷ 1 ∷ []) ⌝ }
 {
     let at = flows * STRIDE;
     list[at] = narrow(input);
     list[at + 1] = narrow(output);
     list[at + 2] = narrow(cells);
+    list[at + 3] = 1;
 }

@@ -1,11 +1,11 @@
 use Prim.Native.Nat.{_-_}
 use borrow.Author.Needs.{needs}
-use Rattle.admission.proofs.Ports.{Trying, trying-start, trying-in, trying-found, trying-on, trying-end}
+use Rattle.admission.proofs.Ports.{portBad, Trying, trying-start, trying-in, trying-found, trying-on, trying-end}
 use Rattle.admission.proofs.bad_port.Statement.{statement}
 use Rattle.admission.proofs.bad_port.Tie as tie
 
 abbrev Inv-loop : tie.InvT-loop
-Inv-loop ports list count f₀ f = Trying ports list count f
+Inv-loop ports list count f₀ f = Trying (portBad ports list) list count f
 
 abbrev μ-loop : tie.MeasureT-loop
 μ-loop ports list count f₀ f = count - f

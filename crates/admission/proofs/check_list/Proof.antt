@@ -21,7 +21,7 @@ returns-3 c =
     let one = two .before .before in
     let list = one .before .before .before .args .list .now in
     record {
-      is = rw (sym (one .before .outside .ensures) ∙ one .if1 .left, sym (two .before .bad-slots .ensures) ∙ two .if2 .left, ne-eqb (length list % 3) 0 (c .if3 .taken));
+      is = rw (sym (one .before .outside .ensures) ∙ one .if1 .left, sym (two .before .bad-slots .ensures) ∙ two .if2 .left, ne-eqb (length list % 4) 0 (c .if3 .taken));
     }
 
 returns-4 : tie.Need-returns-4
@@ -34,7 +34,7 @@ returns-4 c =
       is = rw (
         sym (one .before .outside .ensures) ∙ one .if1 .left,
         sym (two .before .bad-slots .ensures) ∙ two .if2 .left,
-        eq-eqb (length list % 3) 0 (three .if3 .left),
+        eq-eqb (length list % 4) 0 (three .if3 .left),
         lt-ltb 512 (flows list) (omega (arith, c .before .flows-of .ensures, c .if4 .taken)),
       );
     }
@@ -50,7 +50,7 @@ returns-5 c =
       is = rw (
         sym (one .before .outside .ensures) ∙ one .if1 .left,
         sym (two .before .bad-slots .ensures) ∙ two .if2 .left,
-        eq-eqb (length list % 3) 0 (three .if3 .left),
+        eq-eqb (length list % 4) 0 (three .if3 .left),
         le-ltb 512 (flows list) (omega (arith, four .before .flows-of .ensures, four .if4 .left)),
         sym (c .before .bad-port .ensures) ∙ c .if5 .taken,
       );
@@ -58,7 +58,8 @@ returns-5 c =
 
 returns-6 : tie.Need-returns-6
 returns-6 c =
-    let four = c .before .before in
+    let five = c .before .before in
+    let four = five .before .before in
     let three = four .before .before in
     let two = three .before in
     let one = two .before .before in
@@ -67,9 +68,29 @@ returns-6 c =
       is = rw (
         sym (one .before .outside .ensures) ∙ one .if1 .left,
         sym (two .before .bad-slots .ensures) ∙ two .if2 .left,
-        eq-eqb (length list % 3) 0 (three .if3 .left),
+        eq-eqb (length list % 4) 0 (three .if3 .left),
         le-ltb 512 (flows list) (omega (arith, four .before .flows-of .ensures, four .if4 .left)),
-        sym (c .before .bad-port .ensures) ∙ c .if5 .left,
+        sym (five .before .bad-port .ensures) ∙ five .if5 .left,
+        sym (c .before .bad-link .ensures) ∙ c .if6 .taken,
+      );
+    }
+
+returns-7 : tie.Need-returns-7
+returns-7 c =
+    let five = c .before .before in
+    let four = five .before .before in
+    let three = four .before .before in
+    let two = three .before in
+    let one = two .before .before in
+    let list = one .before .before .before .args .list .now in
+    record {
+      is = rw (
+        sym (one .before .outside .ensures) ∙ one .if1 .left,
+        sym (two .before .bad-slots .ensures) ∙ two .if2 .left,
+        eq-eqb (length list % 4) 0 (three .if3 .left),
+        le-ltb 512 (flows list) (omega (arith, four .before .flows-of .ensures, four .if4 .left)),
+        sym (five .before .bad-port .ensures) ∙ five .if5 .left,
+        sym (c .before .bad-link .ensures) ∙ c .if6 .left,
       );
     }
 
@@ -86,4 +107,6 @@ check-list-spec =
     returns-4
     (λ c κs. search needs)
     returns-5
-    returns-6)
+    (λ c κs. search needs)
+    returns-6
+    returns-7)

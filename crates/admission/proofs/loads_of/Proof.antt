@@ -1,26 +1,28 @@
 use Prim.Native.Nat.{_-_}
 use mathlib.Core.Path.{refl}
 use borrow.Author.Needs.{needs}
-use Rattle.admission.proofs.Adding.{Summed, summed-start, summed-in, input-from-one, output-from-one, input-low, output-low, in-fits, out-fits, summed-on, summed-end}
+use Rattle.admission.proofs.Adding.{Summed, summed-start, summed-in, input-from-one, input-low}
+use Rattle.admission.proofs.Adding.{summed-output, summed-link, in-fits, out-fits, line-fits, summed-on, summed-end}
 use Rattle.admission.proofs.loads_of.Statement.{statement}
 use Rattle.admission.proofs.loads_of.Tie as tie
 
 abbrev Inv-loop : tie.InvT-loop
-Inv-loop ports list loads₀ count f₀ loads f = Summed list count f (loads .inputs) (loads .outputs)
+Inv-loop ports list loads₀ count f₀ loads f = Summed list count f (loads .inputs) (loads .outputs) (loads .links)
 
 abbrev μ-loop : tie.MeasureT-loop
 μ-loop ports list loads₀ count f₀ loads f = count - f
 
 loop-again : tie.Need-loop-again Inv-loop μ-loop
 loop-again c =
-    let third = c .before .before in
+    let third = c .before .before .before in
     let second = third .before in
     let first = second .before in
     let at = first .before .before in
-    let cells = third .number-of3 .ensures in
+    let cells = third .number-of2 .ensures in
+    let link = second .link-of .ensures in
     let on = summed-on (at .before .before .before .pre) (at .loop .inv) (first .before .loop-test .taken) (cells .1)
-    (first .number-of .ensures .0) (second .number-of2 .ensures .0) refl refl (cells .0) in
-    on refl refl
+    (first .number-of .ensures .0) refl (link .0) (link .1) (cells .0) in
+    on refl refl refl
 
 pub loads-of-spec : {M : Type 1} → statement M
 loads-of-spec =
@@ -32,8 +34,7 @@ loads-of-spec =
     (λ c. search (needs, summed-start))
     (λ c κs. (search (needs, summed-in), search needs))
     (λ c. search (needs, input-from-one))
-    (λ c κs. (search (needs, summed-in), search needs))
-    (λ c. search (needs, output-from-one))
+    (λ c κs. (search (needs, summed-in), search (needs, summed-output), search (needs, summed-link)))
     (λ c κs. (search (needs, summed-in), search needs))
     (λ c. search needs)
     (λ c. search (needs, input-low))
@@ -41,10 +42,15 @@ loads-of-spec =
     (λ c. search needs)
     (λ c. search (needs, input-low))
     (λ c. search needs)
-    (λ c. search (needs, output-low))
+    (λ c. search needs)
     (λ c. search (needs, out-fits))
     (λ c. search needs)
-    (λ c. search (needs, output-low))
+    (λ c. search needs)
+    (λ c. search needs)
+    (λ c. search needs)
+    (λ c. search (needs, line-fits))
+    (λ c. search needs)
+    (λ c. search needs)
     (λ c. search needs)
     (λ c. search needs)
     loop-again

@@ -1,10 +1,11 @@
 use borrow.Author.Needs.{needs}
+use Rattle.admission.specs.Overloads.{valueAt}
 use Rattle.admission.proofs.Searching.{Passing, passing-start, passing-on, passing-found, passing-none}
 use Rattle.admission.proofs.lowest_above.Statement.{statement}
 use Rattle.admission.proofs.lowest_above.Tie as tie
 
 abbrev Inv-loop : tie.InvT-loop
-Inv-loop slots loads untried₀ untried = Passing slots loads untried
+Inv-loop slots loads untried₀ untried = Passing 16 (λ _. slots) (valueAt loads) untried
 
 abbrev μ-loop : tie.MeasureT-loop
 μ-loop slots loads untried₀ untried = untried
@@ -19,8 +20,8 @@ lowest-above-spec =
     (λ c. search needs)
     (λ c. search needs)
     (λ c. search needs)
-    (λ c. search (needs, passing-found))
+    (λ c. passing-found (c .before .before .before .loop .inv) (c .if1 .taken) (c .before .before .loop-test .taken))
     (λ c. search needs)
     (λ c. search needs)
     (λ c. search (needs, passing-on))
-    (λ c. search (needs, passing-none)))
+    (λ c. passing-none (c .before .loop .inv) (c .loop-test .left)))

@@ -1,5 +1,5 @@
 use borrow.Author.Needs.{needs}
-use Rattle.admission.proofs.Deciding.{input-above, output-above, none-above}
+use Rattle.admission.proofs.Deciding.{input-above, output-above, link-past, none-past}
 use Rattle.admission.proofs.overload.Statement.{statement}
 use Rattle.admission.proofs.overload.Tie as tie
 
@@ -17,4 +17,10 @@ overload-spec =
     (λ c. search needs)
     (λ c. search needs)
     (λ c. search (needs, output-above))
-    (λ c. search (needs, none-above)))
+    (λ c κs. search needs)
+    (λ c. search needs)
+    (λ c. search needs)
+    (λ c. search needs)
+    (λ c. search needs)
+    (λ c. search (needs, link-past))
+    (λ c. search (needs, none-past)))

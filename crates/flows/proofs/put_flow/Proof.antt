@@ -1,4 +1,4 @@
-use Rattle.flows.proofs.Puts.{put-three}
+use Rattle.flows.proofs.Puts.{put-four}
 use borrow.Author.Needs.{needs}
 use Rattle.flows.proofs.put_flow.Statement.{statement}
 use Rattle.flows.proofs.put_flow.Tie as tie
@@ -19,4 +19,7 @@ put-flow-spec =
     (λ c. search needs)
     (λ c. search needs)
     (λ c. search needs)
-    (λ c. search (needs, put-three)))
+    (λ c. search needs)
+    (λ c. search needs)
+    (λ c. search needs)
+    (λ c. search (needs, put-four)))

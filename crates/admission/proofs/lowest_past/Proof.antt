@@ -1,0 +1,30 @@
+use borrow.Author.Needs.{needs}
+use Rattle.admission.specs.Overloads.{valueAt}
+use Rattle.admission.proofs.Searching.{Passing, passing-start, passing-on, passing-found, passing-none}
+use Rattle.admission.proofs.lowest_past.Statement.{statement}
+use Rattle.admission.proofs.lowest_past.Tie as tie
+
+abbrev Inv-loop : tie.InvT-loop
+Inv-loop links limits untried₀ untried = Passing 64 (valueAt limits) (valueAt links) untried
+
+abbrev μ-loop : tie.MeasureT-loop
+μ-loop links limits untried₀ untried = untried
+
+pub lowest-past-spec : {M : Type 1} → statement M
+lowest-past-spec =
+    tie.close
+    (tie.spec
+    Inv-loop
+    μ-loop
+    (λ c. passing-start)
+    (λ c. search needs)
+    (λ c. search needs)
+    (λ c. search needs)
+    (λ c. search needs)
+    (λ c. search needs)
+    (λ c. search needs)
+    (λ c. passing-found (c .before .before .before .loop .inv) (c .if1 .taken) (c .before .before .loop-test .taken))
+    (λ c. search needs)
+    (λ c. search needs)
+    (λ c. search (needs, passing-on))
+    (λ c. passing-none (c .before .loop .inv) (c .loop-test .left)))
