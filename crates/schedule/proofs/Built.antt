@@ -17,74 +17,75 @@ use Rattle.model.specs.declared.Refusal.the-variants.{FrameLength}
 use Rattle.model.specs.declared.Answer.{Answer}
 use Rattle.model.specs.declared.Answer.the-variants.{Accepted, Refused}
 use Rattle.model.proofs.Reports.{report-clear, report-stops, clear-none, clear-some, refusal-number}
-use Rattle.model.proofs.Demand2.{past-load, past-frame, clear-fits, Accepts, accepts-yes}
+use Rattle.model.proofs.Demand2.{past-load, past-frame, clear-allows, Accepts, accepts-yes}
 use Rattle.model.proofs.Work.{work-built}
 use Rattle.admission.specs.Lists.{ListAnswer, Taken}
 use Rattle.admission.specs.Overloads.{EveryLoad, decided}
 use Rattle.admission.proofs.Listed.{list-refused, list-well, well-taken}
 use Rattle.admission.proofs.Deciding.{decided-loads}
+use Rattle.schedule.specs.Steps.{Fillable}
 
 -- the answer is Build's, and so are the entries
-pub record Done (ports slots : ℕ) (list buffer answer entries : List ℕ) : Type 0 where
-  pub answers : answer ≡ built ports slots list buffer
-  pub leaves : entries ≡ left ports slots list buffer
+pub record Done (ports slots : ℕ) (list limits buffer answer entries : List ℕ) : Type 0 where
+  pub answers : answer ≡ built ports slots list limits buffer
+  pub leaves : entries ≡ left ports slots list limits buffer
 
-pub done : (ports slots : ℕ) (list buffer answer entries : List ℕ) → Done ports slots list buffer answer entries
-    → (answer ≡ built ports slots list buffer) × (entries ≡ left ports slots list buffer)
-done ports slots list buffer answer entries d = (d .answers, d .leaves)
+pub done : (ports slots : ℕ) (list limits buffer answer entries : List ℕ) → Done ports slots list limits buffer answer entries
+    → (answer ≡ built ports slots list limits buffer) × (entries ≡ left ports slots list limits buffer)
+done ports slots list limits buffer answer entries d = (d .answers, d .leaves)
 
-module _ {ports slots : ℕ} {list : List ℕ} (buffer : List ℕ) where
+module _ {ports slots : ℕ} {list : List ℕ} (limits buffer : List ℕ) where
   -- a refusal leaves the entries
-  refused : (x : Refusal) → refusal x ≡ built ports slots list buffer → Done ports slots list buffer (refusal x) buffer
+  refused : (x : Refusal) → refusal x ≡ built ports slots list limits buffer → Done ports slots list limits buffer (refusal x) buffer
   refused x e =
-      let some : getD (built ports slots list buffer) 0 0 ≢ 0 = rw e at (refusal-number x) in
-      record { answers = e; leaves = rw (clear-some (buildChecks ports slots list buffer) (acceptance ports slots list buffer) refl some) }
+      let some : getD (built ports slots list limits buffer) 0 0 ≢ 0 = rw e at (refusal-number x) in
+      record { answers = e; leaves = rw (clear-some (buildChecks ports slots list limits buffer) (acceptance ports slots list limits buffer) refl some) }
 
   -- the tests, in the order of the refusals
   module _ {a : Answer} (is : ListAnswer ports slots list (answered a)) where
-    pub list-done : {x : Refusal} → a ≡ Refused x → Done ports slots list buffer (refusal x) buffer
+    pub list-done : {x : Refusal} → a ≡ Refused x → Done ports slots list limits buffer (refusal x) buffer
     unfolding buildChecks
-    list-done {x} e = refused x (list-refused is e (bad-frame ports slots buffer ∷ overloads ports slots list) (acceptance ports slots list buffer))
+    list-done {x} e = refused x (list-refused is e (bad-frame ports slots buffer ∷ overloads ports slots list limits) (acceptance ports slots list limits buffer))
 
     pub taken : a ≡ Accepted → Taken ports list
     taken well = well-taken (list-well is well)
 
     module _ (well : a ≡ Accepted) {t : Bool} (t-is : t ≡ not (eqb (length buffer) (slots * ports))) where
-      pub frame-done : t ≡ true → Done ports slots list buffer (4 ∷ []) buffer
+      pub frame-done : t ≡ true → Done ports slots list limits buffer (4 ∷ []) buffer
       unfolding buildChecks
       frame-done h =
-          refused FrameLength (sym (past-load ports slots list (list-well is well) (bad-frame ports slots buffer ∷ overloads ports slots list) (acceptance ports slots list buffer) ∙ rw (sym t-is ∙ h)))
+          refused FrameLength (sym (past-load ports slots list (list-well is well) (bad-frame ports slots buffer ∷ overloads ports slots list limits) (acceptance ports slots list limits buffer) ∙ rw (sym t-is ∙ h)))
 
-      module _ (no : t ≡ false) {ins outs : List ℕ} (loads : EveryLoad ports list ins outs) (b : Answer) (decides : answered b ≡ decided slots ins outs) where
+      module _ (no : t ≡ false) {ins outs lines : List ℕ} (loads : EveryLoad ports list ins outs lines) (b : Answer) (decides : answered b ≡ decided slots ins outs lines limits) where
         size : length buffer ≡ slots * ports
         size = eqb-true (length buffer) (slots * ports) (not-false (eqb (length buffer) (slots * ports)) (sym t-is ∙ no))
 
-        -- 5 and 6 are decided by the loads
-        loads-decide : answered b ≡ report (overloads ports slots list) accepted
-        loads-decide = decides ∙ decided-loads slots ins outs (taken well) loads
+        -- 5, 6 and 24 are decided by the loads and the limits
+        loads-decide : answered b ≡ report (overloads ports slots list limits) accepted
+        loads-decide = decides ∙ decided-loads slots ins outs lines limits (taken well) loads
 
-        pub load-done : {x : Refusal} → b ≡ Refused x → Done ports slots list buffer (refusal x) buffer
+        pub load-done : {x : Refusal} → b ≡ Refused x → Done ports slots list limits buffer (refusal x) buffer
         unfolding buildChecks
         load-done {x} d =
             refused x
-            (report-stops (overloads ports slots list) [] (acceptance ports slots list buffer) x (sym (ap answered d) ∙ loads-decide)
-            ∙ sym (past-frame ports slots list (list-well is well) buffer size (overloads ports slots list) (acceptance ports slots list buffer)))
+            (report-stops (overloads ports slots list limits) [] (acceptance ports slots list limits buffer) x (sym (ap answered d) ∙ loads-decide)
+            ∙ sym (past-frame ports slots list (list-well is well) buffer size (overloads ports slots list limits) (acceptance ports slots list limits buffer)))
 
-        pub accepts : b ≡ Accepted → Accepts ports slots list buffer
+        accepts : b ≡ Accepted → Accepts ports slots list limits buffer
         accepts d =
-            let e : getD (report (overloads ports slots list) accepted) 0 0 ≡ 0 = ap (λ (l : List ℕ). getD l 0 0) (sym loads-decide ∙ ap answered d) in
-            record {
-              well = list-well is well;
-              size = size;
-              fits = clear-fits ports slots list (clear-none (overloads ports slots list) accepted (omega arith, (omega arith, tt)) e);
-            }
+            let e : getD (report (overloads ports slots list limits) accepted) 0 0 ≡ 0 = ap (λ (l : List ℕ). getD l 0 0) (sym loads-decide ∙ ap answered d) in
+            let c = clear-allows ports slots list limits (clear-none (overloads ports slots list limits) accepted (omega arith, (omega arith, (omega arith, tt))) e) in
+            record { well = list-well is well; size = size; fits = c .0; allowed = c .1 }
+
+        pub fillable : b ≡ Accepted → Fillable ports slots list buffer
+        fillable d = let a = accepts d in record { well = a .well; size = a .size; fits = a .fits }
 
         pub fills : b ≡ Accepted → {entries : List ℕ} {n : ℕ} → (n ≡ settled (levels slots) (countsOf list)) × (entries ≡ frameFor ports slots list)
-            → Done ports slots list buffer (0 ∷ n ∷ []) entries
+            → Done ports slots list limits buffer (0 ∷ n ∷ []) entries
         fills d f =
-            let all : buildAccepts ports slots list buffer ≡ true = accepts-yes ports slots list buffer (accepts d) in
+            let all : buildAccepts ports slots list limits buffer ≡ true = accepts-yes ports slots list limits buffer (accepts d) in
             record {
-              answers = ap (λ (j : ℕ). 0 ∷ j ∷ []) (f .0 ∙ sym (work-built ports slots list buffer all))
-                  ∙ sym (report-clear (buildChecks ports slots list buffer) (acceptance ports slots list buffer) all);
+              answers = ap (λ (j : ℕ). 0 ∷ j ∷ []) (f .0 ∙ sym (work-built ports slots list limits buffer all))
+                  ∙ sym (report-clear (buildChecks ports slots list limits buffer) (acceptance ports slots list limits buffer) all);
               leaves = f .1 ∙ rw all;
             }

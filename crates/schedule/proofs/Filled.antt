@@ -13,15 +13,15 @@ use Rattle.model.specs.Build.{frameFor}
 use Rattle.model.proofs.Levels.{pow-less, power-level}
 use Rattle.model.proofs.Flows.{counts-length, counts-at}
 use Rattle.model.proofs.Halves.{load-has}
-use Rattle.model.proofs.Demand2.{well-placed, Accepts}
+use Rattle.model.proofs.Demand2.{well-placed}
 use Rattle.model.proofs.SamePorts.{frame-same}
 use Rattle.planes.specs.Planes.{counts, Block}
 use Rattle.planes.specs.Steps.{Loaded}
 use Rattle.planes.proofs.Counts as in-planes
 use Rattle.split.specs.Steps.{tabled}
-use Rattle.schedule.specs.Steps.{Tabled}
+use Rattle.schedule.specs.Steps.{Fillable, Tabled}
 
-module _ {ports slots : ℕ} {list buffer : List ℕ} (f : Accepts ports slots list buffer) where
+module _ {ports slots : ℕ} {list buffer : List ℕ} (f : Fillable ports slots list buffer) where
   -- the cells of a flow are at most the load of its input
   cells-most : (q : ℕ) → q < flows list → numberOf 2 list q ≤ slots
   cells-most q h =

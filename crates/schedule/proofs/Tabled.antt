@@ -1,89 +1,157 @@
--- The ports of one more flow in the tables, and what the tables of a list have.
-use Prim.Native.Nat.{ℕ, _+_, _-_, _≤_, _<_}
-use mathlib.Core.Path.{_≡_, _∙_}
+-- The input and the link of one more flow in the tables, and what the tables of a list have.
+use Prim.Native.Nat.{ℕ, _+_, _-_, _%_, _≤_, _<_}
+use mathlib.Core.Path.{_≡_, sym, _∙_}
+use mathlib.Core.Logic.{_≢_}
 use mathlib.Core.List.{List}
 use native.Mathlib.Omega.{arith}
 use lib.ListN.{set, length, length-set}
 use lib.Seq.{getD-set-same, getD-set-other}
-use Rattle.model.specs.Flows.{Side, inputs, outputs, flows, numberOf, placeOf, portOf}
+use borrow.Author.Tests.{eq-eqb, ne-eqb}
+use Rattle.model.specs.Flows.{Side, inputs, links, flows, outputOf, numberOf, portOf}
 use Rattle.model.proofs.Cases.{byEq, Within}
+use Rattle.model.proofs.Reports.{Ported, Linked}
 use Rattle.admission.specs.Lists.{Taken}
-use Rattle.split.specs.Steps.{Wide, lookup, tabled, Sides}
-use Rattle.schedule.specs.Steps.{Tables, Tabled}
+use Rattle.split.specs.Steps.{Wide, lookup, tabled, Sides, Shared}
+use Rattle.schedule.specs.Steps.{Tables, sharedTo, Tabled}
 
 -- ---- one more flow
-pub record Tabling (list : List ℕ) (n f : ℕ) (ins outs : List ℕ) : Type 0 where
+pub record Tabling (list : List ℕ) (n f outputs : ℕ) (ins outs : List ℕ) : Type 0 where
   pub all : n ≡ flows list
   pub few : flows list ≤ 512
-  pub ported : (s : Side) (f : ℕ) → f < flows list → Within 1 16 (numberOf (placeOf s) list f)
+  pub ported : Ported 16 list
+  pub linked : Linked list
   pub most : f ≤ n
   pub in-len : Wide ins
   pub out-len : Wide outs
   pub has : (s : Side) (q : ℕ) → q < f → tabled ins outs s q ≡ portOf list s q
+  pub shared : Shared f outputs outs
 
-pub tabling-start : {list ins outs : List ℕ} {n : ℕ} → n ≡ flows list → Taken 16 list → Wide ins → Wide outs → Tabling list n 0 ins outs
+pub tabling-start : {list ins outs : List ℕ} {n : ℕ} → n ≡ flows list → Taken 16 list → Wide ins → Wide outs → Tabling list n 0 0 ins outs
 tabling-start e t a b =
-    record { all = e; few = t .few; ported = t .ported; most = omega arith; in-len = a; out-len = b; has = λ s q h. absurd (omega arith) }
+    record {
+      all = e;
+      few = t .few;
+      ported = t .ported;
+      linked = t .linked;
+      most = omega arith;
+      in-len = a;
+      out-len = b;
+      has = λ s q h. absurd (omega arith);
+      shared = record { most = omega arith; low = λ p h. absurd (omega arith); others = λ p h. absurd (omega arith) };
+    }
 
 one-more : (f : ℕ → ℕ) (l : List ℕ) (p x : ℕ) → p < length l → x ≡ f p → ((q : ℕ) → q < p → lookup l q ≡ f q) → (q : ℕ) → q < p + 1
     → lookup (set l p x) q ≡ f q
 one-more f l p x h e g q k = byEq q p (λ d. rw d (getD-set-same l p x 0 h ∙ e)) (λ d. getD-set-other l p q x 0 d ∙ g q (omega arith))
 
-module _ {list ins outs : List ℕ} {n f : ℕ} (t : Tabling list n f ins outs) (h : f < n) where
+-- as far as some output, and as far as that of one link more
+shared-more : (n outputs x : ℕ) (outs : List ℕ) → n < length outs → x < 64 → Shared n outputs outs → Shared (n + 1) (sharedTo outputs x) (set outs n x)
+shared-more n outputs x outs h low s = record { most = most; low = each; others = others }
+  where
+    most : sharedTo outputs x ≤ 16
+    most = byEq (x % 4) 0 (λ e. rw (eq-eqb (x % 4) 0 e) (s .most)) (λ e. rw (ne-eqb (x % 4) 0 e) (omega (arith, s .most)))
+
+    up : outputs ≤ sharedTo outputs x
+    up = byEq (x % 4) 0 (λ e. rw (eq-eqb (x % 4) 0 e) (omega arith)) (λ e. rw (ne-eqb (x % 4) 0 e) (omega arith))
+
+    each : (p : ℕ) → p < n + 1 → lookup (set outs n x) p < 64
+    each p k =
+        byEq p n (λ d. rw d (omega (arith, getD-set-same outs n x 0 h)))
+        (λ d. omega (arith, getD-set-other outs n p x 0 d, s .low p (omega arith)))
+
+    others : (p : ℕ) → p < n + 1 → sharedTo outputs x ≤ outputOf (lookup (set outs n x) p) → lookup (set outs n x) p % 4 ≡ 0
+    others p k =
+        byEq p n (λ d. rw (d, getD-set-same outs n x 0 h) own)
+        (λ d. rw (getD-set-other outs n p x 0 d) (λ l. s .others p (omega arith) (omega (arith, up))))
+      where
+        own : sharedTo outputs x ≤ outputOf x → x % 4 ≡ 0
+        own l = byEq (x % 4) 0 (λ e. e) (λ e. let m = rw (ne-eqb (x % 4) 0 e) at l in absurd (omega arith))
+
+module _ {list ins outs : List ℕ} {n f outputs : ℕ} (t : Tabling list n f outputs ins outs) (h : f < n) where
   pub tabling-in : f < flows list
   tabling-in = omega (arith, t .all)
 
   pub tabling-low : f < 528
   tabling-low = omega (arith, t .all, t .few)
 
-  -- the number of a port, from 1
+  -- the number of an input, from 1
   pub in-low : {x : ℕ} → x ≡ numberOf 0 list f → (1 ≤ x) × (x ≤ 16)
   in-low e = let p = t .ported inputs f tabling-in in (omega arith, omega arith)
 
-  pub out-low : {x : ℕ} → x ≡ numberOf 1 list f → (1 ≤ x) × (x ≤ 16)
-  out-low e = let p = t .ported outputs f tabling-in in (omega arith, omega arith)
+  pub out-in : Within 1 16 (numberOf 1 list f)
+  out-in = t .ported links f tabling-in
 
-  pub tabling-on : {x y : ℕ} → x ≡ numberOf 0 list f → y ≡ numberOf 1 list f → Tabling list n (f + 1) (set ins f (x - 1)) (set outs f (y - 1))
+  pub link-in : Within 1 4 (numberOf 3 list f)
+  link-in = t .linked f tabling-in
+
+  pub tabling-on : {x y r : ℕ} → x ≡ numberOf 0 list f → y ≡ portOf list links f → y < 64 → r ≡ sharedTo outputs y
+      → Tabling list n (f + 1) r (set ins f (x - 1)) (set outs f y)
   unfolding portOf
-  tabling-on {x} {y} ex ey =
+  tabling-on {x} {y} ex ey low er =
       record {
         all = t .all;
         few = t .few;
         ported = t .ported;
+        linked = t .linked;
         most = omega arith;
         in-len = length-set ins f (x - 1) ∙ t .in-len;
-        out-len = length-set outs f (y - 1) ∙ t .out-len;
+        out-len = length-set outs f y ∙ t .out-len;
         has = has;
+        shared = rw er (shared-more f outputs y outs (omega (arith, t .out-len, tabling-low)) low (t .shared));
       }
     where
-      has : (s : Side) (q : ℕ) → q < f + 1 → tabled (set ins f (x - 1)) (set outs f (y - 1)) s q ≡ portOf list s q
+      has : (s : Side) (q : ℕ) → q < f + 1 → tabled (set ins f (x - 1)) (set outs f y) s q ≡ portOf list s q
       has inputs = one-more (portOf list inputs) ins f (x - 1) (omega (arith, t .in-len, tabling-low)) (omega arith) (t .has inputs)
-      has outputs = one-more (portOf list outputs) outs f (y - 1) (omega (arith, t .out-len, tabling-low)) (omega arith) (t .has outputs)
+      has links = one-more (portOf list links) outs f y (omega (arith, t .out-len, tabling-low)) ey (t .has links)
 
-pub tabling-end : {list ins outs : List ℕ} {n f : ℕ} → Tabling list n f ins outs → n ≤ f → Tabled list ins outs
-tabling-end t h = record { has = λ s q k. t .has s q (omega (arith, t .all)) }
+module _ {list ins outs : List ℕ} {n f outputs : ℕ} (t : Tabling list n f outputs ins outs) (h : n ≤ f) where
+  all-tabled : f ≡ flows list
+  all-tabled = omega (arith, t .all, t .most)
+
+  pub tabling-end : Tabled list ins outs
+  tabling-end = record { has = λ s q k. t .has s q (omega (arith, all-tabled)) }
+
+  pub shared-end : Shared (flows list) outputs outs
+  shared-end = rw (sym all-tabled) (t .shared)
 
 -- ---- the tables of a list
 module _ {ports : ℕ} {list ins outs : List ℕ} (t : Taken ports list) (h : Tabled list ins outs) where
-  low : (s : Side) (f : ℕ) → f < flows list → tabled ins outs s f < ports
+  low : (f : ℕ) → f < flows list → lookup ins f < ports
   unfolding portOf
-  low s f l = let p = t .ported s f l in omega (arith, h .has s f l)
+  low f l = let p = t .ported inputs f l in omega (arith, h .has inputs f l)
 
-  pub tables-of : {n : ℕ} → n ≡ flows list → Tables ports n ins outs
-  tables-of e =
+  pub tables-of : {n outputs : ℕ} → Shared (flows list) outputs outs → n ≡ flows list → Tables ports n outputs ins outs
+  tables-of s e =
       record {
         few = t .most;
-        at-inputs = record { most = omega (arith, t .few); low = λ p l. low inputs p (omega arith) };
-        at-outputs = record { most = omega (arith, t .few); low = λ p l. low outputs p (omega arith) };
+        at-inputs = record { most = omega (arith, t .few); low = λ p l. low p (omega arith) };
+        at-outputs = rw e s;
       }
 
 -- a list's ports are among 16
 pub taken-most : {ports : ℕ} {list : List ℕ} → Taken ports list → Taken 16 list
-taken-most t = record { most = omega arith; few = t .few; ported = λ s f h. let p = t .ported s f h in let m = t .most in (omega arith, omega arith) }
+taken-most t =
+    record {
+      most = omega arith;
+      few = t .few;
+      ported = λ s f h. let p = t .ported s f h in let m = t .most in (omega arith, omega arith);
+      linked = t .linked;
+    }
 
-pub sides-of : {ports n : ℕ} {ins outs : List ℕ} → Tables ports n ins outs → Sides n ins outs
-sides-of {ports} {n} {ins} {outs} t = record { most = t .at-inputs .most; low = low16 }
+pub sides-of : {ports n outputs : ℕ} {ins outs : List ℕ} → Tables ports n outputs ins outs → Sides n ins outs
+sides-of {ports} {n} {outputs} {ins} {outs} t = record { most = t .at-inputs .most; low = low64 }
   where
-    low16 : (s : Side) (p : ℕ) → p < n → tabled ins outs s p < 16
-    low16 inputs p h = omega (arith, t .at-inputs .low p h, t .few)
-    low16 outputs p h = omega (arith, t .at-outputs .low p h, t .few)
+    low64 : (s : Side) (p : ℕ) → p < n → tabled ins outs s p < 64
+    low64 inputs p h = omega (arith, t .at-inputs .low p h, t .few)
+    low64 links p h = t .at-outputs .low p h
+
+-- ---- one link more
+module _ (outputs x : ℕ) where
+  pub first-shared : x % 4 ≡ 0 → outputs ≡ sharedTo outputs x
+  first-shared e = rw (eq-eqb (x % 4) 0 e)
+
+  pub still-shared : x % 4 ≢ 0 → outputOf x < outputs → outputs ≡ sharedTo outputs x
+  still-shared e h = rw (ne-eqb (x % 4) 0 e) (omega arith)
+
+  pub next-shared : x % 4 ≢ 0 → outputs ≤ outputOf x → outputOf x + 1 ≡ sharedTo outputs x
+  next-shared e h = rw (ne-eqb (x % 4) 0 e) (omega arith)

@@ -1,14 +1,23 @@
 -- The steps of a frame, as functions of the lists that they are lent.
-use Prim.Native.Nat.{ℕ, _≤_, _<_}
+use Prim.Native.Nat.{ℕ, suc, _*_, _%_, _≤_, _<_, max}
 use mathlib.Core.Path.{_≡_}
 use mathlib.Core.List.{List, _++_}
+use lib.Dec.{eqb}
 use lib.ListN.{length}
-use Rattle.model.specs.Words.{Every}
-use Rattle.model.specs.Flows.{Side, flows, portOf}
+use Rattle.model.specs.Words.{if, Every}
+use Rattle.model.specs.Flows.{Side, flows, outputOf, portOf, countsOf, Fits}
 use Rattle.model.specs.Schedule.{put, slotOf}
+use Rattle.model.proofs.Demand2.{WellFormed}
 use Rattle.planes.specs.Planes.{halves}
 use Rattle.planes.specs.Steps.{Others}
-use Rattle.split.specs.Steps.{lookup, tabled}
+use Rattle.split.specs.Steps.{lookup, tabled, Shared}
+
+-- ---- what is built
+-- A well-formed load that fits, and a frame of the right size.
+pub record Fillable (ports slots : ℕ) (list buffer : List ℕ) : Type 0 where
+  pub well : WellFormed ports slots list
+  pub size : length buffer ≡ slots * ports
+  pub fits : Fits ports slots (portOf list) (countsOf list)
 
 -- ---- ports
 -- A table has ports of a switch of so many for the first n positions.
@@ -16,12 +25,16 @@ pub record Table (ports n : ℕ) (table : List ℕ) : Type 0 where
   pub most : n ≤ 528
   pub low : (p : ℕ) → p < n → lookup table p < ports
 
-pub record Tables (ports n : ℕ) (ins outs : List ℕ) : Type 0 where
+pub record Tables (ports n outputs : ℕ) (ins outs : List ℕ) : Type 0 where
   pub few : ports ≤ 16
   pub at-inputs : Table ports n ins
-  pub at-outputs : Table ports n outs
+  pub at-outputs : Shared n outputs outs
 
--- Two tables have the ports of every flow of a list.
+-- The outputs up to the last that has more than its first link, where those so far go to some output, and one more link is x.
+abbrev pub sharedTo : ℕ → ℕ → ℕ
+sharedTo outputs x = if (eqb (x % 4) 0) outputs (max outputs (suc (outputOf x)))
+
+-- Two tables have the input and the link of every flow of a list.
 pub record Tabled (list ins outs : List ℕ) : Type 0 where
   pub has : (s : Side) (f : ℕ) → f < flows list → tabled ins outs s f ≡ portOf list s f
 

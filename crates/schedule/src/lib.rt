@@ -22,10 +22,9 @@ ghost use Rattle.model.specs.Flows.{countsOf};
 ghost use Rattle.model.specs.Refusals.{levels};
 ghost use Rattle.model.specs.Schedule.{frameOf, settled};
 ghost use Rattle.model.specs.Build.{frameFor, outcome, built, left};
-ghost use Rattle.model.proofs.Demand2.{Accepts};
 ghost use Rattle.planes.specs.Planes.{counts, Block};
 ghost use Rattle.split.specs.Steps.{tabled, Scratch};
-ghost use Rattle.schedule.specs.Steps.{Tables};
+ghost use Rattle.schedule.specs.Steps.{Fillable, Tables};
 
 // A block of 2^m slots, at least two: its length falls by half with each call, and two slots are written as they are split. The
 // answer is how many odd counts were settled, here and in the blocks within.
@@ -36,13 +35,14 @@ fn block(
     ports: usize,
     ins: &[u8; 528],
     outs: &[u8; 528],
+    outputs: usize,
     odds: &mut [u16; 528],
     in_mates: &mut [u16; 528],
     out_mates: &mut [u16; 528],
     group: &mut [u16; 528],
     frame: &mut [u16],
 ) -> usize
-    requires { ⌜ (1 ≤ m) × (m ≤ 10) × Tables ports n (now ins) (now outs) × Block m n (now planes)
+    requires { ⌜ (1 ≤ m) × (m ≤ 10) × Tables ports n outputs (now ins) (now outs) × Block m n (now planes)
         × Scratch (now odds) (now «in_mates») (now «out_mates») (now group) × (length (now frame) ≡ 2 ^ m * ports) ⌝ }
     ensures { λ r. ⌜ (r ≡ settled m (counts (suc m) (now (planes .entry)) n))
         × (now (frame .exit) ≡ frameOf ports (tabled (now (ins .entry)) (now (outs .entry))) m (counts (suc m) (now (planes .entry)) n))
@@ -54,6 +54,7 @@ fn block(
         n,
         ins,
         outs,
+        outputs,
         odds,
         in_mates,
         out_mates,
@@ -74,6 +75,7 @@ fn block(
             ports,
             ins,
             outs,
+            outputs,
             odds,
             in_mates,
             out_mates,
@@ -89,6 +91,7 @@ fn block(
             ports,
             ins,
             outs,
+            outputs,
             odds,
             in_mates,
             out_mates,
@@ -101,7 +104,7 @@ fn block(
 
 // A load that fits has room in the planes: no count is above slots.
 fn fill(ports: usize, slots: usize, list: &[u16], frame: &mut [u16]) -> usize
-    requires { ⌜ Accepts ports slots (now list) (now frame) ⌝ }
+    requires { ⌜ Fillable ports slots (now list) (now frame) ⌝ }
     ensures { λ r. ⌜ (r ≡ settled (levels slots) (countsOf (now (list .entry))))
         × (now (frame .exit) ≡ frameFor ports slots (now (list .entry))) ⌝ }
 {
@@ -111,7 +114,7 @@ fn fill(ports: usize, slots: usize, list: &[u16], frame: &mut [u16]) -> usize
     let mut ins = [0u8; 528];
     let mut outs = [0u8; 528];
     load(list, m + 1, &mut planes);
-    positions::tabulate(list, &mut ins, &mut outs);
+    let outputs = positions::tabulate(list, &mut ins, &mut outs);
     if m == 0 {
         slots::write(&planes, n, ports, &ins, frame);
         return 0;
@@ -127,6 +130,7 @@ fn fill(ports: usize, slots: usize, list: &[u16], frame: &mut [u16]) -> usize
         ports,
         &ins,
         &outs,
+        outputs,
         &mut odds,
         &mut in_mates,
         &mut out_mates,
@@ -135,10 +139,16 @@ fn fill(ports: usize, slots: usize, list: &[u16], frame: &mut [u16]) -> usize
     )
 }
 
-// Build: 1, 2, 3, 21, 22, 4, 5, 6, and nothing is written until all have passed.
-pub fn build(ports: usize, slots: usize, list: &[u16], frame: &mut [u16]) -> Built
-    ensures { λ r. ⌜ (outcome r ≡ built ports slots (now (list .entry)) (now (frame .entry)))
-        × (now (frame .exit) ≡ left ports slots (now (list .entry)) (now (frame .entry))) ⌝ }
+// Build: 1, 2, 3, 21, 22, 23, 4, 5, 6, 24, and nothing is written until all have passed.
+pub fn build(
+    ports: usize,
+    slots: usize,
+    list: &[u16],
+    limits: [u16; 64],
+    frame: &mut [u16],
+) -> Built
+    ensures { λ r. ⌜ (outcome r ≡ built ports slots (now (list .entry)) limits (now (frame .entry)))
+        × (now (frame .exit) ≡ left ports slots (now (list .entry)) limits (now (frame .entry))) ⌝ }
 {
     if let Answer::Refused(refusal) = check_list(ports, slots, list) {
         return Built::Refused(refusal);
@@ -147,7 +157,8 @@ pub fn build(ports: usize, slots: usize, list: &[u16], frame: &mut [u16]) -> Bui
         return Built::Refused(Refusal::FrameLength);
     }
     let loads = loads_of(ports, list);
-    if let Answer::Refused(refusal) = overload(slots, &loads.inputs, &loads.outputs) {
+    let over = overload(slots, &loads.inputs, &loads.outputs, &loads.links, limits);
+    if let Answer::Refused(refusal) = over {
         return Built::Refused(refusal);
     }
     let settled = fill(ports, slots, list, frame);

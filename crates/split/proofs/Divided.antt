@@ -19,7 +19,7 @@ use Rattle.planes.specs.Steps.{Gathered, Marked, Others}
 use Rattle.planes.proofs.Lists.{keep-most, zeros-at}
 use Rattle.planes.proofs.Counts.{each-is, counts-length, counts-at, digit-le, odd-is, odds-are}
 use Rattle.planes.proofs.Marked.{others-mask}
-use Rattle.split.specs.Steps.{Sides, Odds, Mates, Scratch, tabled, Linked, SettledBy, Favours}
+use Rattle.split.specs.Steps.{Sides, Shared, Odds, Mates, Scratch, tabled, Linked, LinkedOut, SettledBy, Favours}
 use Rattle.split.proofs.Favoured.{favoured-is}
 
 -- ---- lists that nothing is in yet
@@ -57,12 +57,12 @@ either f m n planes ins outs p h e =
       off = λ d. e ∙ law .evens p (sym o ∙ ap (λ (x : ℕ). eqb x 1) d);
     }
 
-module _ {n k : ℕ} {planes ins outs odds i o c mask : List ℕ} (s : Sides n ins outs) (g : Gathered n planes odds k)
-    (li : Linked ins odds k i) (lo : Linked outs odds k o) (st : SettledBy i o odds k (replicate 528 0) c) (mk : Marked n planes c mask) where
+module _ {n k outputs : ℕ} {planes ins outs odds i o c mask : List ℕ} (s : Sides n ins outs) (sh : Shared n outputs outs) (g : Gathered n planes odds k)
+    (li : Linked ins odds k i) (lo : LinkedOut outputs outs odds k o) (st : SettledBy i o odds k (replicate 528 0) c) (mk : Marked n planes c mask) where
   favoured-at : (m p : ℕ) → p < n → getD c p 0 ≡ getD (favours (tabled ins outs) (counts (suc m) planes n)) p 0
   favoured-at m p h =
       sym (getD-take n c p 0 h)
-      ∙ ap (λ (l : List ℕ). getD l p 0) (favoured-is (counts (suc m) planes n) s (counts-length (suc m) planes n) (g .same ∙ odds-are m n planes) li lo st)
+      ∙ ap (λ (l : List ℕ). getD l p 0) (favoured-is (counts (suc m) planes n) s sh (counts-length (suc m) planes n) (g .same ∙ odds-are m n planes) li lo st)
 
   pub favours-first : Favours 1 n planes ins outs mask
   favours-first =

@@ -10,16 +10,17 @@ use lib.ListN.{length, getD, set, take, drop, replicate, length-set, length-repl
 use lib.Seq.{length-take-le, getD-take, take-set-lt, drop-set-lt}
 use borrow.Author.Tests.{eq-eqb, ne-eqb}
 use Rattle.model.specs.Words.{both, upFrom, keep, Every}
-use Rattle.model.specs.Flows.{inputs, outputs}
+use Rattle.model.specs.Flows.{inputs, links}
 use Rattle.model.specs.Rules.{odd}
-use Rattle.model.specs.Schedule.{partnerIn, partner, walk, groupOf, favouring, level, settleAt, settle, favours}
+use Rattle.model.specs.Schedule.{partnerIn, partner, outputPartner, walk, groupOf, favouring, level, settleAt, settle, favours}
 use Rattle.model.proofs.Cases.{byBool, byEq}
-use Rattle.model.proofs.Partners.{odd-lt}
+use Rattle.model.proofs.Partners.{odd-lt, partner-at}
+use Rattle.model.proofs.Singles.{output-odd}
+use Rattle.model.proofs.SamePorts.{output-same}
 use Rattle.model.proofs.Kept.{keep-same, keep-keep}
 use Rattle.model.proofs.Favouring.{none-favour, settled-less, unsettled-most}
 use Rattle.model.proofs.Walks.{walk-on, walk-off, walk-length}
-use Rattle.model.proofs.Settled.{partner-pairing}
-use Rattle.split.specs.Steps.{lookup, tabled, Sides, portIn, thoseAt, mateAmong, Linked, walked, bothWays, groupSettled, allSettled, SettledBy}
+use Rattle.split.specs.Steps.{lookup, tabled, Sides, Shared, portIn, thoseAt, mateAmong, Linked, LinkedOut, walked, bothWays, groupSettled, allSettled, SettledBy}
 use Rattle.split.proofs.Lists.{every-kept}
 use Rattle.split.proofs.Walked.{walk-end}
 use Rattle.split.proofs.Linked.{Mated}
@@ -175,26 +176,35 @@ module _ (m i o : List ℕ) (i′ o′ : ℕ → ℕ) (di : Does (length m) (odd
 abbrev odds-of : List ℕ → List ℕ
 odds-of m = keep (odd m) (upFrom 0 (length m))
 
+-- the port that a table has, as one of 64, is that which it has
+port-is : (m table : List ℕ) → ((p : ℕ) → p < length m → lookup table p < 64) → (q : ℕ) → q < length m → portIn table q ≡ lookup table q
+port-is m table low q g = let l = low q g in omega arith
+
 -- the partner in the list is the partner of the definitions
-mate-is : (m table : List ℕ) → ((p : ℕ) → p < length m → lookup table p < 16) → (p : ℕ) → p < length m
+mate-is : (m table : List ℕ) → ((p : ℕ) → p < length m → lookup table p < 64) → (p : ℕ) → p < length m
     → mateAmong table (odds-of m) p ≡ partner (lookup table) m p
 mate-is m table low p h =
-    ap (λ (x : ℕ). partnerIn (thoseAt table x (odds-of m)) p) (port-is p h)
+    ap (λ (x : ℕ). partnerIn (thoseAt table x (odds-of m)) p) (port-is m table low p h)
     ∙ ap (λ (l : List ℕ). partnerIn l p)
     (keep-keep (odd m) (λ q. eqb (portIn table q) (lookup table p)) (upFrom 0 (length m))
     ∙ keep-same (λ q. both (odd m q) (eqb (portIn table q) (lookup table p))) (λ q. both (odd m q) (eqb (lookup table q) (lookup table p))) 0 (length m)
-    (λ q g. ap (λ (x : ℕ). both (odd m q) (eqb x (lookup table p))) (port-is q (omega arith))))
-  where
-    port-is : (q : ℕ) → q < length m → portIn table q ≡ lookup table q
-    port-is q g = let l = low q g in omega arith
+    (λ q g. ap (λ (x : ℕ). both (odd m q) (eqb x (lookup table p))) (port-is m table low q (omega arith))))
 
-does : (m table mates : List ℕ) → ((p : ℕ) → p < length m → lookup table p < 16) → Every (Mated table mates (odds-of m)) (odds-of m)
+does-inputs : (m table mates : List ℕ) → ((p : ℕ) → p < length m → lookup table p < 64) → Every (Mated table mates (odds-of m)) (odds-of m)
     → Does (length m) (odd m) (odd-lt m) (lookup mates) (partner (lookup table) m)
-does m table mates low al p o =
+does-inputs m table mates low al p o =
     let p-lt = odd-lt m p o in (
       every-kept (Mated table mates (odds-of m)) (odd m) 0 (length m) al p (omega arith) (omega arith) o ∙ mate-is m table low p p-lt,
-      partner-pairing (lookup table) m .odds p o,
+      partner-at (lookup table) m p o .0,
     )
+
+does-outputs : (m table mates : List ℕ) → ((p : ℕ) → p < length m → lookup table p < 64)
+    → ((p : ℕ) → odd m p ≡ true → lookup mates p ≡ outputPartner (portIn table) m p)
+    → Does (length m) (odd m) (odd-lt m) (lookup mates) (outputPartner (lookup table) m)
+does-outputs m table mates low same p o = (
+  same p o ∙ output-same (portIn table) (lookup table) m (port-is m table low) p,
+  output-odd (lookup table) m p o,
+)
 
 take-zeros : (n k : ℕ) → n ≤ k → take {A = ℕ} n (replicate k 0) ≡ replicate n 0
 take-zeros zero k h = refl
@@ -203,16 +213,17 @@ take-zeros (suc n) (suc k) h = ap (λ (l : List ℕ). 0 ∷ l) (take-zeros n k (
 
 -- ---- the half that each count favours
 -- the steps over a list of the odd counts of m settle what the definitions settle
-pub favoured-is : {n k : ℕ} {ins outs odds i o c : List ℕ} (m : List ℕ) → Sides n ins outs → length m ≡ n → take k odds ≡ keep (odd m) (upFrom 0 n)
-    → Linked ins odds k i → Linked outs odds k o → SettledBy i o odds k (replicate 528 0) c → take n c ≡ favours (tabled ins outs) m
+pub favoured-is : {n k outputs : ℕ} {ins outs odds i o c : List ℕ} (m : List ℕ) → Sides n ins outs → Shared n outputs outs → length m ≡ n
+    → take k odds ≡ keep (odd m) (upFrom 0 n) → Linked ins odds k i → LinkedOut outputs outs odds k o → SettledBy i o odds k (replicate 528 0) c → take n c ≡ favours (tabled ins outs) m
 unfolding favours
-favoured-is {n} {k} {ins} {outs} {odds} {i} {o} {c} m t len g li lo s =
+favoured-is {n} {k} {outputs} {ins} {outs} {odds} {i} {o} {c} m t sh len g li lo s =
     let z : List ℕ = replicate 528 0 in
     let i′ = partner (lookup ins) m in
-    let o′ = partner (lookup outs) m in
+    let o′ = outputPartner (lookup outs) m in
     let g′ : take k odds ≡ odds-of m = g ∙ ap (λ (j : ℕ). keep (odd m) (upFrom 0 j)) (sym len) in
-    let di = does m ins i (λ p h. t .low inputs p (omega arith)) (subst (λ (l : List ℕ). Every (Mated ins i l) l) g′ (li .same)) in
-    let do′ = does m outs o (λ p h. t .low outputs p (omega arith)) (subst (λ (l : List ℕ). Every (Mated outs o l) l) g′ (lo .same)) in
+    let di = does-inputs m ins i (λ p h. t .low inputs p (omega arith)) (subst (λ (l : List ℕ). Every (Mated ins i l) l) g′ (li .same)) in
+    let sh′ : Shared (length m) outputs outs = subst (λ (j : ℕ). Shared j outputs outs) (sym len) sh in
+    let do′ = does-outputs m outs o (λ p h. t .low links p (omega arith)) (lo .same m g′ sh′) in
     let wz : length m ≤ length z = omega (arith, t .most, length-replicate {A = ℕ} 528 0) in
     ap₂ (λ (j : ℕ) (d : List ℕ). take j d) (sym len) (s .same ∙ ap (λ (l : List ℕ). allSettled i o l z) g′)
     ∙ all-take m i o i′ o′ di do′ (length m) 0 z wz (zeros-blank (length m) 528)

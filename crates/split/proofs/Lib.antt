@@ -1,6 +1,7 @@
 -- Laws of the steps, one file for each that they are about.
 pub mod Lists
 pub mod Linked
+pub mod Joined
 pub mod Turned
 pub mod Walked
 pub mod Settled

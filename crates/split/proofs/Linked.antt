@@ -8,16 +8,17 @@ use native.Mathlib.Omega.{arith}
 use native.Mathlib.Numerals.{add-one}
 use native.Mathlib.Nat.{mod-lt}
 use lib.Dec.{eqb}
-use lib.ListN.{length, getD, set, take, length-set, List·getD-eq-default}
+use lib.ListN.{length, getD, set, take, replicate, length-set, length-replicate, getD-replicate, List·getD-eq-default}
 use lib.Seq.{take-suc, getD-set-same, getD-set-other}
 use borrow.Author.Tests.{eqb-true, eq-eqb, ne-eqb}
 use Rattle.model.specs.Words.{if, keep, Every}
+use Rattle.model.specs.Rules.{single}
 use Rattle.model.specs.Schedule.{partnerIn}
 use Rattle.model.proofs.Cases.{byBool, byEq, byLt}
-use Rattle.model.proofs.SamePorts.{none-at}
-use Rattle.model.proofs.Partners.{Rising, in-first, in-second, in-rest, rising-weaken, every-map}
-use Rattle.split.specs.Steps.{Odds, Mates, lookup, portIn, thoseAt, mateAmong, Linked}
-use Rattle.split.proofs.Lists.{keep-snoc, every-snoc, every-two, position-low}
+use Rattle.model.proofs.Partners.{Rising, rising-apart, Apart, in-none, in-first, in-second, in-rest, rising-weaken, every-map}
+use Rattle.model.proofs.Singles.{single-every, every-both}
+use Rattle.split.specs.Steps.{Odds, Mates, lookup, portIn, thoseAt, mateAmong, Waits, Free, Held, Linked}
+use Rattle.split.proofs.Lists.{keep-snoc, every-snoc, position-low}
 
 -- ---- rising lists
 rising-snoc : (k : ℕ) (l : List ℕ) (p : ℕ) → Rising k (l ++ (p ∷ [])) → (Rising k l) × (Every (λ r. r < p) l) × (k ≤ p)
@@ -40,62 +41,46 @@ every-keep : (P : ℕ → Type 0) (t : ℕ → Bool) (l : List ℕ) → Every P 
 every-keep P t [] a = tt
 every-keep P t (x ∷ l) a = let r = every-keep P t l (a .1) in byBool (t x) (λ e. rw e ((a .0, e), r)) (λ e. rw e r)
 
--- ---- the one that is left single
-abbrev pub single : List ℕ → List ℕ
-single [] = []
-single (a ∷ []) = a ∷ []
-single (a ∷ b ∷ l) = single l
-
+-- ---- one more, by whether one is left single
 no-cons : (a : ℕ) (l : List ℕ) → a ∷ l ≡ [] → ⊥
 no-cons a l e = let z : _≡_ {A = ℕ} 0 1 = cc in omega arith
 
 -- none is single: p comes to be
-even-in : (l : List ℕ) (p q : ℕ) → single l ≡ [] → partnerIn (l ++ (p ∷ [])) q ≡ partnerIn l q
+pub even-in : (l : List ℕ) (p q : ℕ) → single l ≡ [] → partnerIn (l ++ (p ∷ [])) q ≡ partnerIn l q
 even-in [] p q e = refl
 even-in (a ∷ []) p q e = absurd (no-cons a [] e)
 even-in (a ∷ b ∷ l) p q e = ap (λ (x : ℕ). if (eqb q a) b (if (eqb q b) a x)) (even-in l p q e)
 
-even-single : (l : List ℕ) (p : ℕ) → single l ≡ [] → single (l ++ (p ∷ [])) ≡ p ∷ []
+pub even-single : (l : List ℕ) (p : ℕ) → single l ≡ [] → single (l ++ (p ∷ [])) ≡ p ∷ []
 even-single [] p e = refl
 even-single (a ∷ []) p e = absurd (no-cons a [] e)
 even-single (a ∷ b ∷ l) p e = even-single l p e
 
 -- h is single: it comes to be the partner of p
 module _ (p h : ℕ) where
-  odd-single : (l : List ℕ) → single l ≡ h ∷ [] → single (l ++ (p ∷ [])) ≡ []
+  pub odd-single : (l : List ℕ) → single l ≡ h ∷ [] → single (l ++ (p ∷ [])) ≡ []
   odd-single [] e = absurd (no-cons h [] (sym e))
   odd-single (a ∷ []) e = refl
   odd-single (a ∷ b ∷ l) e = odd-single l e
 
-  single-every : (P : ℕ → Type 0) (l : List ℕ) → single l ≡ h ∷ [] → Every P l → P h
-  single-every P [] e al = absurd (no-cons h [] (sym e))
-  single-every P (a ∷ []) e al = let f : a ≡ h = cc in rw f at (al .0)
-  single-every P (a ∷ b ∷ l) e al = single-every P l e (al .1 .1)
+  pub single-has : (P : ℕ → Type 0) (l : List ℕ) → single l ≡ h ∷ [] → Every P l → P h
+  single-has P l e al = (rw e at (single-every P l al)) .0
 
-  single-low : (k : ℕ) (l : List ℕ) → single l ≡ h ∷ [] → Rising k l → k ≤ h
-  single-low k [] e s = absurd (no-cons h [] (sym e))
-  single-low k (a ∷ []) e s = let f : a ≡ h = cc in omega arith
-  single-low k (a ∷ b ∷ l) e s = let r = single-low (suc b) l e (s .1 .1) in omega arith
-
-  odd-in : (l : List ℕ) (q : ℕ) → single l ≡ h ∷ [] → q ≢ h → q ≢ p → partnerIn (l ++ (p ∷ [])) q ≡ partnerIn l q
+  pub odd-in : (l : List ℕ) (q : ℕ) → single l ≡ h ∷ [] → q ≢ h → q ≢ p → partnerIn (l ++ (p ∷ [])) q ≡ partnerIn l q
   odd-in [] q e n m = absurd (no-cons h [] (sym e))
   odd-in (a ∷ []) q e n m = let f : a ≡ h = cc in in-rest a p [] q (λ g. n (g ∙ f)) m
   odd-in (a ∷ b ∷ l) q e n m = ap (λ (x : ℕ). if (eqb q a) b (if (eqb q b) a x)) (odd-in l q e n m)
 
-  odd-held : (k : ℕ) (l : List ℕ) → single l ≡ h ∷ [] → Rising k l → partnerIn (l ++ (p ∷ [])) h ≡ p
-  odd-held k [] e s = absurd (no-cons h [] (sym e))
-  odd-held k (a ∷ []) e s = let f : a ≡ h = cc in in-first a p [] h (sym f)
-  odd-held k (a ∷ b ∷ l) e s =
-      let r = single-low (suc b) l e (s .1 .1) in
-      in-rest a b (l ++ (p ∷ [])) h (omega arith) (omega arith) ∙ odd-held (suc b) l e (s .1 .1)
+  pub odd-held : (l : List ℕ) → single l ≡ h ∷ [] → Apart l → partnerIn (l ++ (p ∷ [])) h ≡ p
+  odd-held [] e s = absurd (no-cons h [] (sym e))
+  odd-held (a ∷ []) e s = let f : a ≡ h = cc in in-first a p [] h (sym f)
+  odd-held (a ∷ b ∷ l) e s =
+      in-rest a b (l ++ (p ∷ [])) h (single-has (λ r. r ≢ a) l e (s .0 .1)) (single-has (λ r. r ≢ b) l e (s .1 .0)) ∙ odd-held l e (s .1 .1)
 
-  odd-new : (l : List ℕ) → single l ≡ h ∷ [] → Every (λ r. r < p) l → partnerIn (l ++ (p ∷ [])) p ≡ h
+  pub odd-new : (l : List ℕ) → single l ≡ h ∷ [] → Every (λ r. r ≢ p) l → partnerIn (l ++ (p ∷ [])) p ≡ h
   odd-new [] e al = absurd (no-cons h [] (sym e))
-  odd-new (a ∷ []) e al = let f : a ≡ h = cc in let x = al .0 in in-second a p [] p (omega arith) refl ∙ f
-  odd-new (a ∷ b ∷ l) e al =
-      let x = al .0 in
-      let y = al .1 .0 in
-      in-rest a b (l ++ (p ∷ [])) p (omega arith) (omega arith) ∙ odd-new l e (al .1 .1)
+  odd-new (a ∷ []) e al = let f : a ≡ h = cc in in-second a p [] p (λ x. al .0 (sym x)) refl ∙ f
+  odd-new (a ∷ b ∷ l) e al = in-rest a b (l ++ (p ∷ [])) p (λ x. al .0 (sym x)) (λ x. al .1 .0 (sym x)) ∙ odd-new l e (al .1 .1)
 
 -- ---- one more position
 abbrev pub Mated : List ℕ → List ℕ → List ℕ → ℕ → Type 0
@@ -145,32 +130,32 @@ module _ (table l : List ℕ) (p : ℕ) where
         → Mated table new (l ++ (p ∷ [])) p
         → Every (Mated table new (l ++ (p ∷ []))) (l ++ (p ∷ []))
     linked new old own =
-        every-snoc (Mated table new (l ++ (p ∷ []))) l p (every-two (λ r. r < p) (Mated table mates l) (Mated table new (l ++ (p ∷ []))) old l below mated) own
+        every-snoc (Mated table new (l ++ (p ∷ []))) l p (every-both (λ r. r < p) (Mated table mates l) (Mated table new (l ++ (p ∷ []))) old l below mated) own
 
     even-mated : single here ≡ [] → Every (Mated table (set (set mates p p) p p) (l ++ (p ∷ []))) (l ++ (p ∷ []))
     even-mated e =
         linked (set (set mates p p) p p)
         (λ r h m. getD-set-other (set mates p p) p r p 0 (omega arith) ∙ getD-set-other mates p r p 0 (omega arith) ∙ m ∙ mate-stays r (even-in here p r e))
-        (getD-set-same (set mates p p) p p 0 (rw (length-set mates p p) p-lt) ∙ sym (mate-same p refl ∙ even-in here p p e ∙ none-at here p here-below))
+        (getD-set-same (set mates p p) p p 0 (rw (length-set mates p p) p-lt) ∙ sym (mate-same p refl ∙ even-in here p p e ∙ in-none here p (every-map (λ r. r < p) (λ r. r ≢ p) (λ r a. omega arith) here here-below)))
 
     odd-mated : (h : ℕ) → single here ≡ h ∷ [] → Every (Mated table (set (set mates p h) h p) (l ++ (p ∷ []))) (l ++ (p ∷ []))
     odd-mated h e =
         linked (set (set mates p h) h p)
         (λ r g m. byEq r h (λ f. rw f held)
         (λ n. getD-set-other (set mates p h) h r p 0 n ∙ getD-set-other mates p r h 0 (omega arith) ∙ m ∙ mate-stays r (odd-in p h here r e n (omega arith))))
-        (getD-set-other (set mates p h) h p p 0 (omega (arith, h-is .0)) ∙ getD-set-same mates p h 0 p-lt ∙ sym (mate-same p refl ∙ odd-new p h here e here-below))
+        (getD-set-other (set mates p h) h p p 0 (omega (arith, h-is .0)) ∙ getD-set-same mates p h 0 p-lt ∙ sym (mate-same p refl ∙ odd-new p h here e (every-map (λ r. r < p) (λ r. r ≢ p) (λ r a. omega arith) here here-below)))
       where
         h-is : Here h
-        h-is = single-every p h Here here e here-every
+        h-is = single-has p h Here here e here-every
 
         held : Mated table (set (set mates p h) h p) (l ++ (p ∷ [])) h
         held =
             getD-set-same (set mates p h) h p 0 (rw (length-set mates p h) (omega (arith, h-is .0)))
             ∙ sym (mate-same h (sym (eqb-true (portIn table h) (portIn table p) (h-is .1)))
-            ∙ odd-held p h 0 here e (rising-keep (λ r. eqb (portIn table r) (portIn table p)) 0 l rising))
+            ∙ odd-held p h here e (rising-apart 0 here (rising-keep (λ r. eqb (portIn table r) (portIn table p)) 0 l rising)))
 
 -- ---- positions below 528
-set-low : (l : List ℕ) (a v r : ℕ) → getD l r 0 < 528 → v < 528 → getD (set l a v) r 0 < 528
+pub set-low : (l : List ℕ) (a v r : ℕ) → getD l r 0 < 528 → v < 528 → getD (set l a v) r 0 < 528
 set-low l a v r h k =
     byEq r a
     (λ e. byLt a (length l)
@@ -181,25 +166,20 @@ set-low l a v r h k =
 pub own-low : {odds : List ℕ} {i k p a : ℕ} → Odds odds k → i < k → p ≡ getD odds i 0 → a ≡ p → a < 528
 own-low o h e f = rw f (position-low (o .positions) h e)
 
-choice-low : (b : Bool) (h p : ℕ) → h < 528 → p < 528 → if b h p < 528
+pub choice-low : (b : Bool) (h p : ℕ) → h < 528 → p < 528 → if b h p < 528
 choice-low true h p a c = a
 choice-low false h p a c = c
 
 -- ---- the state of the loop
--- h waits among l, or none does
-abbrev pub Waits : Bool → ℕ → List ℕ → Type 0
-Waits true h l = single l ≡ h ∷ []
-Waits false h l = single l ≡ []
-
 pub record Links (table odds : List ℕ) (i : ℕ) (mates held : List ℕ) (waits : List Bool) : Type 0 where
   pub mates-low : Mates mates
-  pub held-low : (x : ℕ) → x < 16 → getD held x 0 < 528
-  pub helds : length held ≡ 16
-  pub flags : length waits ≡ 16
+  pub held-low : (x : ℕ) → x < 64 → getD held x 0 < 528
+  pub helds : length held ≡ 64
+  pub flags : length waits ≡ 64
   pub mated : Every (Mated table mates (take i odds)) (take i odds)
-  pub ports : (x : ℕ) → x < 16 → Waits (getD waits x false) (getD held x 0) (thoseAt table x (take i odds))
+  pub ports : (x : ℕ) → x < 64 → Waits (getD waits x false) (getD held x 0) (thoseAt table x (take i odds))
 
-waits-next : (b : Bool) (h : ℕ) (l : List ℕ) (p : ℕ) → Waits b h l → Waits (not b) p (l ++ (p ∷ []))
+pub waits-next : (b : Bool) (h : ℕ) (l : List ℕ) (p : ℕ) → Waits b h l → Waits (not b) p (l ++ (p ∷ []))
 waits-next true h l p o = odd-single p h l o
 waits-next false h l p o = even-single l p o
 
@@ -209,35 +189,49 @@ mated-next : (table l : List ℕ) (p : ℕ) (mates : List ℕ) → Rising 0 (l +
 mated-next table l p mates up p-lt mated true h q o e = let s = rising-snoc 0 l p up in rw e (odd-mated table l p mates (s .0) (s .1) p-lt mated h o)
 mated-next table l p mates up p-lt mated false h q o e = let s = rising-snoc 0 l p up in rw e (even-mated table l p mates (s .0) (s .1) p-lt mated o)
 
-module _ (table l : List ℕ) (p : ℕ) (held : List ℕ) (waits : List Bool) (hl : length held ≡ 16) (wl : length waits ≡ 16)
-    (ports : (x : ℕ) → x < 16 → Waits (getD waits x false) (getD held x 0) (thoseAt table x l)) where
-  ports-next : (x : ℕ) → x < 16
+module _ (table l : List ℕ) (p : ℕ) (held : List ℕ) (waits : List Bool) (hl : length held ≡ 64) (wl : length waits ≡ 64)
+    (ports : (x : ℕ) → x < 64 → Waits (getD waits x false) (getD held x 0) (thoseAt table x l)) where
+  ports-next : (x : ℕ) → x < 64
       → Waits (getD (set waits (portIn table p) (not (getD waits (portIn table p) false))) x false) (getD (set held (portIn table p) p) x 0) (thoseAt table x (l ++ (p ∷ [])))
   ports-next x h =
       let at = portIn table p in
       let was = getD waits (portIn table p) false in
       byEq x (portIn table p)
       (λ e.
-      let lt : portIn table p < 16 = mod-lt (lookup table p) {m = 16} (omega arith) in
+      let lt : portIn table p < 64 = mod-lt (lookup table p) {m = 64} (omega arith) in
       rw (e, getD-set-same waits (portIn table p) (not was) false (omega arith), getD-set-same held (portIn table p) p 0 (omega arith), same-port table l p)
       (waits-next was (getD held (portIn table p) 0) (thoseAt table (portIn table p) l) p (ports (portIn table p) lt)))
       (λ n.
       let n′ : portIn table p ≢ x = λ e. n (sym e) in
       rw (getD-set-other waits (portIn table p) x (not was) false n, getD-set-other held (portIn table p) x p 0 n, other-port table l p x n′) (ports x h))
 
-pub links-start : (table odds mates : List ℕ) → Mates mates → (held : List ℕ) (waits : List Bool) → length held ≡ 16
-    → length waits ≡ 16 → ((x : ℕ) → x < 16 → getD held x 0 ≡ 0) → ((x : ℕ) → x < 16 → getD waits x false ≡ false)
-    → Links table odds 0 mates held waits
-links-start table odds mates m held waits a b y z =
-    record { mates-low = m; held-low = λ x h. omega (arith, y x h); helds = a; flags = b; mated = tt; ports = λ x h. rw (z x h) refl }
+pub links-start : {table odds mates held : List ℕ} {waits : List Bool} → Mates mates → Free held waits → Links table odds 0 mates held waits
+links-start m f =
+    record {
+      mates-low = m;
+      held-low = λ x h. omega (arith, f .low x h);
+      helds = f .helds;
+      flags = f .flags;
+      mated = tt;
+      ports = λ x h. rw (f .none x h) refl;
+    }
+
+pub all-free : Free (replicate 64 0) (replicate 64 false)
+all-free =
+    record {
+      helds = length-replicate {A = ℕ} 64 0;
+      flags = length-replicate 64 false;
+      low = λ x h. getD-replicate 64 x 0 0 h;
+      none = λ x h. getD-replicate 64 x false false h;
+    }
 
 pub other-low : {table odds : List ℕ} {i : ℕ} {mates held : List ℕ} {waits : List Bool} {p x q t k : ℕ}
-    → Links table odds i mates held waits → Odds odds k → i < k → p ≡ getD odds i 0 → x < 16
+    → Links table odds i mates held waits → Odds odds k → i < k → p ≡ getD odds i 0 → x < 64
     → q ≡ if (getD waits x false) (getD held x 0) p → t ≡ q → t < 528
 other-low {held = held} {waits} {p} {x} s o h e y u v = rw (v, u) (choice-low (getD waits x false) (getD held x 0) p (s .held-low x y) (own-low o h e refl))
 
 pub links-on : {table odds : List ℕ} {i : ℕ} {mates held : List ℕ} {waits : List Bool} {p a x q t k : ℕ}
-    → Links table odds i mates held waits → i < k → Odds odds k → p ≡ getD odds i 0 → a ≡ p → x ≡ getD table a 0 % 16 → q ≡ if (getD waits x false) (getD held x 0) p → t ≡ q
+    → Links table odds i mates held waits → i < k → Odds odds k → p ≡ getD odds i 0 → a ≡ p → x ≡ getD table a 0 % 64 → q ≡ if (getD waits x false) (getD held x 0) p → t ≡ q
     → Links table odds (i + 1) (set (set mates a q) t p) (set held x p) (set waits x (not (getD waits x false)))
 links-on {table} {odds} {i} {mates} {held} {waits} {p} {a} {x} {q} {t} {k} s h o e f y u v =
     let g : i < length odds = omega (arith, o .positions .len, o .positions .most) in
@@ -245,7 +239,7 @@ links-on {table} {odds} {i} {mates} {held} {waits} {p} {a} {x} {q} {t} {k} s h o
     let x′ : x ≡ portIn table p = y ∙ ap (portIn table) f in
     let l′ : take (i + 1) odds ≡ take i odds ++ (p ∷ []) = rw (add-one, e) (take-suc odds i 0 g) in
     let u′ : q ≡ if (getD waits (portIn table p) false) (getD held (portIn table p) 0) p = rw x′ at u in
-    let lt : portIn table p < 16 = mod-lt (lookup table p) {m = 16} (omega arith) in
+    let lt : portIn table p < 64 = mod-lt (lookup table p) {m = 64} (omega arith) in
     let p-lt : p < length mates = omega (arith, s .mates-low .len) in
     let up′ = rw l′ at (rising-take 0 (i + 1) k odds (omega arith) (o .rising)) in
     let q-lt : q < 528 = other-low s o h e (rw x′ lt) u refl in
@@ -262,6 +256,12 @@ links-on {table} {odds} {i} {mates} {held} {waits} {p} {a} {x} {q} {t} {k} s h o
       ports = rw (l′, x′) (ports-next table (take i odds) p held waits (s .helds) (s .flags) (s .ports));
     }
 
-pub links-end : {table odds : List ℕ} {i k : ℕ} {mates held : List ℕ} {waits : List Bool}
-    → Links table odds i mates held waits → i ≤ k → k ≤ i → Linked table odds k mates
-links-end {table} {odds} {i} {k} {mates} {held} {waits} s a b = let e : k ≡ i = omega arith in record { mates-low = s .mates-low; same = rw e (s .mated) }
+module _ {table odds : List ℕ} {i k : ℕ} {mates held : List ℕ} {waits : List Bool} (s : Links table odds i mates held waits) (a : i ≤ k) (b : k ≤ i) where
+  all-linked : k ≡ i
+  all-linked = omega arith
+
+  pub links-mated : Linked table odds k mates
+  links-mated = record { mates-low = s .mates-low; same = rw all-linked (s .mated) }
+
+  pub links-held : Held table odds k held waits
+  links-held = record { waiting = record { helds = s .helds; flags = s .flags; low = s .held-low }; ports = rw all-linked (s .ports) }

@@ -23,10 +23,6 @@ every-snoc P [] p a h = (h, tt)
 every-snoc P (x ∷ l) p a h = (a .0, every-snoc P l p (a .1) h)
 
 -- ---- what holds of each
-pub every-two : (P Q R : ℕ → Type 0) → ((r : ℕ) → P r → Q r → R r) → (l : List ℕ) → Every P l → Every Q l → Every R l
-every-two P Q R f [] a b = tt
-every-two P Q R f (x ∷ l) a b = (f x (a .0) (b .0), every-two P Q R f l (a .1) (b .1))
-
 pub every-get : (P : ℕ → Type 0) (j k : ℕ) (l : List ℕ) → Every P (take k l) → j < k → j < length l → P (getD l j 0)
 every-get P j zero l a h g = absurd (omega arith)
 every-get P j (suc k) [] a h g = absurd (omega arith)

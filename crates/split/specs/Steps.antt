@@ -1,14 +1,16 @@
 -- The steps of a split, as functions of the lists that they are lent.
-use Prim.Native.Nat.{ℕ, suc, _+_, _-_, _/_, _%_, _≤_, _<_}
+use Prim.Native.Nat.{ℕ, suc, zero, _+_, _*_, _-_, _/_, _%_, _≤_, _<_}
 use mathlib.Core.Path.{_≡_}
 use mathlib.Core.Logic.{_≢_}
-use mathlib.Core.List.{List, [], _∷_}
+use mathlib.Core.List.{List, [], _∷_, _++_}
+use mathlib.Core.Bool.{Bool, true, false}
 use lib.Dec.{eqb}
 use lib.ListN.{length, getD, set, take}
-use Rattle.model.specs.Words.{if, bit, keep, Every}
-use Rattle.model.specs.Flows.{Side, inputs, outputs}
-use Rattle.model.specs.Schedule.{partnerIn, walk, favouring, level, favours}
-use Rattle.model.proofs.Partners.{Rising}
+use Rattle.model.specs.Words.{if, bit, upFrom, keep, Every}
+use Rattle.model.specs.Flows.{Side, inputs, links, outputOf}
+use Rattle.model.specs.Rules.{odd, single}
+use Rattle.model.specs.Schedule.{partnerIn, outputPartner, walk, favouring, level, favours}
+use Rattle.model.proofs.Partners.{Rising, Apart}
 use Rattle.planes.specs.Planes.{digitAt, counts, Mask}
 
 -- ---- positions
@@ -20,15 +22,21 @@ Wide l = length l ≡ 528
 abbrev pub lookup : List ℕ → ℕ → ℕ
 lookup table p = getD table p 0
 
--- The port of a position on each side, by two tables.
+-- The input and the link of a position, by two tables.
 abbrev pub tabled : List ℕ → List ℕ → Side → ℕ → ℕ
 tabled ins outs inputs = lookup ins
-tabled ins outs outputs = lookup outs
+tabled ins outs links = lookup outs
 
--- Two tables have ports below 16 for the first n positions.
+-- Two tables have inputs and links below 64 for the first n positions.
 pub record Sides (n : ℕ) (ins outs : List ℕ) : Type 0 where
   pub most : n ≤ 528
-  pub low : (s : Side) (p : ℕ) → p < n → tabled ins outs s p < 16
+  pub low : (s : Side) (p : ℕ) → p < n → tabled ins outs s p < 64
+
+-- From so many outputs on, each has positions on its first link alone.
+pub record Shared (n outputs : ℕ) (outs : List ℕ) : Type 0 where
+  pub most : outputs ≤ 16
+  pub low : (p : ℕ) → p < n → lookup outs p < 64
+  pub others : (p : ℕ) → p < n → outputs ≤ outputOf (lookup outs p) → lookup outs p % 4 ≡ 0
 
 -- The first k of a list are positions; and they rise.
 pub record Positions (list : List ℕ) (k : ℕ) : Type 0 where
@@ -46,9 +54,9 @@ pub record Mates (mates : List ℕ) : Type 0 where
   pub low : (p : ℕ) → lookup mates p < 528
 
 -- ---- partners
--- The port that a table has for a position, as one of 16.
+-- The port or the link that a table has for a position, as one of 64.
 abbrev pub portIn : List ℕ → ℕ → ℕ
-portIn table p = lookup table p % 16
+portIn table p = lookup table p % 64
 
 -- Those of a list at port x.
 abbrev pub thoseAt : List ℕ → ℕ → List ℕ → List ℕ
@@ -58,10 +66,60 @@ thoseAt table x l = keep (λ p. eqb (portIn table p) x) l
 abbrev pub mateAmong : List ℕ → List ℕ → ℕ → ℕ
 mateAmong table l p = partnerIn (thoseAt table (portIn table p) l) p
 
+-- h waits among those of a list, or none does.
+abbrev pub Waits : Bool → ℕ → List ℕ → Type 0
+Waits true h l = single l ≡ h ∷ []
+Waits false h l = single l ≡ []
+
+-- Nothing waits at any of 64 ports; and what waits at each after the first k of a list.
+pub record Free (held : List ℕ) (waits : List Bool) : Type 0 where
+  pub helds : length held ≡ 64
+  pub flags : length waits ≡ 64
+  pub low : (x : ℕ) → x < 64 → getD held x 0 ≡ 0
+  pub none : (x : ℕ) → x < 64 → getD waits x false ≡ false
+
+-- Whatever waits is a position.
+pub record Waiting (held : List ℕ) (waits : List Bool) : Type 0 where
+  pub helds : length held ≡ 64
+  pub flags : length waits ≡ 64
+  pub low : (x : ℕ) → x < 64 → getD held x 0 < 528
+
+pub record Held (table odds : List ℕ) (k : ℕ) (held : List ℕ) (waits : List Bool) : Type 0 where
+  pub waiting : Waiting held waits
+  pub ports : (x : ℕ) → x < 64 → Waits (getD waits x false) (getD held x 0) (thoseAt table x (take k odds))
+
 -- The mates have for each of the first k of a list its partner among them.
 pub record Linked (table odds : List ℕ) (k : ℕ) (mates : List ℕ) : Type 0 where
   pub mates-low : Mates mates
   pub same : Every (λ p. lookup mates p ≡ mateAmong table (take k odds) p) (take k odds)
+
+-- Those that wait at n ports from x on, in their order.
+abbrev pub heldAt : List ℕ → List Bool → ℕ → List ℕ
+heldAt held waits x = if (getD waits x false) (getD held x 0 ∷ []) []
+
+abbrev pub heldFrom : List ℕ → List Bool → ℕ → ℕ → List ℕ
+heldFrom held waits x zero = []
+heldFrom held waits x (suc n) = heldAt held waits x ++ heldFrom held waits (suc x) n
+
+-- Two are linked both ways, if the one comes.
+pub record LinkedBoth (comes : Bool) (p q : ℕ) (before mates : List ℕ) : Type 0 where
+  pub same : mates ≡ if comes (set (set before p q) q p) before
+
+-- Those of a list without one twice have their partners in it, and all others what they had.
+pub record Joins (l before mates : List ℕ) : Type 0 where
+  pub mates-low : Mates mates
+  pub mated : Apart l → Every (λ r. lookup mates r ≡ partnerIn l r) l
+  pub kept : Apart l → (r : ℕ) → Every (λ p. p ≢ r) l → lookup mates r ≡ lookup before r
+
+-- The first k of a list are the odd counts of m, by rising position.
+abbrev pub OddsOf : List ℕ → ℕ → List ℕ → Type 0
+OddsOf odds k m = take k odds ≡ keep (odd m) (upFrom 0 (length m))
+
+-- The mates have for each of them its partner at its output, where only the first outputs have positions on several links.
+pub record LinkedOut (outputs : ℕ) (table odds : List ℕ) (k : ℕ) (mates : List ℕ) : Type 0 where
+  pub mates-low : Mates mates
+  pub same : (m : List ℕ) → OddsOf odds k m → Shared (length m) outputs table → (p : ℕ) → odd m p ≡ true
+      → lookup mates p ≡ outputPartner (portIn table) m p
 
 -- ---- groups
 -- The walk from p, which favours half h, by two tables of mates in turn.

@@ -3,37 +3,39 @@ mod groups;
 mod partners;
 
 use groups::settle;
-use partners::link;
+use partners::link_inputs;
+use partners::link_outputs;
 use planes::gather::gather;
 use planes::mark::mark;
 ghost use mathlib.Core.Path.{_≡_};
 ghost use lib.ListN.{length};
 ghost use Rattle.planes.specs.Planes.{Ends, oddsIn};
-ghost use Rattle.split.specs.Steps.{Sides, Scratch, Favours};
+ghost use Rattle.split.specs.Steps.{Sides, Shared, Scratch, Favours};
 
-// The split knows of ports by the tables alone. Its answer is how many counts were odd, and so settled; the mask has those that
+// The split knows of inputs and links by the tables alone, and of outputs that several links may share by their number. Its answer is how many counts were odd, and so settled; the mask has those that
 // favour the first half. The lists are lent, for clearing them in every block would take longer than filling them.
 pub fn split(
     planes: &[u64; 99],
     n: usize,
     ins: &[u8; 528],
     outs: &[u8; 528],
+    outputs: usize,
     odds: &mut [u16; 528],
     in_mates: &mut [u16; 528],
     out_mates: &mut [u16; 528],
     group: &mut [u16; 528],
     mask: &mut [u64; 9],
 ) -> usize
-    requires { ⌜ Ends n (now planes) × Sides n (now ins) (now outs) × (length (now mask) ≡ 9)
-        × Scratch (now odds) (now «in_mates») (now «out_mates») (now group) ⌝ }
+    requires { ⌜ Ends n (now planes) × Sides n (now ins) (now outs) × Shared n outputs (now outs)
+        × (length (now mask) ≡ 9) × Scratch (now odds) (now «in_mates») (now «out_mates») (now group) ⌝ }
     ensures { λ r. ⌜ (r ≡ length (oddsIn n (now (planes .entry))))
         × Favours 1 n (now (planes .entry)) (now (ins .entry)) (now (outs .entry)) (now (mask .exit))
         × Scratch (now (odds .exit)) (now («in_mates» .exit)) (now («out_mates» .exit)) (now (group .exit)) ⌝ }
 {
     let mut favoured = [0u8; 528];
     let k = gather(planes, n, odds);
-    link(odds, k, ins, in_mates);
-    link(odds, k, outs, out_mates);
+    link_inputs(odds, k, ins, in_mates);
+    link_outputs(odds, k, outs, outputs, out_mates);
     settle(odds, k, in_mates, out_mates, group, &mut favoured);
     mark(planes, n, &favoured, mask);
     k

@@ -1,16 +1,18 @@
-// Partners: at each port of a side, the odd counts first with second, third with fourth, and so on.
+// Partners: the odd counts of an input, or of a link, first with second, third with fourth, and so on; and of those that the links of an
+// output leave single, by rising link, the same.
 use widths::byte;
 use widths::number;
 ghost use mathlib.Core.Path.{_≡_};
-ghost use Prim.Native.Nat.{_%_, _<_};
+ghost use mathlib.Core.Bool.{not};
+ghost use Prim.Native.Nat.{_*_, _%_, _≤_, _<_};
 ghost use Rattle.model.specs.Words.{if};
-ghost use Rattle.split.specs.Steps.{Odds, Mates, Linked};
+ghost use Rattle.split.specs.Steps.{Odds, Mates, Free, Held, Linked, heldFrom, Waiting, LinkedBoth, Joins, LinkedOut};
 
-// A port is an index of 16 without a test.
+// A port or a link is an index of 64 without a test.
 fn port_index(x: u8) -> usize
-    ensures { λ r. ⌜ (r ≡ x % 16) × (r < 16) ⌝ }
+    ensures { λ r. ⌜ (r ≡ x % 64) × (r < 64) ⌝ }
 {
-    byte(x % 16)
+    byte(x % 64)
 }
 
 // The one that waits at the port; where none does, a count is its own until another comes.
@@ -20,13 +22,19 @@ fn mate(waits: bool, held: u16, own: u16) -> u16
     if waits { held } else { own }
 }
 
-// Links each both ways with no branch that depends on the counts; one that stays single is its own partner.
-pub(crate) fn link(odds: &[u16; 528], k: usize, table: &[u8; 528], mates: &mut [u16; 528])
-    requires { ⌜ Odds (now odds) k × Mates (now mates) ⌝ }
-    ensures { λ _. ⌜ Linked (now (table .entry)) (now (odds .entry)) k (now (mates .exit)) ⌝ }
+// Links each both ways with no branch that depends on the counts; one that stays single is its own partner, and is held.
+fn link(
+    odds: &[u16; 528],
+    k: usize,
+    table: &[u8; 528],
+    mates: &mut [u16; 528],
+    held: &mut [u16; 64],
+    waits: &mut [bool; 64],
+)
+    requires { ⌜ Odds (now odds) k × Mates (now mates) × Free (now held) (now waits) ⌝ }
+    ensures { λ _. ⌜ Linked (now (table .entry)) (now (odds .entry)) k (now (mates .exit))
+        × Held (now (table .entry)) (now (odds .entry)) k (now (held .exit)) (now (waits .exit)) ⌝ }
 {
-    let mut held = [0u16; 16];
-    let mut waits = [false; 16];
     let mut i: usize = 0;
     while i < k {
         let p = odds[i];
@@ -40,5 +48,73 @@ pub(crate) fn link(odds: &[u16; 528], k: usize, table: &[u8; 528], mates: &mut [
         held[port] = p;
         waits[port] = !waiting;
         i += 1;
+    }
+}
+
+// At each input.
+pub(crate) fn link_inputs(odds: &[u16; 528], k: usize, ins: &[u8; 528], mates: &mut [u16; 528])
+    requires { ⌜ Odds (now odds) k × Mates (now mates) ⌝ }
+    ensures { λ _. ⌜ Linked (now (ins .entry)) (now (odds .entry)) k (now (mates .exit)) ⌝ }
+{
+    let mut held = [0u16; 64];
+    let mut waits = [false; 64];
+    link(odds, k, ins, mates, &mut held, &mut waits);
+}
+
+// Whether one waits after one more, if that comes.
+fn waits_after(waits: bool, comes: bool) -> bool
+    ensures { λ r. ⌜ r ≡ if comes (not waits) waits ⌝ }
+{
+    if comes { !waits } else { waits }
+}
+
+// Links two both ways, if the one comes.
+fn link_both(comes: bool, p: u16, q: u16, mates: &mut [u16; 528])
+    requires { ⌜ (p < 528) × (q < 528) × Mates (now mates) ⌝ }
+    ensures { λ _. ⌜ LinkedBoth comes p q (now (mates .entry)) (now (mates .exit)) ⌝ }
+{
+    if comes {
+        mates[number(p)] = q;
+        mates[number(q)] = p;
+    }
+}
+
+// Those that the links of an output leave single, by rising link.
+fn link_singles(held: &[u16; 64], waits: &[bool; 64], output: usize, mates: &mut [u16; 528])
+    requires { ⌜ (output < 16) × Waiting (now held) (now waits) × Mates (now mates) ⌝ }
+    ensures { λ _. ⌜ Joins (heldFrom (now (held .entry)) (now (waits .entry)) (output * 4) 4) (now (mates .entry)) (now (mates .exit)) ⌝ }
+{
+    let mut one: u16 = 0;
+    let mut waiting = false;
+    let mut l: usize = 0;
+    while l < 4 {
+        let x = output * 4 + l;
+        let p = held[x];
+        let comes = waits[x];
+        link_both(comes, p, mate(waiting, one, p), mates);
+        one = mate(comes, p, one);
+        waiting = waits_after(waiting, comes);
+        l += 1;
+    }
+}
+
+// At each link, and then at each output that has others than its first.
+pub(crate) fn link_outputs(
+    odds: &[u16; 528],
+    k: usize,
+    outs: &[u8; 528],
+    outputs: usize,
+    mates: &mut [u16; 528],
+)
+    requires { ⌜ Odds (now odds) k × (outputs ≤ 16) × Mates (now mates) ⌝ }
+    ensures { λ _. ⌜ LinkedOut outputs (now (outs .entry)) (now (odds .entry)) k (now (mates .exit)) ⌝ }
+{
+    let mut held = [0u16; 64];
+    let mut waits = [false; 64];
+    link(odds, k, outs, mates, &mut held, &mut waits);
+    let mut o: usize = 0;
+    while o < outputs {
+        link_singles(&held, &waits, o, mates);
+        o += 1;
     }
 }

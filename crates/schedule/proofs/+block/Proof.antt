@@ -48,7 +48,7 @@ pub +block-spec : {M : Type 1} → statement M
     (block-at t)
     block.Post
     (λ c κs.
-    let pre = c .before .before .before .before .before .before .pre .1 in (block-ends (pre .3), sides-of (pre .2), refl, pre .4))
+    let pre = c .before .before .before .before .before .before .pre .1 in (block-ends (pre .3), sides-of (pre .2), pre .2 .at-outputs, refl, pre .4))
     (λ c κs.
     let two = c .before .before in
     let split = two .before in

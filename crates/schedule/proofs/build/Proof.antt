@@ -1,5 +1,5 @@
 use borrow.Author.Needs.{needs}
-use Rattle.schedule.proofs.Built.{done, list-done, taken, frame-done, load-done, accepts, fills}
+use Rattle.schedule.proofs.Built.{done, list-done, taken, frame-done, load-done, fillable, fills}
 use Rattle.schedule.proofs.build.Statement.{statement}
 use Rattle.schedule.proofs.build.Tie as tie
 
@@ -9,15 +9,15 @@ build-spec =
     (tie.spec
     (λ c κs. search needs)
     (λ c. search needs)
-    (λ c. done _ _ _ _ _ _ (search (needs, list-done)))
+    (λ c. done _ _ _ _ _ _ _ (search (needs, list-done)))
     (λ c. search needs)
     (λ c κs. search needs)
-    (λ c. done _ _ _ _ _ _ (search (needs, frame-done)))
+    (λ c. done _ _ _ _ _ _ _ (search (needs, frame-done)))
     (λ c κs. search (needs, taken))
     (λ c κs. search needs)
     (λ c. search needs)
-    (λ c. done _ _ _ _ _ _ (search (needs, load-done)))
+    (λ c. done _ _ _ _ _ _ _ (search (needs, load-done)))
     (λ c. search needs)
-    (λ c κs. search (needs, accepts))
+    (λ c κs. search (needs, fillable))
     (λ c. search needs)
-    (λ c. done _ _ _ _ _ _ (search (needs, fills))))
+    (λ c. done _ _ _ _ _ _ _ (search (needs, fills))))

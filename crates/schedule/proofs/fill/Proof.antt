@@ -37,7 +37,7 @@ fill-spec =
     let flows = load .before .before in
     let level = flows .before .levels-of .ensures in
     let pre = flows .before .before .before .before .pre in (
-      tables-of (well-taken (pre .well)) (tabled .tabulate .ensures) (flows .flows-of .ensures) .at-inputs,
+      tables-of (well-taken (pre .well)) (tabled .tabulate .ensures .0) (tabled .tabulate .ensures .1) (flows .flows-of .ensures) .at-inputs,
       block-ends (loaded-block pre level (flows .flows-of .ensures) (load .load .ensures)),
       omega (arith, load .load .ensures .len),
       one-slot _ (one .if1 .taken) (frame-size pre level),
@@ -52,7 +52,7 @@ fill-spec =
     let level = flows .before .levels-of .ensures in
     let start = flows .before .before .before .before in (
       all-settled (start .args .ports) (start .args .slots) level (flows .flows-of .ensures) (load .load .ensures) (none-settled _ _ (one .if1 .taken)),
-      all-filled (start .args .ports) (start .args .slots) level (flows .flows-of .ensures) (load .load .ensures) (tabled .tabulate .ensures)
+      all-filled (start .args .ports) (start .args .slots) level (flows .flows-of .ensures) (load .load .ensures) (tabled .tabulate .ensures .0)
           (frame-one _ _ _ _ _ _ _ (one .if1 .taken) (write .write .ensures)),
     ))
     (λ c κs.
@@ -66,7 +66,7 @@ fill-spec =
     let many = more .if1 .left in (
       omega arith,
       omega arith,
-      tables-of (well-taken (pre .well)) (tabled .tabulate .ensures) (flows .flows-of .ensures),
+      tables-of (well-taken (pre .well)) (tabled .tabulate .ensures .0) (tabled .tabulate .ensures .1) (flows .flows-of .ensures),
       loaded-block pre level (flows .flows-of .ensures) (load .load .ensures),
       blank-scratch,
       frame-size pre level,
@@ -80,5 +80,5 @@ fill-spec =
     let level = flows .before .levels-of .ensures in
     let start = flows .before .before .before .before in (
       all-settled (start .args .ports) (start .args .slots) level (flows .flows-of .ensures) (load .load .ensures) (block .block .ensures .0),
-      all-filled (start .args .ports) (start .args .slots) level (flows .flows-of .ensures) (load .load .ensures) (tabled .tabulate .ensures) (block .block .ensures .1),
+      all-filled (start .args .ports) (start .args .slots) level (flows .flows-of .ensures) (load .load .ensures) (tabled .tabulate .ensures .0) (block .block .ensures .1),
     )))

@@ -1,10 +1,7 @@
 use Prim.Native.Nat.{_≤_, _-_}
-use mathlib.Core.Path.{refl}
-use mathlib.Core.Bool.{false}
 use borrow.Author.Needs.{needs}
 use native.Mathlib.Omega.{arith}
-use lib.ListN.{getD-replicate}
-use Rattle.split.proofs.Linked.{Links, links-start, own-low, other-low, links-on, links-end}
+use Rattle.split.proofs.Linked.{Links, links-start, own-low, other-low, links-on, links-mated, links-held}
 use Rattle.split.proofs.partners.link.Statement.{statement}
 use Rattle.split.proofs.partners.link.Tie as tie
 
@@ -20,7 +17,7 @@ link-spec =
     (tie.spec
     Inv-loop
     μ-loop
-    (λ c. (omega arith, links-start _ _ _ (c .pre .1) _ _ refl refl (λ x h. getD-replicate 16 x 0 0 h) (λ x h. getD-replicate 16 x false false h)))
+    (λ c. (omega arith, links-start (c .pre .1) (c .pre .2)))
     (λ c. search needs)
     (λ c. search needs)
     (λ c κs. search needs)
@@ -41,4 +38,4 @@ link-spec =
     (λ c. search needs)
     (λ c. search needs)
     (λ c. (omega arith, search (needs, links-on)))
-    (λ c. search (needs, links-end)))
+    (λ c. (search (needs, links-mated), search (needs, links-held))))

@@ -1,0 +1,270 @@
+-- One more single one of an output: it is the partner of the one that waits there, or waits itself; and so the partners at all outputs.
+use Prim.Native.Nat.{ℕ, suc, zero, _+_, _*_, _%_, _≤_, _<_}
+use mathlib.Core.Path.{_≡_, refl, sym, ap, ap₂, _∙_, subst}
+use mathlib.Core.Logic.{_≢_, _⊎_, inl, inr, ⊎-elim}
+use mathlib.Core.List.{List, [], _∷_, _++_, append-nil, append-assoc}
+use mathlib.Core.Bool.{Bool, true, false, not}
+use native.Mathlib.Omega.{arith}
+use native.Mathlib.Numerals.{add-one}
+use lib.Dec.{eqb}
+use lib.ListN.{length, getD, set, take, length-set}
+use lib.Seq.{getD-set-same, getD-set-other}
+use Rattle.model.specs.Words.{if, upFrom, keep, Every}
+use Rattle.model.specs.Flows.{outputOf}
+use Rattle.model.specs.Rules.{odd, oddsAt, single, singlesOf}
+use Rattle.model.specs.Schedule.{partnerIn, partner, outputPartner}
+use Rattle.model.proofs.Cases.{byBool, byEq, byLt}
+use Rattle.model.proofs.Kept.{keep-keep}
+use Rattle.model.proofs.Partners.{every-map, in-none, Apart, odd-lt}
+use Rattle.model.proofs.Singles.{every-both, Single, singles-every, singles-apart, output-linked, output-single, one-link}
+use Rattle.split.specs.Steps.{lookup, Shared, Mates, portIn, thoseAt, mateAmong, Waits, Waiting, Held, Linked, heldAt, heldFrom, LinkedBoth, Joins, OddsOf, LinkedOut}
+use Rattle.split.proofs.Lists.{every-snoc, every-kept}
+use Rattle.split.proofs.Linked.{Mated, even-in, odd-in, odd-held, odd-new, single-has, set-low, choice-low, waits-next}
+
+-- ---- one more at the end of a list
+every-last : (P : ℕ → Type 0) (l : List ℕ) (p : ℕ) → Every P (l ++ (p ∷ [])) → Every P l × P p
+every-last P [] p al = (tt, al .0)
+every-last P (y ∷ l) p al = let r = every-last P l p (al .1) in ((al .0, r .0), r .1)
+
+apart-last : (l : List ℕ) (p : ℕ) → Apart (l ++ (p ∷ [])) → Apart l × Every (λ r. r ≢ p) l
+apart-last [] p a = (tt, tt)
+apart-last (x ∷ l) p a =
+    let r = apart-last l p (a .1) in
+    let e = every-last (λ y. y ≢ x) l p (a .0) in
+    ((e .0, r .0), ((λ d. e .1 (sym d)), r .1))
+
+-- ---- one more is linked
+mates-set : (mates : List ℕ) (p q : ℕ) → Mates mates → p < 528 → q < 528 → Mates (set (set mates p q) q p)
+mates-set mates p q m p-lt q-lt =
+    record {
+      len = length-set (set mates p q) q p ∙ length-set mates p q ∙ m .len;
+      low = λ r. set-low (set mates p q) q p r (set-low mates p q r (m .low r) q-lt) p-lt;
+    }
+
+module _ (l before mates : List ℕ) (p : ℕ) (j : Joins l before mates) (p-lt : p < 528) where
+  size : length mates ≡ 528
+  size = j .mates-low .len
+
+  -- none waits
+  join-even : Waits false 0 l → Joins (l ++ (p ∷ [])) before (set (set mates p p) p p)
+  join-even w =
+      record {
+        mates-low = mates-set mates p p (j .mates-low) p-lt p-lt;
+        mated = λ a.
+            let s = apart-last l p a in
+            every-snoc (λ r. lookup (set (set mates p p) p p) r ≡ partnerIn (l ++ (p ∷ [])) r) l p
+            (every-both (λ r. r ≢ p) (λ r. lookup mates r ≡ partnerIn l r) (λ r. lookup (set (set mates p p) p p) r ≡ partnerIn (l ++ (p ∷ [])) r)
+            (λ r n e. stays r n ∙ e ∙ sym (even-in l p r w)) l (s .1) (j .mated (s .0)))
+            (getD-set-same (set mates p p) p p 0 (omega (arith, length-set mates p p, size)) ∙ sym (even-in l p p w ∙ in-none l p (s .1)));
+        kept = λ a r al.
+            let e = every-last (λ q. q ≢ r) l p al in
+            stays r (λ d. e .1 (sym d)) ∙ j .kept (apart-last l p a .0) r (e .0);
+      }
+    where
+      stays : (r : ℕ) → r ≢ p → lookup (set (set mates p p) p p) r ≡ lookup mates r
+      stays r n = getD-set-other (set mates p p) p r p 0 n ∙ getD-set-other mates p r p 0 n
+
+  -- h waits
+  join-odd : (h : ℕ) → h < 528 → Waits true h l → Joins (l ++ (p ∷ [])) before (set (set mates p h) h p)
+  join-odd h h-lt w =
+      record {
+        mates-low = mates-set mates p h (j .mates-low) p-lt h-lt;
+        mated = λ a.
+            let s = apart-last l p a in
+            let n : h ≢ p = single-has p h (λ r. r ≢ p) l w (s .1) in
+            every-snoc (λ r. lookup (set (set mates p h) h p) r ≡ partnerIn (l ++ (p ∷ [])) r) l p
+            (every-both (λ r. r ≢ p) (λ r. lookup mates r ≡ partnerIn l r) (λ r. lookup (set (set mates p h) h p) r ≡ partnerIn (l ++ (p ∷ [])) r)
+            (λ r k e. byEq r h (λ f. rw f (held (s .0))) (λ f. stays r k f ∙ e ∙ sym (odd-in p h l r w f k))) l (s .1) (j .mated (s .0)))
+            (getD-set-other (set mates p h) h p p 0 (λ d. n (sym d)) ∙ getD-set-same mates p h 0 (omega (arith, size)) ∙ sym (odd-new p h l w (s .1)));
+        kept = λ a r al.
+            let e = every-last (λ q. q ≢ r) l p al in
+            stays r (λ d. e .1 (sym d)) (λ d. single-has p h (λ q. q ≢ r) l w (e .0) (sym d)) ∙ j .kept (apart-last l p a .0) r (e .0);
+      }
+    where
+      stays : (r : ℕ) → r ≢ p → r ≢ h → lookup (set (set mates p h) h p) r ≡ lookup mates r
+      stays r n k = getD-set-other (set mates p h) h r p 0 k ∙ getD-set-other mates p r h 0 n
+
+      held : Apart l → lookup (set (set mates p h) h p) h ≡ partnerIn (l ++ (p ∷ [])) h
+      held a = getD-set-same (set mates p h) h p 0 (omega (arith, length-set mates p h, size)) ∙ sym (odd-held p h l w a)
+
+  join-on : (b : Bool) (h q : ℕ) → h < 528 → Waits b h l → q ≡ if b h p → Joins (l ++ (p ∷ [])) before (set (set mates p q) q p)
+  join-on true h q h-lt w e = rw e (join-odd h h-lt w)
+  join-on false h q h-lt w e = rw e (join-even w)
+
+-- two are linked where the one comes, and none where it does not
+module _ {comes : Bool} {mates : List ℕ} {p q : ℕ} where
+  pub both-linked : {a b : ℕ} → comes ≡ true → a ≡ p → b ≡ q → LinkedBoth comes p q mates (set (set mates a q) b p)
+  both-linked e f g = record { same = rw (e, f, g) }
+
+  pub none-linked : comes ≡ false → LinkedBoth comes p q mates mates
+  none-linked e = record { same = rw e }
+
+-- ---- the single ones of an output
+held-last : (held : List ℕ) (waits : List Bool) (x n : ℕ) → heldFrom held waits x (suc n) ≡ heldFrom held waits x n ++ heldAt held waits (x + n)
+held-last held waits x zero = append-nil (heldAt held waits x) ∙ ap (heldAt held waits) (omega arith)
+held-last held waits x (suc n) =
+    let e : suc x + n ≡ x + suc n = omega arith in
+    ap (λ (l : List ℕ). heldAt held waits x ++ l) (held-last held waits (suc x) n ∙ ap (λ (y : ℕ). heldFrom held waits (suc x) n ++ heldAt held waits y) e)
+    ∙ sym (append-assoc (heldAt held waits x) (heldFrom held waits (suc x) n) (heldAt held waits (x + suc n)))
+
+-- so many links of an output have been looked at, and one waits or none does
+pub record Joining (held : List ℕ) (waits : List Bool) (x l : ℕ) (before mates : List ℕ) (waiting : Bool) (one : ℕ) : Type 0 where
+  pub joins : Joins (heldFrom held waits x l) before mates
+  pub waits-are : Waits waiting one (heldFrom held waits x l)
+  pub one-low : one < 528
+
+pub joining-start : {held : List ℕ} {waits : List Bool} {x : ℕ} {mates : List ℕ} → Mates mates → Joining held waits x 0 mates mates false 0
+joining-start m = record { joins = record { mates-low = m; mated = λ a. tt; kept = λ a r al. refl }; waits-are = refl; one-low = omega arith }
+
+pub comes-low : {held : List ℕ} {waits : List Bool} {o l p : ℕ} → Waiting held waits → o < 16 → l < 4 → p ≡ getD held (o * 4 + l) 0 → p < 528
+comes-low {o = o} {l} w a b e = let h : o * 4 + l < 64 = omega arith in omega (arith, w .low (o * 4 + l) h)
+
+pub partner-low : {held : List ℕ} {waits : List Bool} {x l : ℕ} {before mates : List ℕ} {waiting : Bool} {one p q : ℕ}
+    → Joining held waits x l before mates waiting one → p < 528 → q ≡ if waiting one p → q < 528
+partner-low {waiting = b} {one} {p} j h f = rw f (choice-low b one p (j .one-low) h)
+
+pub joining-on : {held : List ℕ} {waits : List Bool} {o l : ℕ} {before mates : List ℕ} {waiting : Bool} {one p q : ℕ} {comes : Bool} {new : List ℕ} {next : ℕ} {after : Bool}
+    → Joining held waits (o * 4) l before mates waiting one → Waiting held waits → o < 16 → l < 4 → p ≡ getD held (o * 4 + l) 0 → comes ≡ getD waits (o * 4 + l) false
+    → q ≡ if waiting one p → LinkedBoth comes p q mates new → next ≡ if comes p one → after ≡ if comes (not waiting) waiting
+    → Joining held waits (o * 4) (l + 1) before new after next
+joining-on {held} {waits} {o} {l} {before} {mates} {waiting} {one} {p} {q} {comes} {new} {next} {after} j w o-lt l-lt ep ec eq en ex ea =
+    byBool comes (λ c. come c) (λ c. stay c)
+  where
+    last : heldFrom held waits (o * 4) (l + 1) ≡ heldFrom held waits (o * 4) l ++ heldAt held waits (o * 4 + l)
+    last = rw add-one (held-last held waits (o * 4) l)
+
+    come : comes ≡ true → Joining held waits (o * 4) (l + 1) before new after next
+    come c =
+        let at : heldAt held waits (o * 4 + l) ≡ p ∷ [] = rw (sym ec ∙ c, sym ep) in
+        let e : heldFrom held waits (o * 4) (l + 1) ≡ heldFrom held waits (o * 4) l ++ (p ∷ []) = last ∙ ap (λ (r : List ℕ). heldFrom held waits (o * 4) l ++ r) at in
+        record {
+          joins = rw (e, en .same, c) (join-on (heldFrom held waits (o * 4) l) before mates p (j .joins) (comes-low w o-lt l-lt ep) waiting one q (j .one-low) (j .waits-are) eq);
+          waits-are = rw (e, ex, ea, c) (waits-next waiting one (heldFrom held waits (o * 4) l) p (j .waits-are));
+          one-low = rw (ex, c) (comes-low w o-lt l-lt ep);
+        }
+
+    stay : comes ≡ false → Joining held waits (o * 4) (l + 1) before new after next
+    stay c =
+        let at : heldAt held waits (o * 4 + l) ≡ [] = rw (sym ec ∙ c) in
+        let e : heldFrom held waits (o * 4) (l + 1) ≡ heldFrom held waits (o * 4) l =
+        last ∙ ap (λ (r : List ℕ). heldFrom held waits (o * 4) l ++ r) at ∙ append-nil (heldFrom held waits (o * 4) l) in
+        record { joins = rw (e, en .same, c) (j .joins); waits-are = rw (e, ex, ea, c) (j .waits-are); one-low = rw (ex, c) (j .one-low) }
+
+pub joining-end : {held : List ℕ} {waits : List Bool} {x l : ℕ} {before mates : List ℕ} {waiting : Bool} {one : ℕ}
+    → Joining held waits x l before mates waiting one → l ≤ 4 → 4 ≤ l → Joins (heldFrom held waits x 4) before mates
+joining-end {held} {waits} {x} {l} {before} {mates} j a b =
+    let e : l ≡ 4 = omega arith in subst (λ (n : ℕ). Joins (heldFrom held waits x n) before mates) e (j .joins)
+
+-- ---- what the links leave is what the definitions leave
+those-are : (table m : List ℕ) (x : ℕ) → thoseAt table x (keep (odd m) (upFrom 0 (length m))) ≡ oddsAt (portIn table) m x
+those-are table m x = keep-keep (odd m) (λ p. eqb (portIn table p) x) (upFrom 0 (length m))
+
+module _ (table odds held : List ℕ) (k : ℕ) (waits : List Bool) (h : Held table odds k held waits) (m : List ℕ) (e : OddsOf odds k m) where
+  held-single : (x : ℕ) → x < 64 → heldAt held waits x ≡ single (oddsAt (portIn table) m x)
+  held-single x l =
+      listed (getD waits x false) (getD held x 0) (thoseAt table x (take k odds)) (h .ports x l)
+      ∙ ap single (ap (thoseAt table x) e ∙ those-are table m x)
+    where
+      listed : (b : Bool) (one : ℕ) (r : List ℕ) → Waits b one r → if b (one ∷ []) [] ≡ single r
+      listed true one r w = sym w
+      listed false one r w = sym w
+
+  held-singles : (x n : ℕ) → x + n ≤ 64 → heldFrom held waits x n ≡ singlesOf (portIn table) m x n
+  held-singles x zero l = refl
+  held-singles x (suc n) l = ap₂ _++_ (held-single x (omega arith)) (held-singles (suc x) n (omega arith))
+
+-- ---- all outputs
+-- the single ones of an output
+abbrev singlesAt : List ℕ → List ℕ → ℕ → List ℕ
+singlesAt table m o = singlesOf (portIn table) m (o * 4) 4
+
+-- those of the first outputs have been linked
+pub record Outputs (table odds : List ℕ) (k o : ℕ) (before mates : List ℕ) : Type 0 where
+  pub mates-low : Mates mates
+  pub linked : (m : List ℕ) → OddsOf odds k m → (x : ℕ) → x < o → Every (λ r. lookup mates r ≡ partnerIn (singlesAt table m x) r) (singlesAt table m x)
+  pub kept : (m : List ℕ) → OddsOf odds k m → (r : ℕ) → ((x : ℕ) → x < o → Every (λ p. p ≢ r) (singlesAt table m x)) → lookup mates r ≡ lookup before r
+
+pub outputs-start : {table odds : List ℕ} {k : ℕ} {mates : List ℕ} → Mates mates → Outputs table odds k 0 mates mates
+outputs-start m = record { mates-low = m; linked = λ m e x h. absurd (omega arith); kept = λ m e r al. refl }
+
+-- a count of another output is none of them
+elsewhere : (table m : List ℕ) (x r : ℕ) → outputOf (portIn table r) ≢ x → Every (λ p. p ≢ r) (singlesAt table m x)
+elsewhere table m x r n =
+    every-map (Single (portIn table) m (x * 4) 4) (λ p. p ≢ r)
+    (λ p s d. let at = ap (portIn table) d in absurd (n (omega (arith, s .low, s .high)))) (singlesAt table m x) (singles-every (portIn table) m (x * 4) 4)
+
+pub outputs-on : {table odds : List ℕ} {k o outputs : ℕ} {before mates held : List ℕ} {waits : List Bool} {new : List ℕ}
+    → Outputs table odds k o before mates → Held table odds k held waits → o < outputs → outputs ≤ 16 → Joins (heldFrom held waits (o * 4) 4) mates new
+    → Outputs table odds k (o + 1) before new
+outputs-on {table} {odds} {k} {o} {outputs} {before} {mates} {held} {waits} {new} s h low most j =
+    record { mates-low = j .mates-low; linked = linked; kept = kept }
+  where
+    joins : (m : List ℕ) → OddsOf odds k m → Joins (singlesAt table m o) mates new
+    joins m e = rw (sym (held-singles table odds held k waits h m e (o * 4) 4 (omega arith))) j
+
+    linked : (m : List ℕ) → OddsOf odds k m → (x : ℕ) → x < o + 1 → Every (λ r. lookup new r ≡ partnerIn (singlesAt table m x) r) (singlesAt table m x)
+    linked m e x l =
+        let apart = singles-apart (portIn table) m (o * 4) 4 in
+        byEq x o (λ d. rw d (joins m e .mated apart))
+        (λ n. every-both (Single (portIn table) m (x * 4) 4) (λ r. lookup mates r ≡ partnerIn (singlesAt table m x) r) (λ r. lookup new r ≡ partnerIn (singlesAt table m x) r)
+        (λ r a b. joins m e .kept apart r (elsewhere table m o r (omega (arith, a .low, a .high))) ∙ b)
+        (singlesAt table m x) (singles-every (portIn table) m (x * 4) 4) (s .linked m e x (omega arith)))
+
+    kept : (m : List ℕ) → OddsOf odds k m → (r : ℕ) → ((x : ℕ) → x < o + 1 → Every (λ p. p ≢ r) (singlesAt table m x)) → lookup new r ≡ lookup before r
+    kept m e r al = joins m e .kept (singles-apart (portIn table) m (o * 4) 4) r (al o (omega arith)) ∙ s .kept m e r (λ x l. al x (omega arith))
+
+-- a number is one of a list of which P holds, or none of it
+every-or : (P : ℕ → Type 0) (l : List ℕ) (r : ℕ) → Every P l → P r ⊎ Every (λ p. p ≢ r) l
+every-or P [] r al = inr tt
+every-or P (x ∷ l) r al = byEq x r (λ e. inl (subst P e (al .0))) (λ n. ⊎-elim (λ a. inl a) (λ a. inr (n, a)) (every-or P l r (al .1)))
+
+module _ (table odds : List ℕ) (k outputs : ℕ) (before mates : List ℕ) (s : Outputs table odds k outputs before mates) (li : Linked table odds k before)
+    (m : List ℕ) (e : OddsOf odds k m) (p : ℕ) (od : odd m p ≡ true) where
+  abbrev own : ℕ
+  own = outputOf (portIn table p)
+
+  -- the partner at the link
+  at-link : lookup before p ≡ partner (portIn table) m p
+  at-link =
+      every-kept (Mated table before (keep (odd m) (upFrom 0 (length m)))) (odd m) 0 (length m)
+      (subst (λ (l : List ℕ). Every (Mated table before l) l) e (li .same)) p (omega arith) (omega (arith, odd-lt m p od)) od
+      ∙ ap (λ (l : List ℕ). partnerIn l p) (those-are table m (portIn table p))
+
+  -- one that is no single one of an output that was looked at has kept it
+  at-kept : ((x : ℕ) → x < outputs → Every (λ q. q ≢ p) (singlesAt table m x)) → lookup mates p ≡ partner (portIn table) m p
+  at-kept al = s .kept m e p al ∙ at-link
+
+  -- of an output that was looked at: it is one of its single ones, or none
+  looked : own < outputs → lookup mates p ≡ outputPartner (portIn table) m p
+  looked h =
+      ⊎-elim (λ a. a .0 ∙ sym (output-single (portIn table) m p (a .1))) none
+      (every-or (λ r. (lookup mates r ≡ partnerIn (singlesAt table m own) r) × (partner (portIn table) m r ≡ r)) (singlesAt table m own) p
+      (every-both (Single (portIn table) m (own * 4) 4) (λ r. lookup mates r ≡ partnerIn (singlesAt table m own) r)
+      (λ r. (lookup mates r ≡ partnerIn (singlesAt table m own) r) × (partner (portIn table) m r ≡ r)) (λ r a b. (b, a .alone))
+      (singlesAt table m own) (singles-every (portIn table) m (own * 4) 4) (s .linked m e own h)))
+    where
+      none : Every (λ q. q ≢ p) (singlesAt table m own) → lookup mates p ≡ outputPartner (portIn table) m p
+      none al =
+          let kept = at-kept (λ x l. byEq own x (λ d. subst (λ (y : ℕ). Every (λ q. q ≢ p) (singlesAt table m y)) d al) (λ d. elsewhere table m x p d)) in
+          byEq (partner (portIn table) m p) p
+          (λ d. kept ∙ d ∙ sym (output-single (portIn table) m p d ∙ in-none (singlesAt table m own) p al))
+          (λ d. kept ∙ sym (output-linked (portIn table) m p d))
+
+  -- of another, whose counts are all on its first link
+  others : Shared (length m) outputs table → outputs ≤ own → lookup mates p ≡ outputPartner (portIn table) m p
+  others sh h =
+      at-kept (λ x l. elsewhere table m x p (omega arith))
+      ∙ sym (one-link (portIn table) m own (λ q l at. let low = sh .low q l in let first = sh .others q l (omega arith) in omega arith) p refl)
+
+pub outputs-end : {table odds : List ℕ} {k o outputs : ℕ} {before mates : List ℕ}
+    → Outputs table odds k o before mates → Linked table odds k before → o ≤ outputs → outputs ≤ o → LinkedOut outputs table odds k mates
+outputs-end {table} {odds} {k} {o} {outputs} {before} {mates} s li low high =
+    let e : o ≡ outputs = omega arith in
+    let t = subst (λ (n : ℕ). Outputs table odds k n before mates) e s in
+    record {
+      mates-low = s .mates-low;
+      same = λ m is sh p od.
+          byLt (outputOf (portIn table p)) outputs
+          (λ h. looked table odds k outputs before mates t li m is p od h)
+          (λ h. others table odds k outputs before mates t li m is p od sh h);
+    }
