@@ -12,7 +12,7 @@ use mir.Syntax.{w64}
 use mir.Val.{Fits}
 use borrow.Author.Tests.{lt-ltb, le-ltb, lt-leb, le-leb, not-true, not-false}
 use Rattle.model.specs.Words.{first, near}
-use Rattle.model.specs.Flows.{flows, Class, flow, input, output, total}
+use Rattle.model.specs.Flows.{flows, Class, flow, input, output, link, total}
 use Rattle.model.specs.Frames.{runOf}
 use Rattle.model.specs.Refusals.{levels, report}
 use Rattle.model.specs.Inspect.{unbalanced, unbalancedNumber, firstAt, unbalancedAt, unbalancedBlock}
@@ -96,25 +96,47 @@ module _ (ports slots start half : ℕ) (list frame a b : List ℕ) (r : Readabl
       let d : 528 + i ≡ x = omega arith in
       class-far (output i) (omega arith) (ap (far a b) (d ∙ e) ∙ f)
 
-  pub total-far : (x : ℕ) → x ≡ first (far a b) 544 1 → x < 545 → true ≡ unbalanced ports list frame start half
+  pub link-far : (x : ℕ) → x ≡ first (far a b) 544 (ports * 4) → x < 544 + ports * 4 → true ≡ unbalanced ports list frame start half
+  link-far x e h =
+      let f = first-found (far a b) (ports * 4) 544 (omega arith) in
+      let l = first-low (far a b) (ports * 4) 544 in
+      let i = x - 544 in
+      let d : 544 + i ≡ x = omega arith in
+      class-far (link i) (omega arith) (ap (far a b) (d ∙ e) ∙ f)
+
+  pub total-far : (x : ℕ) → x ≡ first (far a b) 608 1 → x < 609 → true ≡ unbalanced ports list frame start half
   total-far x e h =
-      let f = first-found (far a b) 1 544 (omega arith) in
-      let l = first-low (far a b) 1 544 in
-      let d : 544 ≡ x = omega arith in
+      let f = first-found (far a b) 1 608 (omega arith) in
+      let l = first-low (far a b) 1 608 in
+      let d : 608 ≡ x = omega arith in
       class-far total tt (ap (far a b) (d ∙ e) ∙ f)
 
-  pub none-far : (n x y z t : ℕ) → n ≡ flows list → x ≡ first (far a b) 0 n → y ≡ first (far a b) 512 ports → z ≡ first (far a b) 528 ports
-      → t ≡ first (far a b) 544 1 → n ≤ x → 512 + ports ≤ y → 528 + ports ≤ z → 545 ≤ t → false ≡ unbalanced ports list frame start half
-  none-far n x y z t d ex ey ez et hx hy hz ht = sym (unbalanced-no ports list frame start half (λ c of. not-false _ (sym (far-class c of) ∙ near-at c of)))
+  pub none-far : (n x y z w t : ℕ) → n ≡ flows list → x ≡ first (far a b) 0 n → y ≡ first (far a b) 512 ports
+      → z ≡ first (far a b) 528 ports → w ≡ first (far a b) 544 (ports * 4) → t ≡ first (far a b) 608 1
+      → n ≤ x → 512 + ports ≤ y → 528 + ports ≤ z → 544 + ports * 4 ≤ w → 609 ≤ t
+      → false ≡ unbalanced ports list frame start half
+  none-far n x y z w t d ex ey ez ew et hx hy hz hw ht =
+      sym (unbalanced-no ports list frame start half (λ c of. not-false _ (sym (far-class c of) ∙ near-at c of)))
     where
       near-at : (c : Class) → In ports list c → far a b (place c) ≡ false
       near-at (flow f) of = first-before (far a b) n 0 f (omega arith) (omega arith)
       near-at (input i) of = first-before (far a b) ports 512 (512 + i) (omega arith) (omega arith)
       near-at (output o) of = first-before (far a b) ports 528 (528 + o) (omega arith) (omega arith)
-      near-at total of = first-before (far a b) 1 544 544 (omega arith) (omega arith)
+      near-at (link k) of = first-before (far a b) (ports * 4) 544 (544 + k) (omega arith) (omega arith)
+      near-at total of = first-before (far a b) 1 608 608 (omega arith) (omega arith)
 
-pub count-most : {ports slots n : ℕ} {list frame : List ℕ} → Readable ports slots list frame → n ≡ flows list → 0 + n ≤ 545
+pub count-most : {ports slots n : ℕ} {list frame : List ℕ} → Readable ports slots list frame → n ≡ flows list → 0 + n ≤ 609
 count-most r e = omega (arith, r .switch .few)
+
+module _ {ports slots : ℕ} {list frame : List ℕ} (r : Readable ports slots list frame) where
+  pub links-most : 544 + ports * 4 ≤ 609
+  links-most = omega (arith, r .switch .high)
+
+  pub links-fit : Fits w64 (ports * 4)
+  links-fit = record { fits = omega (arith, r .switch .high) }
+
+  pub links-end : Fits w64 (544 + ports * 4)
+  links-end = record { fits = omega (arith, r .switch .high) }
 
 -- ---- depths
 pub record Depths (ports slots k : ℕ) (list frame : List ℕ) (t count half : ℕ) : Type 0 where

@@ -28,8 +28,8 @@ fn apart(a: usize, b: usize) -> bool
 }
 
 // The first of some places where two tallies differ by more than 1; the place past them where there is none.
-fn first_far(a: &[u16; 545], b: &[u16; 545], from: usize, count: usize) -> usize
-    requires { ⌜ (from + count ≤ 545) × (length (now a) ≡ 545) × (length (now b) ≡ 545) ⌝ }
+fn first_far(a: &[u16; 609], b: &[u16; 609], from: usize, count: usize) -> usize
+    requires { ⌜ (from + count ≤ 609) × (length (now a) ≡ 609) × (length (now b) ≡ 609) ⌝ }
     ensures { λ r. ⌜ r ≡ first (far (now (a .entry)) (now (b .entry))) from count ⌝ }
 {
     let end = from + count;
@@ -43,7 +43,7 @@ fn first_far(a: &[u16; 545], b: &[u16; 545], from: usize, count: usize) -> usize
     x
 }
 
-// The two halves of a block, half slots each, differ by more than 1 for some flow, input or output, or in total.
+// The two halves of a block, half slots each, differ by more than 1 for some flow, input, output or link, or in total.
 fn unbalanced_at(
     ports: usize,
     slots: usize,
@@ -55,8 +55,8 @@ fn unbalanced_at(
     requires { ⌜ Readable ports slots (now list) (now frame) × (start + half + half ≤ slots) ⌝ }
     ensures { λ r. ⌜ r ≡ unbalanced ports (now (list .entry)) (now (frame .entry)) start half ⌝ }
 {
-    let mut front = [0u16; 545];
-    let mut back = [0u16; 545];
+    let mut front = [0u16; 609];
+    let mut back = [0u16; 609];
     tally_run(ports, slots, list, frame, start, half, &mut front);
     tally_run(ports, slots, list, frame, start + half, half, &mut back);
     let count = flows_of(list);
@@ -69,7 +69,10 @@ fn unbalanced_at(
     if first_far(&front, &back, 528, ports) < 528 + ports {
         return true;
     }
-    if first_far(&front, &back, 544, 1) < 545 {
+    if first_far(&front, &back, 544, ports * 4) < 544 + ports * 4 {
+        return true;
+    }
+    if first_far(&front, &back, 608, 1) < 609 {
         return true;
     }
     false

@@ -106,7 +106,7 @@ module _ {ports slots : ℕ} {list : List ℕ} (frame : List ℕ) {a : Answer} (
     lent e =
         let w = list-well is yes in
         record {
-          switch = record { low = w .rack .0; high = w .rack .1; few = w .few; ported = w .ported };
+          switch = record { low = w .rack .0; high = w .rack .1; few = w .few; ported = w .ported; linked = w .linked };
           power = omega (arith, power-level (w .power), w .power .most);
           size = eqb-true (length frame) (slots * ports) (not-false _ (sym length-is ∙ e));
         }

@@ -21,7 +21,8 @@ use Rattle.model.proofs.Levels.{levels-power}
 use Rattle.model.proofs.Halves.{load-flow}
 use Rattle.model.proofs.Flows.{counts-at}
 use Rattle.model.proofs.Cells.{run-all}
-use Rattle.tally.specs.Tally.{Switch, Readable, tallyOf}
+use Rattle.model.proofs.Reports.{Ported}
+use Rattle.tally.specs.Tally.{Readable, tallyOf}
 use Rattle.tally.proofs.Tallies.{tally-class}
 use Rattle.inspection.specs.Faults.{Lent, wrongIn}
 
@@ -29,7 +30,7 @@ use Rattle.inspection.specs.Faults.{Lent, wrongIn}
 pub idle-right : (list : List ℕ) (i e : ℕ) → e ≡ 0 → false ≡ not (right list i e)
 idle-right list i e z = rw z
 
-module _ {ports i e n : ℕ} {list : List ℕ} (s : Switch ports list) (at : i < ports) (some : e ≡ 0 → ⊥) (is : n ≡ flows list) where
+module _ (i e n : ℕ) (list : List ℕ) (ported : Ported 16 list) (some : e ≡ 0 → ⊥) (is : n ≡ flows list) where
   pub above-wrong : n < e → true ≡ not (right list i e)
   above-wrong h = rw (ne-eqb e 0 some, within-above 1 (flows list) e (omega arith) (omega arith))
 
@@ -40,7 +41,7 @@ module _ {ports i e n : ℕ} {list : List ℕ} (s : Switch ports list) (at : i <
   same-input : e ≤ n → {x : ℕ} → x ≡ numberOf 0 list (e - 1) → eqb x (i + 1) ≡ eqb (portOf list inputs (e - 1)) i
   unfolding portOf
   same-input h {x} d =
-      let w = s .ported inputs (e - 1) (flow-in h) in
+      let w = ported inputs (e - 1) (flow-in h) in
       byEq x (i + 1)
       (λ q. eq-eqb x (i + 1) q ∙ sym (eq-eqb (numberOf 0 list (e - 1) - 1) i (omega arith)))
       (λ q. ne-eqb x (i + 1) q ∙ sym (ne-eqb (numberOf 0 list (e - 1) - 1) i (λ z. q (omega arith))))
@@ -60,12 +61,19 @@ lent-low {ports} {slots} l = let k : slots * ports ≤ 1024 * 16 = mul-le-mul (s
 pub frame-low : {ports slots : ℕ} {list frame : List ℕ} → Readable ports slots list frame → slots * ports ≤ 16384
 frame-low {ports} {slots} r = let k : slots * ports ≤ 1024 * 16 = mul-le-mul (r .slots-most) (r .switch .high) in omega arith
 
+-- the ports of its flows are of the largest switch too
+pub lent-ported : {ports slots : ℕ} {list entries : List ℕ} → Lent ports slots list entries → Ported 16 list
+lent-ported l s f h = let w = l .switch .ported s f h in (w .0, omega (arith, w .1, l .switch .high))
+
 -- ---- the entries of a slot
 module _ {ports slots slot : ℕ} {list frame : List ℕ} (l : Lent ports slots list frame) (h : slot < slots) where
   pub from-fits : Fits w64 (slot * ports)
   from-fits = record { fits = (let m = mul-le-mul-right {m = slot} {n = slots} ports (omega arith) in let k = lent-low l in omega arith) }
 
   module _ {i : ℕ} (at : i < ports) where
+    pub input-low : i < 16
+    input-low = omega (arith, l .switch .high)
+
     pub place-low : slot * ports + i < length frame
     place-low = let m = mul-le-mul-right {m = suc slot} {n = slots} ports h in omega (arith, l .size)
 
@@ -111,7 +119,7 @@ module _ {ports slots n f : ℕ} {list frame tally : List ℕ} (r : Readable por
   pub counting-in : f < flows list
   counting-in = omega (arith, c .all)
 
-  pub counting-low : f < 545
+  pub counting-low : f < 609
   counting-low = omega (arith, c .all, r .switch .few)
 
   count-is : getD tally f 0 ≡ cells (flow f) ports list frame

@@ -6,7 +6,8 @@ ghost use Rattle.model.specs.Words.{first};
 ghost use Rattle.model.specs.Flows.{flows};
 ghost use Rattle.model.specs.Frames.{right, runOf};
 ghost use Rattle.model.specs.Inspect.{finding, isWrong, twiceIn, usedTwice, wrongCount, inspected};
-ghost use Rattle.tally.specs.Tally.{Switch, Readable};
+ghost use Rattle.model.proofs.Reports.{Ported};
+ghost use Rattle.tally.specs.Tally.{Readable};
 ghost use Rattle.inspection.specs.Faults.{Lent, wrongIn, faults};
 use admission::bad_length;
 use balance::unbalanced_block;
@@ -18,8 +19,8 @@ use model::Refusal;
 use tally::tally_run;
 
 // An entry of an input is neither 0 nor the number of a flow of that input.
-fn is_wrong(ports: usize, list: &[u16], input: usize, entry: usize) -> bool
-    requires { ⌜ Switch ports (now list) × (input < ports) ⌝ }
+fn is_wrong(list: &[u16], input: usize, entry: usize) -> bool
+    requires { ⌜ Ported 16 (now list) × (input < 16) ⌝ }
     ensures { λ r. ⌜ r ≡ not (right (now (list .entry)) input entry) ⌝ }
 {
     if entry == 0 {
@@ -40,7 +41,7 @@ fn lowest_wrong(ports: usize, slots: usize, list: &[u16], frame: &[u16], slot: u
     let mut i: usize = 0;
     while i < ports {
         let entry = widths::number(frame[from + i]);
-        if is_wrong(ports, list, i, entry) {
+        if is_wrong(list, i, entry) {
             return i;
         }
         i += 1;
@@ -69,7 +70,7 @@ fn lowest_twice(ports: usize, slots: usize, list: &[u16], frame: &[u16], slot: u
     requires { ⌜ Readable ports slots (now list) (now frame) × (slot < slots) ⌝ }
     ensures { λ r. ⌜ r ≡ first (twiceIn ports (now (list .entry)) (runOf ports slot 1 (now (frame .entry)))) 0 ports ⌝ }
 {
-    let mut tally = [0u16; 545];
+    let mut tally = [0u16; 609];
     tally_run(ports, slots, list, frame, slot, 1, &mut tally);
     let mut o: usize = 0;
     while o < ports {
@@ -102,7 +103,7 @@ fn first_wrong_count(ports: usize, slots: usize, list: &[u16], frame: &[u16]) ->
     requires { ⌜ Readable ports slots (now list) (now frame) ⌝ }
     ensures { λ r. ⌜ r ≡ first (wrongCount ports (now (list .entry)) (now (frame .entry))) 0 (flows (now (list .entry))) ⌝ }
 {
-    let mut tally = [0u16; 545];
+    let mut tally = [0u16; 609];
     tally_run(ports, slots, list, frame, 0, slots, &mut tally);
     let count = flows_of(list);
     let mut f: usize = 0;
@@ -141,7 +142,7 @@ fn first_fault(ports: usize, slots: usize, list: &[u16], frame: &[u16]) -> Inspe
     unbalanced_block(ports, slots, admission::levels_of(slots), list, frame)
 }
 
-// Inspect: 1, 2, 3, 21, 22, 4, then the faults.
+// Inspect: 1, 2, 3, 21, 22, 23, 4, then the faults.
 pub fn inspect(ports: usize, slots: usize, list: &[u16], frame: &[u16]) -> Inspection
     ensures { λ r. ⌜ finding r ≡ inspected ports slots (now (list .entry)) (now (frame .entry)) ⌝ }
 {

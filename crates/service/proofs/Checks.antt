@@ -11,6 +11,7 @@ use borrow.Author.Tests.{ltb-false, not-false, eqb-true}
 use Rattle.model.specs.Words.{within}
 use Rattle.model.specs.Refusals.{Check, report, clear, refusal, answered, listChecks, bad-frame, bad-slot}
 use Rattle.model.specs.Service.{classOf, whoWithin, bad-who, bad-length, repeated, lead, served, countChecks, service}
+use Rattle.model.specs.Flows.{links}
 use Rattle.model.specs.Frames.{cells}
 use Rattle.model.specs.declared.Answer.{Answer}
 use Rattle.model.specs.declared.Answer.the-variants.{Accepted}
@@ -26,7 +27,7 @@ use Rattle.model.proofs.Replies.{count, reply-refused, reply-counted}
 use Rattle.model.proofs.Demand2.{past-load, well-clear}
 use Rattle.admission.specs.Lists.{ListAnswer}
 use Rattle.admission.proofs.Listed.{list-refused, list-well}
-use Rattle.service.specs.Whom.{Asked}
+use Rattle.service.specs.Whom.{Sent, Asked}
 
 -- what comes after the checks of the list
 abbrev restOf : ℕ → ℕ → List ℕ → List ℕ → Who → ℕ → ℕ → List Check
@@ -67,6 +68,7 @@ module _ {ports slots : ℕ} {list : List ℕ} {a : Answer} (frame : List ℕ) (
               pub asked : Asked ports slots list frame who (start - 1) len
               asked =
                   let w = list-well is yes in
+                  let sent : Sent list = record { from-one = λ f h. w .ported links f h .0; linked = w .linked } in
                   let t = within-known {n = start} {most = slots} s s' in
                   record {
                     framed = record {
@@ -75,7 +77,7 @@ module _ {ports slots : ℕ} {list : List ℕ} {a : Answer} (frame : List ℕ) (
                       slots-most = omega (arith, w .power .is, power-most (w .power));
                       size = eqb-true (length frame) (slots * ports) (not-false _ (sym l ∙ l'));
                     };
-                    named = record { within-is = not-false (whoWithin ports list who) (sym p ∙ p'); ported = w .ported };
+                    named = record { within-is = not-false (whoWithin ports list who) (sym p ∙ p'); sent = sent };
                     start-is = omega (arith, t .0, t .1);
                     length-is = ltb-false 1000000 len (sym m ∙ m');
                   }

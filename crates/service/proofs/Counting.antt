@@ -10,7 +10,7 @@ use lib.Dec.{eqb}
 use lib.ListN.{length, getD, List·getD-eq-default}
 use borrow.Author.Tests.{ne-eqb}
 use Rattle.model.specs.Words.{both, bit, sumTo}
-use Rattle.model.specs.Flows.{Class, flow, input, output, total}
+use Rattle.model.specs.Flows.{Class, flow, input, output, link, total}
 use Rattle.model.specs.Frames.{counts, cells}
 use Rattle.model.proofs.Cases.{byLt}
 use Rattle.model.proofs.Sums.{sum-zero, sum-one, sum-append}
@@ -40,6 +40,7 @@ first-none : (c : Class) (list : List ℕ) (ports t e : ℕ) → firstEntry c < 
 first-none (flow f) list ports t e l h = absurd (omega arith)
 first-none (input i) list ports t e l h = elsewhere (t % ports) i _ (λ d. let m = mod-eq-of-lt {n = t} {m = ports} (omega arith) in omega arith)
 first-none (output o) list ports t e l h = absurd (omega arith)
+first-none (link x) list ports t e l h = absurd (omega arith)
 first-none total list ports t e l h = absurd (omega arith)
 
 -- none between one and the next
@@ -48,6 +49,7 @@ between-none : (c : Class) (list : List ℕ) (ports q t e : ℕ) → q % nextEnt
 between-none (flow f) list ports q t e at l n = absurd (n (omega arith))
 between-none (input i) list ports q t e at l n = elsewhere ((q + t) % ports) i _ (λ d. n (remainder-moves q t ports l (d ∙ sym at)))
 between-none (output o) list ports q t e at l n = absurd (n (omega arith))
+between-none (link x) list ports q t e at l n = absurd (n (omega arith))
 between-none total list ports q t e at l n = absurd (n (omega arith))
 
 -- at each the entry alone decides
@@ -55,6 +57,7 @@ here-counts : (c : Class) (list : List ℕ) (ports q e : ℕ) → q % nextEntry 
 here-counts (flow f) list ports q e at = refl
 here-counts (input i) list ports q e at = rw at
 here-counts (output o) list ports q e at = refl
+here-counts (link x) list ports q e at = refl
 here-counts total list ports q e at = refl
 
 -- ---- the loop

@@ -1,22 +1,21 @@
 -- Whom a count is for: a flow or a port, and the entries that can count.
 use Prim.Native.Nat.{ℕ, suc, _-_, _≤_, _<_}
-use mathlib.Core.Path.{_≡_, refl, sym, ap, _∙_}
+use mathlib.Core.Path.{_≡_, refl, sym, ap, _∙_, subst}
 use mathlib.Core.List.{List}
-use mathlib.Core.Bool.{Bool, false, not}
+use mathlib.Core.Bool.{Bool, true, false, not}
 use native.Mathlib.Omega.{arith}
 use lib.Dec.{eqb}
 use borrow.Author.Tests.{eq-eqb, ne-eqb}
 use Rattle.model.specs.Words.{bit, within}
-use Rattle.model.specs.Flows.{flows, numberOf, outputs, portOf, Class, flow, input, output, total, Of}
+use Rattle.model.specs.Flows.{flows, numberOf, Class, flow, input, output, link, total, Of}
 use Rattle.model.specs.Frames.{counts}
 use Rattle.model.specs.Service.{classOf, whoWithin}
 use Rattle.model.specs.declared.Who.{Who}
 use Rattle.model.specs.declared.Who.the-variants.{Flow, Input, Output}
 use Rattle.model.proofs.Cases.{byEq, within-true, within-yes, within-above}
-use Rattle.model.proofs.Reports.{Ported}
-use Rattle.model.proofs.Flows.{flow-counts}
+use Rattle.model.proofs.Flows.{output-is, flow-counts}
 use Rattle.model.proofs.Replies.{who-of}
-use Rattle.service.specs.Whom.{Named, firstEntry, nextEntry}
+use Rattle.service.specs.Whom.{Sent, whoNumber, Numbered, Named, firstEntry, nextEntry}
 
 -- ---- refusal 12
 pub flow-alone : (ports : ℕ) (list : List ℕ) {f n : ℕ} (who : Who) {a : Bool} → who ≡ Flow f → n ≡ flows list → a ≡ not (within 1 n f) → a ≡ not (whoWithin ports list who)
@@ -29,15 +28,29 @@ pub output-alone : (ports : ℕ) (list : List ℕ) {o : ℕ} (who : Who) {a : Bo
 output-alone ports list who is p = rw is p
 
 -- ---- what is known where it does not hold
+named-low : (ports : ℕ) (list : List ℕ) (who : Who) → whoWithin ports list who ≡ true → 1 ≤ whoNumber who
+named-low ports list (Flow f) e = within-true 1 (flows list) f e .0
+named-low ports list (Input i) e = within-true 1 ports i e .0
+named-low ports list (Output o) e = within-true 1 ports o e .0
+
 module _ {ports : ℕ} {list : List ℕ} {who : Who} (n : Named ports list who) where
-  pub flow-named : {f : ℕ} → who ≡ Flow f → (1 ≤ f) × (f ≤ flows list)
-  flow-named {f} is = within-true 1 (flows list) f (ap (whoWithin ports list) (sym is) ∙ n .within-is)
+  pub named-from-one : 1 ≤ whoNumber who
+  named-from-one = named-low ports list who (n .within-is)
 
-  pub input-named : {i : ℕ} → who ≡ Input i → 1 ≤ i
-  input-named {i} is = within-true 1 ports i (ap (whoWithin ports list) (sym is) ∙ n .within-is) .0
+  pub named-numbered : Numbered list who
+  named-numbered =
+      record {
+        from-one = named-from-one;
+        listed = λ f is. within-true 1 (flows list) f (ap (whoWithin ports list) (sym is) ∙ n .within-is) .1;
+        sent = n .sent;
+      }
 
-  pub output-named : {o : ℕ} → who ≡ Output o → 1 ≤ o
-  output-named {o} is = within-true 1 ports o (ap (whoWithin ports list) (sym is) ∙ n .within-is) .0
+module _ {who : Who} (low : 1 ≤ whoNumber who) where
+  pub input-from-one : {i : ℕ} → who ≡ Input i → 1 ≤ i
+  input-from-one {i} is = subst (λ (w : Who). 1 ≤ whoNumber w) is low
+
+  pub output-from-one : {o : ℕ} → who ≡ Output o → 1 ≤ o
+  output-from-one {o} is = subst (λ (w : Who). 1 ≤ whoNumber w) is low
 
 -- ---- the entries that can count
 -- the first is one of the first slot, and the next at most sixteen later
@@ -45,6 +58,7 @@ first-low : (ports : ℕ) (c : Class) → Of ports c → firstEntry c < nextEntr
 first-low ports (flow f) of = omega arith
 first-low ports (input i) of = of
 first-low ports (output o) of = omega arith
+first-low ports (link x) of = omega arith
 first-low ports total of = omega arith
 
 next-low : (ports : ℕ) (who : Who) → ports ≤ 16 → nextEntry ports (classOf who) ≤ 16
@@ -78,11 +92,10 @@ module _ (list : List ℕ) (e to : ℕ) where
     pub flow-in : e ≤ n → e - 1 < flows list
     flow-in h = omega arith
 
-    pub flow-sends : {ports : ℕ} → Ported ports list → 1 ≤ to → e ≤ n → {x : ℕ} → x ≡ numberOf 1 list (e - 1) → eqb x to ≡ counts (output (to - 1)) list 0 e
-    unfolding portOf
-    flow-sends {ports} ported low h {x} d =
-        let w = ported outputs (e - 1) (flow-in h) in
-        rw (within-yes 1 (flows list) e (omega arith) (omega arith))
+    pub flow-sends : Sent list → 1 ≤ to → e ≤ n → {x : ℕ} → x ≡ numberOf 1 list (e - 1) → eqb x to ≡ counts (output (to - 1)) list 0 e
+    flow-sends sent low h {x} d =
+        let w = sent .from-one (e - 1) (flow-in h) in
+        rw (within-yes 1 (flows list) e (omega arith) (omega arith), output-is list (e - 1) (sent .linked (e - 1) (flow-in h)))
         (byEq x to
         (λ q. eq-eqb x to q ∙ sym (eq-eqb (numberOf 1 list (e - 1) - 1) (to - 1) (omega arith)))
         (λ q. ne-eqb x to q ∙ sym (ne-eqb (numberOf 1 list (e - 1) - 1) (to - 1) (λ z. q (omega arith)))))
@@ -91,11 +104,12 @@ back : (o : ℕ) → 1 ≤ o → o ≡ suc (o - 1)
 back o l = omega arith
 
 -- an entry there counts for a flow if it is its number, for an input if it is not 0, for an output if it is a flow of it
-module _ {ports : ℕ} {list : List ℕ} (who : Who) (e : ℕ) (n : Named ports list who) {r : ℕ} where
+module _ {list : List ℕ} (who : Who) (e : ℕ) (n : Numbered list who) {r : ℕ} where
   pub flow-of-counts : {f : ℕ} → who ≡ Flow f → r ≡ bit (eqb e f) → r ≡ bit (counts (classOf who) list (firstEntry (classOf who)) e)
   flow-of-counts {f} is d =
-      let w = flow-named n is in
-      rw is (d ∙ ap (λ z. bit (eqb e z)) (back f (w .0)) ∙ sym (flow-counts list (f - 1) 0 e (omega arith)))
+      let low : 1 ≤ f = subst (λ (w : Who). 1 ≤ whoNumber w) is (n .from-one) in
+      let high = n .listed f is in
+      rw is (d ∙ ap (λ z. bit (eqb e z)) (back f low) ∙ sym (flow-counts list (f - 1) 0 e (omega arith)))
 
   pub input-counts : {i : ℕ} → who ≡ Input i → r ≡ bit (not (eqb e 0)) → r ≡ bit (counts (classOf who) list (firstEntry (classOf who)) e)
   input-counts {i} is d = rw (is, eq-eqb (i - 1) (i - 1) refl) d

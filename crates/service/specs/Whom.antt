@@ -4,21 +4,40 @@ use mathlib.Core.Path.{_≡_}
 use mathlib.Core.List.{List}
 use mathlib.Core.Bool.{true}
 use lib.ListN.{length}
-use Rattle.model.specs.Flows.{Class, flow, input, output, total}
+use Rattle.model.specs.Flows.{flows, numberOf, Class, flow, input, output, link, total}
 use Rattle.model.specs.Service.{whoWithin}
 use Rattle.model.specs.declared.Who.{Who}
-use Rattle.model.proofs.Reports.{Ported}
+use Rattle.model.specs.declared.Who.the-variants.{Flow, Input, Output}
+use Rattle.model.proofs.Reports.{Linked}
 
--- Whom a count is for is a flow of the list or a port of the switch, and the list's flows are at ports of the switch.
+-- Every flow of the list has an output from 1 on, and a link 1 to 4.
+pub record Sent (list : List ℕ) : Type 0 where
+  pub from-one : (f : ℕ) → f < flows list → 1 ≤ numberOf 1 list f
+  pub linked : Linked list
+
+-- The number of whom a count is for.
+abbrev pub whoNumber : Who → ℕ
+whoNumber (Flow f) = f
+whoNumber (Input i) = i
+whoNumber (Output o) = o
+
+-- Whom a count is for has a number from 1 on, and is in the list if it is a flow.
+pub record Numbered (list : List ℕ) (who : Who) : Type 0 where
+  pub from-one : 1 ≤ whoNumber who
+  pub listed : (f : ℕ) → who ≡ Flow f → f ≤ flows list
+  pub sent : Sent list
+
+-- It is a flow of the list or a port of the switch.
 pub record Named (ports : ℕ) (list : List ℕ) (who : Who) : Type 0 where
   pub within-is : whoWithin ports list who ≡ true
-  pub ported : Ported ports list
+  pub sent : Sent list
 
--- An input has its entries at one place of each slot, a flow, an output and the total anywhere: where the first stands,
+-- An input has its entries at one place of each slot, a flow, an output, a link and the total anywhere: where the first stands,
 abbrev pub firstEntry : Class → ℕ
 firstEntry (flow f) = 0
 firstEntry (input i) = i
 firstEntry (output o) = 0
+firstEntry (link x) = 0
 firstEntry total = 0
 
 -- and how many entries later the next.
@@ -26,6 +45,7 @@ abbrev pub nextEntry : ℕ → Class → ℕ
 nextEntry ports (flow f) = 1
 nextEntry ports (input i) = ports
 nextEntry ports (output o) = 1
+nextEntry ports (link x) = 1
 nextEntry ports total = 1
 
 -- A frame of so many slots, as it stands where refusals 1, 2 and 4 do not hold.

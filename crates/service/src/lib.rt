@@ -9,8 +9,7 @@ ghost use Rattle.model.specs.Words.{bit};
 ghost use Rattle.model.specs.Flows.{output};
 ghost use Rattle.model.specs.Frames.{counts, cells, runOf};
 ghost use Rattle.model.specs.Service.{classOf, whoWithin, repeated, lead, served, service};
-ghost use Rattle.model.proofs.Reports.{Ported};
-ghost use Rattle.service.specs.Whom.{Named, firstEntry, nextEntry, Framed, Asked};
+ghost use Rattle.service.specs.Whom.{Sent, whoNumber, Numbered, Named, firstEntry, nextEntry, Framed, Asked};
 use flows::flows_of;
 use flows::number_of;
 use model::Answer;
@@ -52,8 +51,8 @@ fn one_if(counts: bool) -> usize
 }
 
 // Where in whole slots the first entry stands that can count for whom is asked.
-fn first_entry(ports: usize, list: &[u16], who: Who) -> usize
-    requires { ⌜ Named ports (now list) who ⌝ }
+fn first_entry(who: Who) -> usize
+    requires { ⌜ 1 ≤ whoNumber who ⌝ }
     ensures { λ r. ⌜ r ≡ firstEntry (classOf who) ⌝ }
 {
     match who {
@@ -75,8 +74,8 @@ fn next_entry(ports: usize, who: Who) -> usize
 }
 
 // An entry is a flow of an output.
-fn sends_to(ports: usize, list: &[u16], entry: usize, to: usize) -> bool
-    requires { ⌜ Ported ports (now list) × (1 ≤ to) ⌝ }
+fn sends_to(list: &[u16], entry: usize, to: usize) -> bool
+    requires { ⌜ Sent (now list) × (1 ≤ to) ⌝ }
     ensures { λ r. ⌜ r ≡ counts (output (to - 1)) (now (list .entry)) 0 entry ⌝ }
 {
     if entry == 0 {
@@ -89,14 +88,14 @@ fn sends_to(ports: usize, list: &[u16], entry: usize, to: usize) -> bool
 }
 
 // 1 where an entry that stands there counts, else 0.
-fn counted(ports: usize, list: &[u16], who: Who, entry: usize) -> usize
-    requires { ⌜ Named ports (now list) who ⌝ }
+fn counted(list: &[u16], who: Who, entry: usize) -> usize
+    requires { ⌜ Numbered (now list) who ⌝ }
     ensures { λ r. ⌜ r ≡ bit (counts (classOf who) (now (list .entry)) (firstEntry (classOf who)) entry) ⌝ }
 {
     match who {
         Who::Flow(flow) => one_if(entry == flow),
         Who::Input(_) => one_if(entry != 0),
-        Who::Output(to) => one_if(sends_to(ports, list, entry, to)),
+        Who::Output(to) => one_if(sends_to(list, entry, to)),
     }
 }
 
@@ -107,9 +106,9 @@ fn slot_cells(ports: usize, list: &[u16], who: Who, entries: &[u16]) -> usize
 {
     let step = next_entry(ports, who);
     let mut sum: usize = 0;
-    let mut q: usize = first_entry(ports, list, who);
+    let mut q: usize = first_entry(who);
     while q < entries.len() {
-        sum += counted(ports, list, who, widths::number(entries[q]));
+        sum += counted(list, who, widths::number(entries[q]));
         q += step;
     }
     sum
@@ -185,7 +184,7 @@ fn count_run(
     Count { cells, lead }
 }
 
-// Service count: 1, 2, 3, 21, 22, 4, 11, 12, 13.
+// Service count: 1, 2, 3, 21, 22, 23, 4, 11, 12, 13.
 pub fn service_count(
     ports: usize,
     slots: usize,

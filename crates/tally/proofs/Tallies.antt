@@ -14,12 +14,12 @@ use lib.ListN.{length, getD, set, take, drop, replicate, length-set, length-repl
 use lib.Seq.{getD-set-same, getD-set-other, getD-take, getD-drop, set-out, ext-getD}
 use borrow.Author.Tests.{eq-eqb, ne-eqb, lt-ltb, le-ltb}
 use Rattle.model.specs.Words.{bit, within, sumTo}
-use Rattle.model.specs.Flows.{flows, numberOf, inputs, outputs, portOf, Class, flow, input, output, total}
+use Rattle.model.specs.Flows.{flows, numberOf, inputs, links, outputOf, portOf, Class, flow, input, output, link, total}
 use Rattle.model.specs.Frames.{counts, cells, runOf}
-use Rattle.model.proofs.Cases.{byBool, byEq, byLt, within-yes, within-above, within-true, is-yes, is-no}
+use Rattle.model.proofs.Cases.{Within, byBool, byEq, byLt, within-yes, within-above, within-true, is-yes, is-no}
 use Rattle.model.proofs.Sums.{sum-none, sum-more, sum-most, sum-zero}
 use Rattle.model.proofs.Settled.{zero-at}
-use Rattle.model.proofs.Flows.{map-length, map-at, by-entry, idle-counts, own-counts, flow-counts}
+use Rattle.model.proofs.Flows.{map-length, map-at, output-low, by-entry, idle-counts, own-counts, flow-counts}
 use Rattle.model.proofs.Inspected.{In}
 use Rattle.model.proofs.Cells.{cells-slot, cells-none, cells-run, run-none, run-length}
 use Rattle.tally.specs.Tally.{place, Vacant, Switch, Readable, RightAt, Room, Adds, ofEntry, partly, cellsOf, ofSlot, numberAt, tallyOf}
@@ -40,9 +40,10 @@ unfolding ofEntry
 idle (flow f) list i = idle-counts list (flow f) i
 idle (input j) list i = idle-counts list (input j) i
 idle (output o) list i = idle-counts list (output o) i
+idle (link x) list i = idle-counts list (link x) i
 idle total list i = refl
 
-pub adds-idle : (ports i e : ℕ) (list old : List ℕ) → Room 65532 old → e ≡ 0 → Adds ports list 1 (ofEntry list i e) old old
+pub adds-idle : (ports i e : ℕ) (list old : List ℕ) → Room 65531 old → e ≡ 0 → Adds ports list 1 (ofEntry list i e) old old
 adds-idle ports i e list old l z =
     record {
       size = l .size;
@@ -67,26 +68,35 @@ module _ {ports i e : ℕ} {list : List ℕ} (r : RightAt ports list i e) (n : e
   pub one-cell : 1 ≡ bit (counts total list i e)
   one-cell = let d : e ≡ suc (e - 1) = omega arith in sym (ap (λ z. bit (counts total list i z)) d ∙ own-counts list total i (e - 1) (own .0) (own .1))
 
-  pub out-from-one : {x : ℕ} → x ≡ numberOf 1 list (e - 1) → 1 ≤ x
-  out-from-one {x} d = omega (arith, r .switch .ported outputs (e - 1) (own .0) .0)
+  pub output-number : Within 1 16 (numberOf 1 list (e - 1))
+  output-number = let w = r .switch .ported links (e - 1) (own .0) in (w .0, omega (arith, w .1, r .switch .high))
 
-  pub flow-place : e - 1 < 545
+  pub link-number : Within 1 4 (numberOf 3 list (e - 1))
+  link-number = r .switch .linked (e - 1) (own .0)
+
+  pub flow-place : e - 1 < 609
   flow-place = omega (arith, own .0, r .switch .few)
 
-  pub output-place : {x : ℕ} → x ≡ numberOf 1 list (e - 1) → 528 + (x - 1) < 545
-  output-place {x} d = omega (arith, r .switch .ported outputs (e - 1) (own .0) .1, r .switch .high)
+  link-low : portOf list links (e - 1) < ports * 4
+  unfolding portOf
+  link-low = let w = r .switch .ported links (e - 1) (own .0) in omega (arith, w .0, w .1, link-number .0, link-number .1)
 
-pub input-place : {ports i e : ℕ} {list : List ℕ} → RightAt ports list i e → 512 + i < 545
+pub input-place : {ports i e : ℕ} {list : List ℕ} → RightAt ports list i e → 512 + i < 609
 input-place r = omega (arith, r .at, r .switch .high)
 
-module _ (ports i f o : ℕ) (list : List ℕ) (sw : Switch ports list) (hi : i < ports) (hf : f < flows list) (pi : portOf list inputs f ≡ i) (po : portOf list outputs f ≡ o) (ho : o < ports) where
-  -- what a cell of flow f adds at the place of a class
-  adds-at : (c : Class) → In ports list c → bit (eqb (place c) f) + bit (eqb (place c) (512 + i)) + bit (eqb (place c) (528 + o)) ≡ ofEntry list i (suc f) c
+module _ (ports i f x : ℕ) (list : List ℕ) (sw : Switch ports list) (hi : i < ports) (hf : f < flows list) (pi : portOf list inputs f ≡ i)
+    (px : portOf list links f ≡ x) (hx : x < ports * 4) where
+  -- what a cell of flow f adds at a place
+  abbrev added : ℕ → ℕ
+  added y = bit (eqb y f) + bit (eqb y (512 + i)) + bit (eqb y (528 + outputOf x)) + bit (eqb y (544 + x))
+
+  adds-at : (c : Class) → In ports list c → added (place c) ≡ ofEntry list i (suc f) c
   unfolding ofEntry
   adds-at (flow g) of =
       let w = sw .few in
       let a = is-no g (512 + i) (omega arith) in
-      let b = is-no g (528 + o) (omega arith) in
+      let b = is-no g (528 + outputOf x) (omega arith) in
+      let d = is-no g (544 + x) (omega arith) in
       let k = flow-counts list g i (suc f) of in
       byEq g f
       (λ e. omega (arith, k, is-yes g f e, is-yes (suc f) (suc g) (omega arith)))
@@ -95,60 +105,87 @@ module _ (ports i f o : ℕ) (list : List ℕ) (sw : Switch ports list) (hi : i 
       let w = sw .few in
       let h = sw .high in
       let a = is-no (512 + j) f (omega arith) in
-      let b = is-no (512 + j) (528 + o) (omega arith) in
+      let b = is-no (512 + j) (528 + outputOf x) (omega arith) in
+      let d = is-no (512 + j) (544 + x) (omega arith) in
       byEq i j
       (λ e. rw (eq-eqb i j e, ne-eqb (suc f) 0 (omega arith)) (let z = is-yes (512 + j) (512 + i) (omega arith) in omega arith))
       (λ n. rw (ne-eqb i j n) (let z = is-no (512 + j) (512 + i) (λ k. n (omega arith)) in omega arith))
   adds-at (output u) of =
       let w = sw .few in
       let h = sw .high in
+      let o = outputOf x in
       let a = is-no (528 + u) f (omega arith) in
       let b = is-no (528 + u) (512 + i) (omega arith) in
-      let k = own-counts list (output u) i f hf pi ∙ ap (λ z. bit (eqb z u)) po in
+      let d = is-no (528 + u) (544 + x) (omega arith) in
+      let k = own-counts list (output u) i f hf pi ∙ ap (λ z. bit (eqb (outputOf z) u)) px in
       byEq o u
       (λ e. omega (arith, k, is-yes o u e, is-yes (528 + u) (528 + o) (omega arith)))
       (λ n. omega (arith, k, is-no o u n, is-no (528 + u) (528 + o) (λ z. n (omega arith))))
+  adds-at (link y) of =
+      let w = sw .few in
+      let h = sw .high in
+      let a = is-no (544 + y) f (omega arith) in
+      let b = is-no (544 + y) (512 + i) (omega arith) in
+      let d = is-no (544 + y) (528 + outputOf x) (omega arith) in
+      let k = own-counts list (link y) i f hf pi ∙ ap (λ z. bit (eqb z y)) px in
+      byEq x y
+      (λ e. omega (arith, k, is-yes x y e, is-yes (544 + y) (544 + x) (omega arith)))
+      (λ n. omega (arith, k, is-no x y n, is-no (544 + y) (544 + x) (λ z. n (omega arith))))
   adds-at total of =
       let w = sw .few in
       let h = sw .high in
-      omega (arith, is-no 544 f (omega arith), is-no 544 (512 + i) (omega arith), is-no 544 (528 + o) (omega arith))
+      let a = is-no 608 f (omega arith) in
+      let b = is-no 608 (512 + i) (omega arith) in
+      omega (arith, a, b, is-no 608 (528 + outputOf x) (omega arith), is-no 608 (544 + x) (omega arith))
 
   -- at no place more than 1
-  adds-most : (x : ℕ) → bit (eqb x f) + bit (eqb x (512 + i)) + bit (eqb x (528 + o)) ≤ 1
-  adds-most x =
+  adds-most : (y : ℕ) → added y ≤ 1
+  adds-most y =
       let w = sw .few in
       let h = sw .high in
-      byEq x f
-      (λ e. omega (arith, is-yes x f e, is-no x (512 + i) (omega arith), is-no x (528 + o) (omega arith)))
-      (λ n. byEq x (512 + i)
-      (λ e. omega (arith, is-no x f n, is-yes x (512 + i) e, is-no x (528 + o) (omega arith)))
-      (λ m. byEq x (528 + o)
-      (λ e. omega (arith, is-no x f n, is-no x (512 + i) m, is-yes x (528 + o) e))
-      (λ k. omega (arith, is-no x f n, is-no x (512 + i) m, is-no x (528 + o) k))))
+      let o = outputOf x in
+      byEq y f
+      (λ e. omega (arith, is-yes y f e, is-no y (512 + i) (omega arith), is-no y (528 + o) (omega arith), is-no y (544 + x) (omega arith)))
+      (λ n. byEq y (512 + i)
+      (λ e. omega (arith, is-no y f n, is-yes y (512 + i) e, is-no y (528 + o) (omega arith), is-no y (544 + x) (omega arith)))
+      (λ m. byEq y (528 + o)
+      (λ e. omega (arith, is-no y f n, is-no y (512 + i) m, is-yes y (528 + o) e, is-no y (544 + x) (omega arith)))
+      (λ k. byEq y (544 + x)
+      (λ e. omega (arith, is-no y f n, is-no y (512 + i) m, is-no y (528 + o) k, is-yes y (544 + x) e))
+      (λ l. omega (arith, is-no y f n, is-no y (512 + i) m, is-no y (528 + o) k, is-no y (544 + x) l)))))
 
-  module _ (old : List ℕ) (size : length old ≡ 545) where
+  module _ (old : List ℕ) (size : length old ≡ 609) where
     abbrev pub counted : List ℕ
-    counted = raised (raised (raised old f) (512 + i)) (528 + o)
+    counted = raised (raised (raised (raised old f) (512 + i)) (528 + outputOf x)) (544 + x)
 
-    counted-at : (x : ℕ) → getD counted x 0 ≡ getD old x 0 + (bit (eqb x f) + bit (eqb x (512 + i)) + bit (eqb x (528 + o)))
-    counted-at x =
+    counted-at : (y : ℕ) → getD counted y 0 ≡ getD old y 0 + added y
+    counted-at y =
         let w = sw .few in
         let h = sw .high in
         let a = raised old f in
         let b = raised a (512 + i) in
+        let c = raised b (528 + outputOf x) in
         let la = length-set old f (getD old f 0 + 1) in
         let lb = length-set a (512 + i) (getD a (512 + i) 0 + 1) in
-        omega (arith, raised-at old f x (omega arith), raised-at a (512 + i) x (omega arith), raised-at b (528 + o) x (omega arith))
+        let lc = length-set b (528 + outputOf x) (getD b (528 + outputOf x) 0 + 1) in
+        omega (
+          arith,
+          raised-at old f y (omega arith),
+          raised-at a (512 + i) y (omega arith),
+          raised-at b (528 + outputOf x) y (omega arith),
+          raised-at c (544 + x) y (omega arith),
+        )
 
-    counted-length : length counted ≡ 545
+    counted-length : length counted ≡ 609
     counted-length = simp length-set size
 
-    counted-none : (x : ℕ) → Vacant ports list x → getD counted x 0 ≡ getD old x 0
-    counted-none x v =
-        let a = is-no x f (v (flow f) hf) in
-        let b = is-no x (512 + i) (v (input i) hi) in
-        let c = is-no x (528 + o) (v (output o) ho) in
-        omega (arith, counted-at x)
+    counted-none : (y : ℕ) → Vacant ports list y → getD counted y 0 ≡ getD old y 0
+    counted-none y v =
+        let a = is-no y f (v (flow f) hf) in
+        let b = is-no y (512 + i) (v (input i) hi) in
+        let c = is-no y (528 + outputOf x) (v (output (outputOf x)) (output-low ports x hx)) in
+        let d = is-no y (544 + x) (v (link x) hx) in
+        omega (arith, counted-at y)
 
     pub adds-all : Adds ports list 1 (ofEntry list i (suc f)) old counted
     adds-all =
@@ -156,28 +193,30 @@ module _ (ports i f o : ℕ) (list : List ℕ) (sw : Switch ports list) (hi : i 
           size = counted-length;
           each = λ c of. counted-at (place c) ∙ ap (λ z. getD old (place c) 0 + z) (adds-at c of);
           none = counted-none;
-          bound = λ x. omega (arith, counted-at x, adds-most x);
+          bound = λ y. omega (arith, counted-at y, adds-most y);
         }
 
-pub adds-cell : {ports i e x : ℕ} {list old t1 t2 t3 : List ℕ} → RightAt ports list i e → Room 65532 old → (e ≡ 0 → ⊥) → x ≡ numberOf 1 list (e - 1)
+pub adds-cell : {ports i e x : ℕ} {list old t1 t2 t3 t4 : List ℕ} → RightAt ports list i e → Room 65531 old → (e ≡ 0 → ⊥)
+    → x ≡ portOf list links (e - 1)
     → t1 ≡ set old (e - 1) (getD old (e - 1) 0 + 1)
     → t2 ≡ set t1 (512 + i) (getD t1 (512 + i) 0 + 1)
-    → t3 ≡ set t2 (528 + (x - 1)) (getD t2 (528 + (x - 1)) 0 + 1)
-    → Adds ports list 1 (ofEntry list i e) old t3
-unfolding portOf
-adds-cell {ports} {i} {e} {x} {list} {old} {t1} {t2} {t3} r room n d e1 e2 e3 =
+    → t3 ≡ set t2 (528 + outputOf x) (getD t2 (528 + outputOf x) 0 + 1)
+    → t4 ≡ set t3 (544 + x) (getD t3 (544 + x) 0 + 1)
+    → Adds ports list 1 (ofEntry list i e) old t4
+adds-cell {ports} {i} {e} {x} {list} {old} {t1} {t2} {t3} {t4} r room n d e1 e2 e3 e4 =
     let f = e - 1 in
     let k : e ≡ suc f = omega arith in
     let w = own r n in
-    let out = r .switch .ported outputs f (w .0) in
-    rw (e3, e2, e1) (subst (λ z. Adds ports list 1 (ofEntry list i z) old (counted ports i f (x - 1) list (r .switch) (r .at) (w .0) (w .1) (ap (λ z. z - 1) (sym d)) (omega arith) old (room .size))) (sym k)
-    (adds-all ports i f (x - 1) list (r .switch) (r .at) (w .0) (w .1) (ap (λ z. z - 1) (sym d)) (omega arith) old (room .size)))
+    let low : x < ports * 4 = omega (arith, link-low r n) in
+    let new = counted ports i f x list (r .switch) (r .at) (w .0) (w .1) (sym d) low old (room .size) in
+    rw (e4, e3, e2, e1) (subst (λ z. Adds ports list 1 (ofEntry list i z) old new) (sym k)
+    (adds-all ports i f x list (r .switch) (r .at) (w .0) (w .1) (sym d) low old (room .size)))
 
 -- ---- the room that the code asks for
 room-within : {n : ℕ} {l : List ℕ} → n ≤ 65534 → Room n l → Room 65534 l
 room-within h r = record { size = r .size; each = λ x. omega (arith, r .each x) }
 
-pub room-less : {l : List ℕ} → Room 65532 l → Room 65534 l
+pub room-less : {l : List ℕ} → Room 65531 l → Room 65534 l
 room-less r = room-within (omega arith) r
 
 room-raised : (n x : ℕ) (l l′ : List ℕ) → l′ ≡ set l x (getD l x 0 + 1) → Room n l → Room (suc n) l′
@@ -191,11 +230,15 @@ room-raised n x l l′ e r =
           (λ h. rw (set-out l x (getD l x 0 + 1) h) (omega (arith, r .each y)));
     })
 
-pub room-one : (x : ℕ) (l l′ : List ℕ) → l′ ≡ set l x (getD l x 0 + 1) → Room 65532 l → Room 65534 l′
-room-one x l l′ e r = room-within (omega arith) (room-raised 65532 x l l′ e r)
+pub room-one : (x : ℕ) (l l′ : List ℕ) → l′ ≡ set l x (getD l x 0 + 1) → Room 65531 l → Room 65534 l′
+room-one x l l′ e r = room-within (omega arith) (room-raised 65531 x l l′ e r)
 
-pub room-two : (x y : ℕ) (l l′ l″ : List ℕ) → l″ ≡ set l′ y (getD l′ y 0 + 1) → l′ ≡ set l x (getD l x 0 + 1) → Room 65532 l → Room 65534 l″
-room-two x y l l′ l″ f e r = room-raised 65533 y l′ l″ f (room-raised 65532 x l l′ e r)
+pub room-two : (x y : ℕ) (l l′ l″ : List ℕ) → l″ ≡ set l′ y (getD l′ y 0 + 1) → l′ ≡ set l x (getD l x 0 + 1) → Room 65531 l → Room 65534 l″
+room-two x y l l′ l″ f e r = room-within (omega arith) (room-raised 65532 y l′ l″ f (room-raised 65531 x l l′ e r))
+
+pub room-three : (x y z : ℕ) (l l′ l″ l‴ : List ℕ) → l‴ ≡ set l″ z (getD l″ z 0 + 1) → l″ ≡ set l′ y (getD l′ y 0 + 1)
+    → l′ ≡ set l x (getD l x 0 + 1) → Room 65531 l → Room 65534 l‴
+room-three x y z l l′ l″ l‴ g f e r = room-raised 65533 z l″ l‴ g (room-raised 65532 y l′ l″ f (room-raised 65531 x l l′ e r))
 
 -- ---- a slot
 pub slot-start : (ports : ℕ) (list slot old : List ℕ) → Room 65000 old → Adds ports list 0 (partly list slot 0) old old
@@ -235,7 +278,7 @@ pub cells-fit : (ports i n : ℕ) (list slot : List ℕ) → Readable ports 1 li
 cells-fit ports i n list slot d h e r l = record { fits = (let s = d .size in let w = d .switch .high in omega (arith, cells-most list slot i)) }
 
 module _ (ports i n : ℕ) (list slot old mid : List ℕ) (a : Adds ports list i (partly list slot i) old mid) (r : Readable ports 1 list slot) (e : n ≡ cellsOf list slot i) where
-  total-same : getD mid 544 0 ≡ getD old 544 0
+  total-same : getD mid 608 0 ≡ getD old 608 0
   unfolding partly ofEntry
   total-same = let z = sum-zero i (λ j. 0) (λ j h. refl) in omega (arith, a .each total tt)
 
@@ -247,39 +290,40 @@ module _ (ports i n : ℕ) (list slot old mid : List ℕ) (a : Adds ports list i
     all : i ≡ ports
     all = let s = r .size in omega arith
 
-    at-other : (x : ℕ) → x ≢ 544 → getD (set mid 544 (getD mid 544 0 + n)) x 0 ≡ getD mid x 0
-    at-other x d = getD-set-other mid 544 x (getD mid 544 0 + n) 0 d
+    at-other : (x : ℕ) → x ≢ 608 → getD (set mid 608 (getD mid 608 0 + n)) x 0 ≡ getD mid x 0
+    at-other x d = getD-set-other mid 608 x (getD mid 608 0 + n) 0 d
 
-    at-total : getD (set mid 544 (getD mid 544 0 + n)) 544 0 ≡ getD mid 544 0 + n
-    at-total = getD-set-same mid 544 (getD mid 544 0 + n) 0 (let s = a .size in omega arith)
+    at-total : getD (set mid 608 (getD mid 608 0 + n)) 608 0 ≡ getD mid 608 0 + n
+    at-total = getD-set-same mid 608 (getD mid 608 0 + n) 0 (let s = a .size in omega arith)
 
     slot-cells : (c : Class) → cells c ports list slot ≡ sumTo ports (λ j. bit (counts c list j (getD slot j 0)))
     slot-cells c = cells-slot ports list c slot (let s = r .size in s ∙ omega arith)
 
-    port-each : (c : Class) → In ports list c → place c ≢ 544 → cells c ports list slot ≡ partly list slot ports c
-        → getD (set mid 544 (getD mid 544 0 + n)) (place c) 0 ≡ getD old (place c) 0 + cells c ports list slot
+    port-each : (c : Class) → In ports list c → place c ≢ 608 → cells c ports list slot ≡ partly list slot ports c
+        → getD (set mid 608 (getD mid 608 0 + n)) (place c) 0 ≡ getD old (place c) 0 + cells c ports list slot
     port-each c of d k = omega (arith, at-other (place c) d, a .each c of, ap (λ z. partly list slot z c) all)
 
-    slot-each : (c : Class) → In ports list c → getD (set mid 544 (getD mid 544 0 + n)) (place c) 0 ≡ getD old (place c) 0 + ofSlot ports list slot c
+    slot-each : (c : Class) → In ports list c → getD (set mid 608 (getD mid 608 0 + n)) (place c) 0 ≡ getD old (place c) 0 + ofSlot ports list slot c
     unfolding partly ofEntry cellsOf ofSlot
     slot-each (flow f) of = port-each (flow f) of (let h = r .switch .few in omega arith) (slot-cells (flow f))
     slot-each (input j) of = port-each (input j) of (let h = r .switch .high in omega arith) (slot-cells (input j))
     slot-each (output o) of = port-each (output o) of (let h = r .switch .high in omega arith) (slot-cells (output o))
+    slot-each (link x) of = port-each (link x) of (let h = r .switch .high in omega arith) (slot-cells (link x))
     slot-each total of = omega (arith, at-total, total-same, ap (cellsOf list slot) all, slot-cells total)
 
-    pub slot-end : Adds ports list ports (ofSlot ports list slot) old (set mid 544 (getD mid 544 0 + n))
+    pub slot-end : Adds ports list ports (ofSlot ports list slot) old (set mid 608 (getD mid 608 0 + n))
     slot-end =
         record {
-          size = length-set mid 544 (getD mid 544 0 + n) ∙ a .size;
+          size = length-set mid 608 (getD mid 608 0 + n) ∙ a .size;
           each = slot-each;
           none = λ x v. at-other x (v total tt) ∙ a .none x v;
-          bound = λ x. byEq x 544
+          bound = λ x. byEq x 608
               (λ d. rw d (omega (arith, at-total, total-same, cells-most list slot i, all)))
               (λ d. omega (arith, at-other x d, a .bound x, all));
         }
 
--- the room for one byte more
-pub slot-room : (ports i : ℕ) (list slot old mid : List ℕ) → Adds ports list i (partly list slot i) old mid → Room 65000 old → Readable ports 1 list slot → i < length slot → Room 65532 mid
+-- the room for one entry more
+pub slot-room : (ports i : ℕ) (list slot old mid : List ℕ) → Adds ports list i (partly list slot i) old mid → Room 65000 old → Readable ports 1 list slot → i < length slot → Room 65531 mid
 slot-room ports i list slot old mid a r d h =
     let s = d .size in
     let w = d .switch .high in
@@ -296,19 +340,19 @@ one-fits x tally r = record { fits = omega (arith, r .each x) }
 -- ---- a run
 -- a tally has the cells of each class, and 0 at the other places
 pub record Tally (ports : ℕ) (list entries tally : List ℕ) : Type 0 where
-  pub size : length tally ≡ 545
+  pub size : length tally ≡ 609
   pub each : (c : Class) → In ports list c → getD tally (place c) 0 ≡ cells c ports list entries
   pub none : (x : ℕ) → Vacant ports list x → getD tally x 0 ≡ 0
   pub bound : (x : ℕ) → getD tally x 0 ≤ length entries
 
-pub tally-start : (ports start : ℕ) (list frame tally : List ℕ) → tally ≡ replicate 545 0 → Tally ports list (runOf ports start 0 frame) tally
+pub tally-start : (ports start : ℕ) (list frame tally : List ℕ) → tally ≡ replicate 609 0 → Tally ports list (runOf ports start 0 frame) tally
 tally-start ports start list frame tally e =
     rw (e, run-none ports start frame)
     (record {
-      size = length-replicate {A = ℕ} 545 0;
-      each = λ c of. zero-at 545 (place c) ∙ sym (cells-none ports list c);
-      none = λ x v. zero-at 545 x;
-      bound = λ x. omega (arith, zero-at 545 x);
+      size = length-replicate {A = ℕ} 609 0;
+      each = λ c of. zero-at 609 (place c) ∙ sym (cells-none ports list c);
+      none = λ x v. zero-at 609 x;
+      bound = λ x. omega (arith, zero-at 609 x);
     })
 
 module _ (ports slots start len t : ℕ) (list frame : List ℕ) (r : Readable ports slots list frame) (h : start + len ≤ slots) (l : t < len) where
@@ -375,13 +419,13 @@ module _ (ports slots start len t : ℕ) (list frame : List ℕ) (r : Readable p
       }
 
 -- ---- the tally as a list
-tally-length : (ports : ℕ) (list entries : List ℕ) → length (tallyOf ports list entries) ≡ 545
+tally-length : (ports : ℕ) (list entries : List ℕ) → length (tallyOf ports list entries) ≡ 609
 unfolding tallyOf
-tally-length ports list entries = map-length (numberAt ports list entries) 0 545
+tally-length ports list entries = map-length (numberAt ports list entries) 0 609
 
-tally-at : (ports : ℕ) (list entries : List ℕ) (x : ℕ) → x < 545 → getD (tallyOf ports list entries) x 0 ≡ numberAt ports list entries x
+tally-at : (ports : ℕ) (list entries : List ℕ) (x : ℕ) → x < 609 → getD (tallyOf ports list entries) x 0 ≡ numberAt ports list entries x
 unfolding tallyOf
-tally-at ports list entries x h = map-at (numberAt ports list entries) 0 545 x h ∙ ap (numberAt ports list entries) (omega arith)
+tally-at ports list entries x h = map-at (numberAt ports list entries) 0 609 x h ∙ ap (numberAt ports list entries) (omega arith)
 
 module _ (ports : ℕ) (list entries : List ℕ) where
   -- what the places of the classes and the others have
@@ -394,18 +438,34 @@ module _ (ports : ℕ) (list entries : List ℕ) where
   number-class s (output o) of =
       let e : 528 + o - 528 ≡ o = omega arith in
       rw (le-ltb (528 + o) (flows list) (omega (arith, s .few)), within-above 512 (511 + ports) (528 + o) (omega arith) (omega (arith, s .high)), within-yes 528 (527 + ports) (528 + o) (omega arith) (omega arith), e)
+  number-class s (link x) of =
+      let e : 544 + x - 544 ≡ x = omega arith in
+      rw (
+        le-ltb (544 + x) (flows list) (omega (arith, s .few)),
+        within-above 512 (511 + ports) (544 + x) (omega arith) (omega (arith, s .high)),
+        within-above 528 (527 + ports) (544 + x) (omega arith) (omega (arith, s .high)),
+        within-yes 544 (543 + ports * 4) (544 + x) (omega arith) (omega arith),
+        e,
+      )
   number-class s total of =
-      rw (le-ltb 544 (flows list) (omega (arith, s .few)), within-above 512 (511 + ports) 544 (omega arith) (omega (arith, s .high)), within-above 528 (527 + ports) 544 (omega arith) (omega (arith, s .high)))
+      rw (
+        le-ltb 608 (flows list) (omega (arith, s .few)),
+        within-above 512 (511 + ports) 608 (omega arith) (omega (arith, s .high)),
+        within-above 528 (527 + ports) 608 (omega arith) (omega (arith, s .high)),
+        within-above 544 (543 + ports * 4) 608 (omega arith) (omega (arith, s .high)),
+      )
 
   module _ (tally : List ℕ) (y : Tally ports list entries tally) (x : ℕ) where
     at-class : (c : Class) → In ports list c → place c ≡ x → getD tally x 0 ≡ cells c ports list entries
     at-class c of e = ap (λ z. getD tally z 0) (sym e) ∙ y .each c of
 
-    vacant : flows list ≤ x → within 512 (511 + ports) x ≡ false → within 528 (527 + ports) x ≡ false → x ≢ 544 → Vacant ports list x
-    vacant h f g n (flow k) of e = omega arith
-    vacant h f g n (input i) of e = true≢false (sym (within-yes 512 (511 + ports) x (omega arith) (omega arith)) ∙ f)
-    vacant h f g n (output o) of e = true≢false (sym (within-yes 528 (527 + ports) x (omega arith) (omega arith)) ∙ g)
-    vacant h f g n total of e = n e
+    vacant : flows list ≤ x → within 512 (511 + ports) x ≡ false → within 528 (527 + ports) x ≡ false
+        → within 544 (543 + ports * 4) x ≡ false → x ≢ 608 → Vacant ports list x
+    vacant h f g k n (flow y) of e = omega arith
+    vacant h f g k n (input i) of e = true≢false (sym (within-yes 512 (511 + ports) x (omega arith) (omega arith)) ∙ f)
+    vacant h f g k n (output o) of e = true≢false (sym (within-yes 528 (527 + ports) x (omega arith) (omega arith)) ∙ g)
+    vacant h f g k n (link y) of e = true≢false (sym (within-yes 544 (543 + ports * 4) x (omega arith) (omega arith)) ∙ k)
+    vacant h f g k n total of e = n e
 
     number-is : getD tally x 0 ≡ numberAt ports list entries x
     unfolding numberAt
@@ -419,9 +479,12 @@ module _ (ports : ℕ) (list entries : List ℕ) where
         (byBool (within 528 (527 + ports) x)
         (λ g. let w = within-true 528 (527 + ports) x g in rw g (at-class (output (x - 528)) (omega arith) (omega arith)))
         (λ g. rw g
-        (byEq x 544
-        (λ e. rw (eq-eqb x 544 e) (at-class total tt (sym e)))
-        (λ n. rw (ne-eqb x 544 n) (y .none x (vacant h f g n)))))))))
+        (byBool (within 544 (543 + ports * 4) x)
+        (λ k. let w = within-true 544 (543 + ports * 4) x k in rw k (at-class (link (x - 544)) (omega arith) (omega arith)))
+        (λ k. rw k
+        (byEq x 608
+        (λ e. rw (eq-eqb x 608 e) (at-class total tt (sym e)))
+        (λ n. rw (ne-eqb x 608 n) (y .none x (vacant h f g k n)))))))))))
 
   tally-is : (tally : List ℕ) → Tally ports list entries tally → tally ≡ tallyOf ports list entries
   tally-is tally y =
@@ -432,7 +495,7 @@ pub tally-end : (ports start len t : ℕ) (list frame tally : List ℕ) → Tall
     → tally ≡ tallyOf ports list (runOf ports start len frame)
 tally-end ports start len t list frame tally y a b = let e : len ≡ t = omega arith in rw e (tally-is ports list (runOf ports start t frame) tally y)
 
-pub tally-size : (ports : ℕ) (list entries tally : List ℕ) → tally ≡ tallyOf ports list entries → length tally ≡ 545
+pub tally-size : (ports : ℕ) (list entries tally : List ℕ) → tally ≡ tallyOf ports list entries → length tally ≡ 609
 tally-size ports list entries tally e = ap length e ∙ tally-length ports list entries
 
 -- what a tally has for each class
@@ -441,8 +504,9 @@ pub tally-class : (ports : ℕ) (list entries tally : List ℕ) → Switch ports
 tally-class ports list entries tally s e c of =
     ap (λ z. getD z (place c) 0) e ∙ tally-at ports list entries (place c) (low c of) ∙ number-class ports list entries s c of
   where
-    low : (c : Class) → In ports list c → place c < 545
+    low : (c : Class) → In ports list c → place c < 609
     low (flow f) of = omega (arith, s .few)
     low (input i) of = omega (arith, s .high)
     low (output o) of = omega (arith, s .high)
+    low (link x) of = omega (arith, s .high)
     low total of = omega arith

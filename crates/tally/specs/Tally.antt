@@ -1,4 +1,4 @@
--- What the code counts: a tally has a number for each flow, input and output and for the total, at a place of its own.
+-- What the code counts: a tally has a number for each flow, input, output and link and for the total, at a place of its own.
 use Prim.Native.Nat.{ℕ, _+_, _-_, _*_, _%_, _≤_, _<_}
 use mathlib.Core.Path.{_≡_}
 use mathlib.Core.List.{List, map}
@@ -7,17 +7,19 @@ use mathlib.Core.Bool.{true}
 use lib.Dec.{eqb, ltb}
 use lib.ListN.{length, getD}
 use Rattle.model.specs.Words.{if, bit, within, upFrom, sumTo}
-use Rattle.model.specs.Flows.{flows, Class, flow, input, output, total}
+use Rattle.model.specs.Flows.{flows, Class, flow, input, output, link, total}
 use Rattle.model.specs.Frames.{right, counts, cells}
-use Rattle.model.proofs.Reports.{Ported}
+use Rattle.model.proofs.Reports.{Ported, Linked}
 use Rattle.model.proofs.Inspected.{In}
 
--- The flows stand in the order of the list, with room for 512, then the sixteen inputs, then the sixteen outputs, then the total.
+-- The flows stand in the order of the list, with room for 512, then the sixteen inputs, then the sixteen outputs,
+-- then their links, then the total.
 abbrev pub place : Class → ℕ
 place (flow f) = f
 place (input i) = 512 + i
 place (output o) = 528 + o
-place total = 544
+place (link x) = 544 + x
+place total = 608
 
 -- No class stands at place x.
 abbrev pub Vacant : ℕ → List ℕ → ℕ → Type 0
@@ -29,6 +31,7 @@ pub record Switch (ports : ℕ) (list : List ℕ) : Type 0 where
   pub high : ports ≤ 16
   pub few : flows list ≤ 512
   pub ported : Ported ports list
+  pub linked : Linked list
 
 -- The frame has its size, and no entry is wrong.
 pub record Readable (ports slots : ℕ) (list entries : List ℕ) : Type 0 where
@@ -45,12 +48,12 @@ pub record RightAt (ports : ℕ) (list : List ℕ) (input entry : ℕ) : Type 0 
 
 -- A tally has its places, and no number above a limit.
 pub record Room (limit : ℕ) (tally : List ℕ) : Type 0 where
-  pub size : length tally ≡ 545
+  pub size : length tally ≡ 609
   pub each : (x : ℕ) → getD tally x 0 ≤ limit
 
 -- `new` is the tally `old` with `more` counted: a number for each class, at no other place, and none more than `most` higher.
 pub record Adds (ports : ℕ) (list : List ℕ) (most : ℕ) (more : Class → ℕ) (old new : List ℕ) : Type 0 where
-  pub size : length new ≡ 545
+  pub size : length new ≡ 609
   pub each : (c : Class) → In ports list c → getD new (place c) 0 ≡ getD old (place c) 0 + more c
   pub none : (x : ℕ) → Vacant ports list x → getD new x 0 ≡ getD old x 0
   pub bound : (x : ℕ) → getD new x 0 ≤ getD old x 0 + most
@@ -61,6 +64,7 @@ unfoldable pub ofEntry : List ℕ → ℕ → ℕ → Class → ℕ
 ofEntry list i e (flow f) = bit (counts (flow f) list i e)
 ofEntry list i e (input j) = bit (counts (input j) list i e)
 ofEntry list i e (output o) = bit (counts (output o) list i e)
+ofEntry list i e (link x) = bit (counts (link x) list i e)
 ofEntry list i e total = 0
 
 unfoldable pub partly : List ℕ → List ℕ → ℕ → Class → ℕ
@@ -79,8 +83,9 @@ numberAt ports list entries x =
     if (ltb x (flows list)) (cells (flow x) ports list entries)
     (if (within 512 (511 + ports) x) (cells (input (x - 512)) ports list entries)
     (if (within 528 (527 + ports) x) (cells (output (x - 528)) ports list entries)
-    (if (eqb x 544) (cells total ports list entries) 0)))
+    (if (within 544 (543 + ports * 4) x) (cells (link (x - 544)) ports list entries)
+    (if (eqb x 608) (cells total ports list entries) 0))))
 
--- The tally of some slots: the numbers at its 545 places.
+-- The tally of some slots: the numbers at its 609 places.
 unfoldable pub tallyOf : ℕ → List ℕ → List ℕ → List ℕ
-tallyOf ports list entries = map (numberAt ports list entries) (upFrom 0 545)
+tallyOf ports list entries = map (numberAt ports list entries) (upFrom 0 609)

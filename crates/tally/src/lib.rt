@@ -1,4 +1,4 @@
-// Tallies: the cells of each flow, input and output in a run of slots, and their total.
+// Tallies: the cells of each flow, input, output and link in a run of slots, and their total.
 ghost use mathlib.Core.Path.{_≡_};
 ghost use Prim.Native.Nat.{_+_, _≤_, _<_};
 ghost use lib.ListN.{getD, set, replicate};
@@ -8,16 +8,16 @@ ghost use Rattle.model.specs.Frames.{counts, runOf};
 ghost use Rattle.tally.specs.Tally.{Readable, RightAt, Room, Adds, ofEntry, ofSlot, tallyOf};
 
 // Counts one more at a place of a tally.
-fn add_one(tally: &mut [u16; 545], x: usize)
-    requires { ⌜ (x < 545) × Room 65534 (now tally) ⌝ }
+fn add_one(tally: &mut [u16; 609], x: usize)
+    requires { ⌜ (x < 609) × Room 65534 (now tally) ⌝ }
     ensures { λ _. ⌜ now (tally .exit) ≡ set (now (tally .entry)) x (getD (now (tally .entry)) x 0 + 1) ⌝ }
 {
     tally[x] = tally[x] + 1;
 }
 
-// Counts an entry of an input for its flow, its input and its output, if it is not 0, and answers how many cells it is.
-fn add_entry(ports: usize, list: &[u16], input: usize, entry: usize, tally: &mut [u16; 545]) -> u16
-    requires { ⌜ RightAt ports (now list) input entry × Room 65532 (now tally) ⌝ }
+// Counts an entry of an input for its flow, its input, its output and its link, if it is not 0, and answers how many cells it is.
+fn add_entry(ports: usize, list: &[u16], input: usize, entry: usize, tally: &mut [u16; 609]) -> u16
+    requires { ⌜ RightAt ports (now list) input entry × Room 65531 (now tally) ⌝ }
     ensures { λ r. ⌜ Adds ports (now (list .entry)) 1 (ofEntry (now (list .entry)) input entry) (now (tally .entry)) (now (tally .exit))
         × (r ≡ bit (counts total (now (list .entry)) input entry)) × (r ≤ 1) ⌝ }
 {
@@ -25,15 +25,16 @@ fn add_entry(ports: usize, list: &[u16], input: usize, entry: usize, tally: &mut
         return 0;
     }
     let f = entry - 1;
-    let output = flows::number_of(list, f, 1) - 1;
+    let x = flows::link_of(list, f);
     add_one(tally, f);
     add_one(tally, 512 + input);
-    add_one(tally, 528 + output);
+    add_one(tally, 528 + x / 4);
+    add_one(tally, 544 + x);
     1
 }
 
 // Counts a slot. The total is added once, so that no entry waits for the one before it.
-fn add_slot(ports: usize, list: &[u16], slot: &[u16], tally: &mut [u16; 545])
+fn add_slot(ports: usize, list: &[u16], slot: &[u16], tally: &mut [u16; 609])
     requires { ⌜ Readable ports 1 (now list) (now slot) × Room 65000 (now tally) ⌝ }
     ensures { λ _. ⌜ Adds ports (now (list .entry)) ports (ofSlot ports (now (list .entry)) (now (slot .entry))) (now (tally .entry)) (now (tally .exit)) ⌝ }
 {
@@ -44,7 +45,7 @@ fn add_slot(ports: usize, list: &[u16], slot: &[u16], tally: &mut [u16; 545])
         cells += add_entry(ports, list, i, entry, tally);
         i += 1;
     }
-    tally[544] = tally[544] + cells;
+    tally[608] = tally[608] + cells;
 }
 
 // Counts a run of slots inside the frame, from an empty tally.
@@ -55,9 +56,9 @@ pub fn tally_run(
     frame: &[u16],
     start: usize,
     len: usize,
-    tally: &mut [u16; 545],
+    tally: &mut [u16; 609],
 )
-    requires { ⌜ Readable ports slots (now list) (now frame) × (start + len ≤ slots) × (now tally ≡ replicate 545 0) ⌝ }
+    requires { ⌜ Readable ports slots (now list) (now frame) × (start + len ≤ slots) × (now tally ≡ replicate 609 0) ⌝ }
     ensures { λ _. ⌜ now (tally .exit) ≡ tallyOf ports (now (list .entry)) (runOf ports start len (now (frame .entry))) ⌝ }
 {
     let mut t: usize = 0;

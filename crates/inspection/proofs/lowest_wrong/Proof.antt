@@ -2,7 +2,7 @@ use Prim.Native.Nat.{_-_}
 use borrow.Author.Needs.{needs}
 use Rattle.model.proofs.Searches.{Passed, passed-start, passed-done}
 use Rattle.inspection.specs.Faults.{wrongIn}
-use Rattle.inspection.proofs.Found.{from-fits, place-low, place-fits, offset-fits, wrong-on, wrong-found}
+use Rattle.inspection.proofs.Found.{lent-ported, input-low, from-fits, place-low, place-fits, offset-fits, wrong-on, wrong-found}
 use Rattle.inspection.proofs.lowest_wrong.Statement.{statement}
 use Rattle.inspection.proofs.lowest_wrong.Tie as tie
 
@@ -24,7 +24,7 @@ lowest-wrong-spec =
     (λ c. search (needs, offset-fits))
     (λ c. search (needs, place-low))
     (λ c κs. search needs)
-    (λ c κs. search needs)
+    (λ c κs. (search (needs, lent-ported), search (needs, input-low)))
     (λ c. search (needs, wrong-found))
     (λ c. search needs)
     (λ c. search needs)

@@ -1,5 +1,5 @@
 use borrow.Author.Needs.{needs}
-use Rattle.service.proofs.Whom.{input-named, flow-first, input-first, output-first}
+use Rattle.service.proofs.Whom.{input-from-one, flow-first, input-first, output-first}
 use Rattle.service.proofs.first_entry.Statement.{statement}
 use Rattle.service.proofs.first_entry.Tie as tie
 
@@ -9,7 +9,7 @@ first-entry-spec =
     (tie.spec
     (λ c. search needs)
     (λ c. search needs)
-    (λ c. search (needs, input-named))
+    (λ c. search (needs, input-from-one))
     (λ c. search needs)
     (λ c. search (needs, flow-first))
     (λ c. search (needs, input-first))

@@ -4,7 +4,7 @@ use lib.ListN.{length}
 use borrow.Author.Needs.{needs}
 use Rattle.model.specs.Service.{classOf}
 use Rattle.service.specs.Whom.{firstEntry, nextEntry}
-use Rattle.service.proofs.Whom.{who-placed}
+use Rattle.service.proofs.Whom.{named-from-one, named-numbered, who-placed}
 use Rattle.service.proofs.Counting.{Counting, counting-start, counting-on, counting-end, counting-most}
 use Rattle.service.proofs.slot_cells.Statement.{statement}
 use Rattle.service.proofs.slot_cells.Tie as tie
@@ -45,12 +45,12 @@ slot-cells-spec =
     Inv-loop
     μ-loop
     (λ c κs. search needs)
-    (λ c κs. search needs)
+    (λ c κs. search (needs, named-from-one))
     (λ c. let first = placed (c .before .before .before .before) .0 in search (needs, counting-start))
     (λ c. search needs)
     (λ c. search needs)
     (λ c κs. search needs)
-    (λ c κs. search needs)
+    (λ c κs. search (needs, named-numbered))
     (λ c. omega (arith, counting-most (again c), step-most c, turn c .loop-test .taken, start c .pre .2))
     (λ c. omega (arith, step-most c, turn c .loop-test .taken, start c .pre .2))
     (λ c. omega (arith, step-least c, turn c .loop-test .taken))

@@ -11,7 +11,7 @@ opened c = accepted-open (c .before .before .check-frame .ensures) (c .enum-told
 returns : tie.Need-returns
 returns c =
     let shut = refused-shut (c .before .before .before .before .before .check-frame .ensures) (c .before .before .before .answer .given .1) in
-    (no-view _ _ _ _ _ shut, (begins _ (no-start _ _ _ _ _ shut), c .before .of-refusal .ensures .number-is ∙ view-refused _ _ _ _ _ shut))
+    (no-view _ _ _ _ _ shut, (begins _ (no-start _ _ _ _ _ shut), c .before .of-refusal .ensures .three .number-is ∙ view-refused _ _ _ _ _ shut))
 
 returns-2 : tie.Need-returns-2
 returns-2 c =
