@@ -1,5 +1,6 @@
 // A case's line: the call, what is asked of it, and the numbers of its answer.
 ghost use mathlib.Core.Path.{_≡_};
+ghost use Prim.Native.Nat.{_≤_};
 ghost use lib.IntN.{natAbs};
 use model::Answer;
 use model::Refusal;
@@ -42,7 +43,7 @@ fn rack(call: &[u8], ports: usize, slots: usize) {
     named(b"slots", slots);
 }
 
-// Two numbers: a port and its cells, or 0 and a count.
+// Two numbers: a port or a link and its cells, or 0 and a count.
 fn load(port: usize, cells: usize) {
     number(port);
     number(cells);
@@ -58,19 +59,34 @@ fn refusal(refusal: Refusal) {
     if let Refusal::OutputLoad { port, cells } = refusal {
         load(port, cells);
     }
+    if let Refusal::LinkLoad {
+        output,
+        link,
+        cells,
+    } = refusal {
+        number(output);
+        load(link, cells);
+    }
 }
 
 // The answer's number and values, 0 for accepted.
-pub fn admit(ports: usize, slots: usize, list: &[u16]) {
+pub fn admit_within(ports: usize, slots: usize, list: &[u16], limits: [u16; 64]) {
     rack(b"Admit", ports, slots);
     named(b"numbers", list.len());
     io::write_all(1, b":");
-    let answer = admission::admit(ports, slots, list);
+    let answer = admission::admit(ports, slots, list, limits);
     match answer {
         Answer::Accepted => number(0),
         Answer::Refused(r) => refusal(r),
     }
     io::write_all(1, b"\n");
+}
+
+// The same where the limit of each link is the slots.
+pub fn admit(ports: usize, slots: usize, list: &[u16])
+    requires { ⌜ slots ≤ 65535 ⌝ }
+{
+    admit_within(ports, slots, list, [slots as u16; 64]);
 }
 
 // Each entry of a part.

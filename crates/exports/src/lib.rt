@@ -1,11 +1,11 @@
-// The C interface: numbers and slices only. Each answer is document 01's number, 0 for none, and up to two values; a count's
-// second is signed.
+// The C interface: numbers, slices and the limits of links only. Each answer is document 01's number, 0 for none, and up to two
+// values, of Admit and Build up to three; a count's second is signed.
 ghost use mathlib.Core.Path.{_≡_};
 ghost use Rattle.model.specs.Refusals.{admitted};
 ghost use Rattle.model.specs.Build.{built, left};
 ghost use Rattle.model.specs.Inspect.{inspected};
 ghost use Rattle.model.specs.Service.{viewNumber, viewStart, viewSize, service};
-ghost use Rattle.numbers.specs.Numbers.{Three, Replied};
+ghost use Rattle.numbers.specs.Numbers.{Three, Four, Replied};
 use model::Answer;
 use model::Who;
 
@@ -15,15 +15,19 @@ pub extern "C" fn frame_builder_admit(
     ports: usize,
     slots: usize,
     list: &[u16],
+    limits: &[u16; 64],
     first: &mut usize,
     second: &mut usize,
+    third: &mut usize,
 ) -> usize
-    ensures { λ r. ⌜ Three (admitted ports slots (now (list .entry))) r (now (first .exit)) (now (second .exit)) ⌝ }
+    ensures { λ r. ⌜ Four (admitted ports slots (now (list .entry)) (now (limits .entry))) r
+        (now (first .exit)) (now (second .exit)) (now (third .exit)) ⌝ }
 {
-    let n = numbers::of_answer(admission::admit(ports, slots, list));
-    *first = n.first;
-    *second = n.second;
-    n.number
+    let answer = numbers::of_answer(admission::admit(ports, slots, list, *limits));
+    *first = answer.first;
+    *second = answer.second;
+    *third = answer.third;
+    answer.number
 }
 
 // Inspect.
@@ -50,16 +54,20 @@ pub extern "C" fn frame_builder_build(
     ports: usize,
     slots: usize,
     list: &[u16],
+    limits: &[u16; 64],
     frame: &mut [u16],
     first: &mut usize,
     second: &mut usize,
+    third: &mut usize,
 ) -> usize
-    ensures { λ r. ⌜ Three (built ports slots (now (list .entry)) (now (frame .entry))) r (now (first .exit)) (now (second .exit)) ⌝ }
-    ensures { λ _. ⌜ now (frame .exit) ≡ left ports slots (now (list .entry)) (now (frame .entry)) ⌝ }
+    ensures { λ r. ⌜ Four (built ports slots (now (list .entry)) (now (limits .entry)) (now (frame .entry))) r
+        (now (first .exit)) (now (second .exit)) (now (third .exit)) ⌝ }
+    ensures { λ _. ⌜ now (frame .exit) ≡ left ports slots (now (list .entry)) (now (limits .entry)) (now (frame .entry)) ⌝ }
 {
-    let n = numbers::of_built(schedule::build(ports, slots, list, frame));
+    let n = numbers::of_built(schedule::build(ports, slots, list, *limits, frame));
     *first = n.first;
     *second = n.second;
+    *third = n.third;
     n.number
 }
 

@@ -1,3 +1,3 @@
 -- Laws of the numbers of an answer.
-pub mod Threes
+pub mod Told
 pub mod Valued

@@ -4,18 +4,19 @@ ghost use Rattle.model.specs.Refusals.{refusal, answered};
 ghost use Rattle.model.specs.Build.{outcome};
 ghost use Rattle.model.specs.Inspect.{finding};
 ghost use Rattle.model.specs.Service.{served};
-ghost use Rattle.numbers.specs.Numbers.{Three, Replied};
+ghost use Rattle.numbers.specs.Numbers.{Four, Replied};
 use model::Answer;
 use model::Built;
 use model::Inspection;
 use model::Refusal;
 use model::Service;
 
-// An answer's number and its first two values, 0 where it has none.
+// An answer's number and its three values, 0 where it has none.
 pub struct Numbers {
     pub number: usize,
     pub first: usize,
     pub second: usize,
+    pub third: usize,
 }
 
 // A count's number, its cells and its lead, 0 where it is refused.
@@ -25,69 +26,76 @@ pub struct CountNumbers {
     pub lead: i64,
 }
 
-// A number with two values.
-fn three(number: usize, first: usize, second: usize) -> Numbers
-    ensures { λ r. ⌜ (r .number ≡ number) × (r .first ≡ first) × (r .second ≡ second) ⌝ }
+// A number with its values.
+fn four(number: usize, first: usize, second: usize, third: usize) -> Numbers
+    ensures { λ r. ⌜ (r .number ≡ number) × (r .first ≡ first) × (r .second ≡ second) × (r .third ≡ third) ⌝ }
 {
     Numbers {
         number,
         first,
         second,
+        third,
     }
 }
 
 // A refusal as numbers.
 pub fn of_refusal(refused: Refusal) -> Numbers
-    ensures { λ r. ⌜ Three (refusal refused) (r .number) (r .first) (r .second) ⌝ }
+    ensures { λ r. ⌜ Four (refusal refused) (r .number) (r .first) (r .second) (r .third) ⌝ }
 {
     match refused {
-        Refusal::Ports => three(1, 0, 0),
-        Refusal::Slots => three(2, 0, 0),
-        Refusal::ListLength => three(3, 0, 0),
-        Refusal::FrameLength => three(4, 0, 0),
-        Refusal::InputLoad { port, cells } => three(5, port, cells),
-        Refusal::OutputLoad { port, cells } => three(6, port, cells),
-        Refusal::LineForm { line } => three(7, line, 0),
-        Refusal::LinePort { line } => three(8, line, 0),
-        Refusal::SheetLength => three(10, 0, 0),
-        Refusal::SlotNumber => three(11, 0, 0),
-        Refusal::FlowOrPort => three(12, 0, 0),
-        Refusal::RunLength => three(13, 0, 0),
-        Refusal::TooManyFlows => three(21, 0, 0),
-        Refusal::FlowPort => three(22, 0, 0),
+        Refusal::Ports => four(1, 0, 0, 0),
+        Refusal::Slots => four(2, 0, 0, 0),
+        Refusal::ListLength => four(3, 0, 0, 0),
+        Refusal::FrameLength => four(4, 0, 0, 0),
+        Refusal::InputLoad { port, cells } => four(5, port, cells, 0),
+        Refusal::OutputLoad { port, cells } => four(6, port, cells, 0),
+        Refusal::LineForm { line } => four(7, line, 0, 0),
+        Refusal::LinePort { line } => four(8, line, 0, 0),
+        Refusal::SheetLength => four(10, 0, 0, 0),
+        Refusal::SlotNumber => four(11, 0, 0, 0),
+        Refusal::FlowOrPort => four(12, 0, 0, 0),
+        Refusal::RunLength => four(13, 0, 0, 0),
+        Refusal::TooManyFlows => four(21, 0, 0, 0),
+        Refusal::FlowPort => four(22, 0, 0, 0),
+        Refusal::FlowLink => four(23, 0, 0, 0),
+        Refusal::LinkLoad {
+            output,
+            link,
+            cells,
+        } => four(24, output, link, cells),
     }
 }
 
 // What Admit answers, as numbers.
 pub fn of_answer(answer: Answer) -> Numbers
-    ensures { λ r. ⌜ Three (answered answer) (r .number) (r .first) (r .second) ⌝ }
+    ensures { λ r. ⌜ Four (answered answer) (r .number) (r .first) (r .second) (r .third) ⌝ }
 {
     match answer {
-        Answer::Accepted => three(0, 0, 0),
+        Answer::Accepted => four(0, 0, 0, 0),
         Answer::Refused(refusal) => of_refusal(refusal),
     }
 }
 
 // What Build answers, as numbers.
 pub fn of_built(built: Built) -> Numbers
-    ensures { λ r. ⌜ Three (outcome built) (r .number) (r .first) (r .second) ⌝ }
+    ensures { λ r. ⌜ Four (outcome built) (r .number) (r .first) (r .second) (r .third) ⌝ }
 {
     match built {
-        Built::Accepted { settled } => three(0, settled, 0),
+        Built::Accepted { settled } => four(0, settled, 0, 0),
         Built::Refused(refusal) => of_refusal(refusal),
     }
 }
 
 // What Inspect answers, as numbers.
 pub fn of_inspection(inspection: Inspection) -> Numbers
-    ensures { λ r. ⌜ Three (finding inspection) (r .number) (r .first) (r .second) ⌝ }
+    ensures { λ r. ⌜ Four (finding inspection) (r .number) (r .first) (r .second) (r .third) ⌝ }
 {
     match inspection {
-        Inspection::Clean => three(0, 0, 0),
-        Inspection::WrongEntry { slot, input } => three(101, slot, input),
-        Inspection::OutputTwice { slot, output } => three(102, slot, output),
-        Inspection::FlowCount { flow } => three(103, flow, 0),
-        Inspection::UnbalancedBlock { slot, size } => three(104, slot, size),
+        Inspection::Clean => four(0, 0, 0, 0),
+        Inspection::WrongEntry { slot, input } => four(101, slot, input, 0),
+        Inspection::OutputTwice { slot, output } => four(102, slot, output, 0),
+        Inspection::FlowCount { flow } => four(103, flow, 0, 0),
+        Inspection::UnbalancedBlock { slot, size } => four(104, slot, size, 0),
         Inspection::Refused(refusal) => of_refusal(refusal),
     }
 }

@@ -18,7 +18,7 @@ use Rattle.model.specs.Refusals.{refusal}
 use Rattle.model.specs.declared.Refusal.{Refusal}
 use Rattle.model.proofs.Cases.{both-true}
 use Rattle.model.proofs.Sheets.{decimal-one, decimal-go, decimal-most}
-use Rattle.numbers.specs.Numbers.{Three}
+use Rattle.numbers.specs.Numbers.{Four}
 use Rattle.numbers.proofs.Valued.{valued-is}
 use Rattle.printing.specs.Printing.{Printed, PrintedIn, Prints, Sized, ofSize, frameBytes, wordThen, cellOf, slotLine}
 
@@ -143,8 +143,25 @@ load-printed out number port cells mid at′ mid2 at2 mid3 at3 new next x y z u 
     (piece (text " (port ") port (text ") (cells " ++ (decimal cells ++ text "))\n"))
     (prints-as out 0 b mid at′ long short e (piece (text "(refused ") number long (prints-all out 0 b) x)) y) z) u)
 
+pub link-printed : (out : List ℕ) (number o x cells : ℕ) (mid : List ℕ) (at′ : ℕ) (mid2 : List ℕ) (at2 : ℕ) (mid3 : List ℕ) (at3 : ℕ) (mid4 : List ℕ) (at4 : ℕ)
+    (new : List ℕ) (next : ℕ)
+    → PrintedIn 29 out 0 (wordThen (text "(refused ") number) mid at′ → PrintedIn 29 mid at′ (wordThen (text " (output ") o) mid2 at2
+    → PrintedIn 28 mid2 at2 (wordThen (text ") (link ") x) mid3 at3 → PrintedIn 29 mid3 at3 (wordThen (text ") (cells ") cells) mid4 at4
+    → Printed mid4 at4 (text "))\n") new next → Printed out 0 (printRefusal (number ∷ o ∷ x ∷ cells ∷ [])) new next
+link-printed out number o x cells mid at′ mid2 at2 mid3 at3 mid4 at4 new next a b c d u =
+    let all = printRefusal (number ∷ o ∷ x ∷ cells ∷ []) in
+    let long : List ℕ = (text " (output " ++ (decimal o ++ (text ") (link " ++ (decimal x ++ (text ") (cells " ++ (decimal cells ++ text ")")))))) ++ text ")\n" in
+    let short : List ℕ = text " (output " ++ (decimal o ++ (text ") (link " ++ (decimal x ++ (text ") (cells " ++ (decimal cells ++ text "))\n"))))) in
+    let e : long ≡ short = simp append-assoc in
+    prints-end out 0 all new next
+    (prints-on out 0 all mid4 at4 (text "))\n") [] new next
+    (piece (text ") (cells ") cells (text "))\n")
+    (piece (text ") (link ") x (text ") (cells " ++ (decimal cells ++ text "))\n"))
+    (piece (text " (output ") o (text ") (link " ++ (decimal x ++ (text ") (cells " ++ (decimal cells ++ text "))\n"))))
+    (prints-as out 0 all mid at′ long short e (piece (text "(refused ") number long (prints-all out 0 all) a)) b) c) d) u)
+
 -- the list of a refusal, by its number
-module _ (out : List ℕ) (r : Refusal) (n first second : ℕ) (new : List ℕ) (next : ℕ) (t : Three (refusal r) n first second) where
+module _ (out : List ℕ) (r : Refusal) (n first second third : ℕ) (new : List ℕ) (next : ℕ) (t : Four (refusal r) n first second third) where
   abbrev Is : List ℕ → Type 0
   Is l = Printed out 0 (printRefusal l) new next
 
@@ -159,8 +176,12 @@ module _ (out : List ℕ) (r : Refusal) (n first second : ℕ) (new : List ℕ) 
       pub with-line : n < 9 → Is (n ∷ first ∷ []) → Is (refusal r)
       with-line c x = subst Is (valued-is r t) (rw (le-ltb n 5 a, le-ltb n 7 b, lt-ltb n 9 c) x)
 
-      pub high-plain : 9 ≤ n → Is (n ∷ []) → Is (refusal r)
-      high-plain c x = subst Is (valued-is r t) (rw (le-ltb n 5 a, le-ltb n 7 b, le-ltb n 9 c) x)
+      module _ (c : 9 ≤ n) where
+        pub high-plain : n < 24 → Is (n ∷ []) → Is (refusal r)
+        high-plain d x = subst Is (valued-is r t) (rw (le-ltb n 5 a, le-ltb n 7 b, le-ltb n 9 c, lt-ltb n 24 d) x)
+
+        pub with-three : 24 ≤ n → Is (n ∷ first ∷ second ∷ third ∷ []) → Is (refusal r)
+        with-three d x = subst Is (valued-is r t) (rw (le-ltb n 5 a, le-ltb n 7 b, le-ltb n 9 c, le-ltb n 24 d) x)
 
 -- ---- a slot
 pub cell-none : (out : List ℕ) (at e : ℕ) → e ≡ 0 → PrintedIn 21 out at (cellOf e) out at

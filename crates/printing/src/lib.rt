@@ -90,7 +90,18 @@ fn put_load(out: &mut [u8], number: usize, port: usize, cells: usize) -> usize
     put_word(out, next, b"))\n")
 }
 
-// Writes the line of a refusal.
+// Writes a refusal with its output, its link and the cells of that.
+fn put_link(out: &mut [u8], number: usize, output: usize, link: usize, cells: usize) -> usize
+    ensures { λ r. ⌜ Printed (now (out .entry)) 0 (printRefusal (number ∷ output ∷ link ∷ cells ∷ [])) (now (out .exit)) r ⌝ }
+{
+    let next = put_both(out, 0, b"(refused ", number);
+    let next = put_both(out, next, b" (output ", output);
+    let next = put_both(out, next, b") (link ", link);
+    let next = put_both(out, next, b") (cells ", cells);
+    put_word(out, next, b"))\n")
+}
+
+// Writes the line of a refusal; 24 is one that no sheet causes.
 pub fn put_refusal(out: &mut [u8], r: Refusal) -> usize
     ensures { λ n. ⌜ Printed (now (out .entry)) 0 (printRefusal (refusal r)) (now (out .exit)) n ⌝ }
 {
@@ -104,7 +115,10 @@ pub fn put_refusal(out: &mut [u8], r: Refusal) -> usize
     if n.number < 9 {
         return put_line(out, n.number, n.first);
     }
-    put_plain(out, n.number)
+    if n.number < 24 {
+        return put_plain(out, n.number);
+    }
+    put_link(out, n.number, n.first, n.second, n.third)
 }
 
 // Writes the flow that an input sends a cell of in a slot: nothing where it is idle.

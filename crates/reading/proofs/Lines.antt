@@ -83,13 +83,13 @@ pair-form ports s at n r h y e =
 
 module _ (ports : ℕ) (s : List ℕ) (at n : ℕ) (r : PairForm) (i o m next : ℕ) (y : FormOf s at r) (e : r ≡ Form i o m next) where
   pair-read : (slots : ℕ) (list : List ℕ) → readPairs ports slots (n + 3) list (lines (drop at s))
-      ≡ unless (bad-line-flow list ∷ bad-port (n + 3) ports i o ∷ []) (readPairs ports slots (n + 1 + 3) (list ++ (i ∷ o ∷ m ∷ [])) (lines (drop next s)))
+      ≡ unless (bad-line-flow list ∷ bad-port (n + 3) ports i o ∷ []) (readPairs ports slots (n + 1 + 3) (list ++ (i ∷ o ∷ m ∷ 1 ∷ [])) (lines (drop next s)))
   pair-read slots list =
       let x : PairAt s at i o m next = rw e at y in
       let k : suc (n + 3) ≡ n + 1 + 3 = omega arith in
       ap (λ z. readPairs ports slots (n + 3) list (lines z)) (x .stands)
       ∙ (pairs-yes ports slots (n + 3) list i o m (drop next s) (x .low .0) (x .low .1) (x .low .2)
-      ∙ ap (λ z. unless (bad-line-flow list ∷ bad-port (n + 3) ports i o ∷ []) (readPairs ports slots z (list ++ (i ∷ o ∷ m ∷ [])) (lines (drop next s)))) k)
+      ∙ ap (λ z. unless (bad-line-flow list ∷ bad-port (n + 3) ports i o ∷ []) (readPairs ports slots z (list ++ (i ∷ o ∷ m ∷ 1 ∷ [])) (lines (drop next s)))) k)
 
   pub pair-full : 512 ≤ n → PairRefused ports s at n (21 ∷ [])
   pair-full h = record { reads = λ slots list c. pair-read slots list ∙ rw (le-leb 512 (flows list) (omega arith)) }
@@ -141,7 +141,7 @@ reached-start ports slots at s list x h =
       reads = refl;
       fine = well-clear ports slots [] (well-none (x .least, x .most) (slots-tells slots .known (x .power)));
       few = omega arith;
-      size = ap length (x .empty) ∙ length-replicate {A = ℕ} 1536 0;
+      size = ap length (x .empty) ∙ length-replicate {A = ℕ} 2048 0;
       rest = x .empty;
       inside = h;
     }
@@ -151,47 +151,47 @@ pub pair-known : (ports : ℕ) (s : List ℕ) (at n : ℕ) (r : Reading) (i o m 
 pair-known ports s at n r i o m next x e = rw e at x
 
 -- what stands at the front has so many flows
-front-length : (list : List ℕ) (n : ℕ) → length list ≡ 1536 → n ≤ 512 → length (take (n * stride) list) ≡ n * stride
+front-length : (list : List ℕ) (n : ℕ) → length list ≡ 2048 → n ≤ 512 → length (take (n * stride) list) ≡ n * stride
 front-length list n e h = length-take-le (n * stride) list (omega arith)
 
-front-flows : (list : List ℕ) (n : ℕ) → length list ≡ 1536 → n ≤ 512 → flows (take (n * stride) list) ≡ n
+front-flows : (list : List ℕ) (n : ℕ) → length list ≡ 2048 → n ≤ 512 → flows (take (n * stride) list) ≡ n
 front-flows list n e h = let l = front-length list n e h in omega arith
 
 module _ (asked : Asked) (ports slots : ℕ) (s list : List ℕ) (n next i o m after : ℕ)
     (x : Reached asked ports slots s list n next) (y : PairRead ports s next n i o m after) where
-  abbrev three : List ℕ
-  three = i ∷ o ∷ m ∷ []
+  abbrev four : List ℕ
+  four = i ∷ o ∷ m ∷ 1 ∷ []
 
   abbrev front : List ℕ
   front = take (n * stride) list
 
-  put-is : sets list (n * stride) three ≡ (front ++ three) ++ drop (n * stride + stride) list
+  put-is : sets list (n * stride) four ≡ (front ++ four) ++ drop (n * stride + stride) list
   put-is =
       let k = x .size in
       let f = y .few in
-      sets-eq three list (n * stride) (omega arith)
+      sets-eq four list (n * stride) (omega arith)
 
-  put-length : length (front ++ three) ≡ (n + 1) * stride
-  put-length = let l = front-length list n (x .size) (x .few) in omega (arith, length-append front three)
+  put-length : length (front ++ four) ≡ (n + 1) * stride
+  put-length = let l = front-length list n (x .size) (x .few) in omega (arith, length-append front four)
 
-  pub reached-on : (new : List ℕ) → new ≡ sets list (n * stride) three → Reached asked ports slots s new (n + 1) after
+  pub reached-on : (new : List ℕ) → new ≡ sets list (n * stride) four → Reached asked ports slots s new (n + 1) after
   reached-on new e =
-      let taken : take ((n + 1) * stride) new ≡ front ++ three =
-      ap (take ((n + 1) * stride)) (e ∙ put-is) ∙ take-at (front ++ three) (drop (n * stride + stride) list) ((n + 1) * stride) put-length in
+      let taken : take ((n + 1) * stride) new ≡ front ++ four =
+      ap (take ((n + 1) * stride)) (e ∙ put-is) ∙ take-at (front ++ four) (drop (n * stride + stride) list) ((n + 1) * stride) put-length in
       let f = front-flows list n (x .size) (x .few) in
       record {
         reads = x .reads ∙ (y .reads slots front f ∙ ap (λ z. readPairs ports slots (n + 1 + 3) z (lines (drop after s))) (sym taken));
         fine = rw taken
-            (well-clear ports slots (front ++ three)
+            (well-clear ports slots (front ++ four)
             (well-more i o m (clear-well ports slots front (x .fine)) (let k = y .few in omega arith) (y .of-input) (y .of-output)));
         few = (let k = y .few in omega arith);
-        size = ap length e ∙ (length-sets list (n * stride) three ∙ x .size);
+        size = ap length e ∙ (length-sets list (n * stride) four ∙ x .size);
         rest = ap (drop ((n + 1) * stride)) (e ∙ put-is)
-            ∙ (drop-at (front ++ three) (drop (n * stride + stride) list) ((n + 1) * stride) put-length
+            ∙ (drop-at (front ++ four) (drop (n * stride + stride) list) ((n + 1) * stride) put-length
             ∙ (sym (drop-drop stride (n * stride) list)
             ∙ (ap (drop stride) (x .rest)
-            ∙ (drop-replicate stride (1536 - n * stride) 0
-            ∙ ap (λ z. replicate z 0) (let k : 1536 - n * stride - stride ≡ 1536 - (n + 1) * stride = omega arith in k)))));
+            ∙ (drop-replicate stride (2048 - n * stride) 0
+            ∙ ap (λ z. replicate z 0) (let k : 2048 - n * stride - stride ≡ 2048 - (n + 1) * stride = omega arith in k)))));
         inside = y .inside;
       }
 
@@ -266,6 +266,6 @@ module _ (s lent : List ℕ) (first : Reading) (ports next : ℕ) (second : Read
       let l = front-length list n (a .size) (a .few) in (
         subst (λ b. LoadsRead b list p k n) (sym asked-is) a,
         sym (take-append-drop (n * stride) list)
-            ∙ ap (λ b. take (n * stride) list ++ b) (a .rest ∙ ap (λ b. replicate (1536 - b) 0) (sym l))
+            ∙ ap (λ b. take (n * stride) list ++ b) (a .rest ∙ ap (λ b. replicate (2048 - b) 0) (sym l))
             ∙ sym (ap (λ b. listLeft b lent) (asked-is ∙ a .asks)),
       )

@@ -99,11 +99,11 @@ SlotsOf ports s at (Pair i o m next) = ⊥
 SlotsOf ports s at (Loads m slots n) = ⊥
 SlotsOf ports s at (Refused r) = readSlots ports (lines (drop at s)) ≡ refused (refusal r)
 
--- A pair line is read, behind those of n flows: its flow is one more of the list.
+-- A pair line is read, behind those of n flows: its flow is one more of the list, on link 1.
 pub record PairRead (ports : ℕ) (s : List ℕ) (at n i o m next : ℕ) : Type 0 where
   pub reads : (slots : ℕ) (list : List ℕ) → flows list ≡ n
       → readPairs ports slots (n + 3) list (lines (drop at s))
-      ≡ readPairs ports slots (n + 1 + 3) (list ++ (i ∷ o ∷ m ∷ [])) (lines (drop next s))
+      ≡ readPairs ports slots (n + 1 + 3) (list ++ (i ∷ o ∷ m ∷ 1 ∷ [])) (lines (drop next s))
   pub few : n < 512
   pub of-input : (1 ≤ i) × (i ≤ ports)
   pub of-output : (1 ≤ o) × (o ≤ ports)
@@ -122,13 +122,13 @@ PairOf ports s at n (Loads p slots f) = ⊥
 PairOf ports s at n (Refused r) = PairRefused ports s at n (refusal r)
 
 -- The sheet is read: what it asks for, with n flows at the front of the list where a list is asked for, and zeros behind them; none of
--- 1, 2, 3, 21 and 22 holds of those.
+-- 1, 2, 3, 21, 22 and 23 holds of those.
 pub record LoadsRead (asked : Asked) (list : List ℕ) (ports slots n : ℕ) : Type 0 where
   pub asks : asked ≡ loads ports slots (take (n * stride) list)
   pub fine : clear (listChecks ports slots (take (n * stride) list)) ≡ true
   pub few : n ≤ 512
-  pub size : length list ≡ 1536
-  pub rest : drop (n * stride) list ≡ replicate (1536 - n * stride) 0
+  pub size : length list ≡ 2048
+  pub rest : drop (n * stride) list ≡ replicate (2048 - n * stride) 0
 
 abbrev pub SheetOf : Asked → List ℕ → Reading → Type 0
 SheetOf asked list (Ports p next) = ⊥
@@ -139,7 +139,7 @@ SheetOf asked list (Refused r) = asked ≡ refused (refusal r)
 
 -- What the reading of a sheet leaves in a list that was lent: the flows read and zeros behind them; on a refusal what stood there.
 abbrev pub listLeft : Asked → List ℕ → List ℕ
-listLeft (loads ports slots l) lent = l ++ replicate (1536 - length l) 0
+listLeft (loads ports slots l) lent = l ++ replicate (2048 - length l) 0
 listLeft (refused r) lent = lent
 
 -- Lines 1 and 2 are well-formed, and the list has nothing but zeros.
@@ -147,13 +147,13 @@ pub record Fresh (ports slots : ℕ) (list : List ℕ) : Type 0 where
   pub least : 1 ≤ ports
   pub most : ports ≤ 16
   pub power : eqb (levels slots) 11 ≡ false
-  pub empty : list ≡ replicate 1536 0
+  pub empty : list ≡ replicate 2048 0
 
 -- Pair lines are read up to next: their n flows stand at the front of the list, zeros behind them.
 pub record Reached (asked : Asked) (ports slots : ℕ) (s list : List ℕ) (n next : ℕ) : Type 0 where
   pub reads : asked ≡ readPairs ports slots (n + 3) (take (n * stride) list) (lines (drop next s))
   pub fine : clear (listChecks ports slots (take (n * stride) list)) ≡ true
   pub few : n ≤ 512
-  pub size : length list ≡ 1536
-  pub rest : drop (n * stride) list ≡ replicate (1536 - n * stride) 0
+  pub size : length list ≡ 2048
+  pub rest : drop (n * stride) list ≡ replicate (2048 - n * stride) 0
   pub inside : next ≤ length s

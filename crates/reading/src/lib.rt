@@ -232,7 +232,7 @@ fn pair_line(sheet: &[u8], at: usize, ports: usize, flows: usize) -> Reading
     }
 }
 
-// The pair lines in turn, each one flow more of the list.
+// The pair lines in turn, each one flow more of the list, on link 1.
 fn read_pairs(
     sheet: &[u8],
     at: usize,

@@ -14,7 +14,7 @@ use denote.Enum.Declared.{tagOf}
 use borrow.Author.Tests.{lt-ltb, le-ltb}
 use Rattle.model.specs.Words.{if, both, Every}
 use Rattle.model.specs.Flows.{stride}
-use Rattle.model.specs.Refusals.{report, clear, listChecks, bad-frame, refusal, overloads}
+use Rattle.model.specs.Refusals.{report, clear, listChecks, bad-frame, refusal, portOverloads, linkOverload, overloads, slotsEach}
 use Rattle.model.specs.Build.{buildChecks, frameFor, outcome, acceptance, built, left}
 use Rattle.model.specs.Sheet.{Asked, loads, refused, overloaded, lines, readPorts, readSheet, printed, printFrame, response}
 use Rattle.model.specs.declared.Refusal.{Refusal}
@@ -22,7 +22,8 @@ use Rattle.model.specs.declared.Refusal.the-variants as variants
 use Rattle.model.specs.declared.Built.{Built}
 use Rattle.model.specs.declared.Built.the-variants as builds
 use Rattle.model.proofs.Levels.{power-most}
-use Rattle.model.proofs.Reports.{Refuses, report-refused, refusal-number, clear-none, clear-some, clear-then, frame-tells}
+use Rattle.model.proofs.Overloads.{slots-report}
+use Rattle.model.proofs.Reports.{Refuses, report-refused, refusal-number, clear-none, clear-some, clear-then, clear-parts, frame-tells}
 use Rattle.model.proofs.Demand2.{WellFormed, clear-well, past-frame}
 use Rattle.model.proofs.Lengths.{response-most}
 use Rattle.reading.proofs.Reading.{the-type}
@@ -44,11 +45,14 @@ module _ (ports slots n : ℕ) (list frame : List ℕ) (x : Readable ports slots
   well : WellFormed ports slots part
   well = clear-well ports slots part (x .fine)
 
-  most-slots : slots ≤ 1024
-  most-slots = power-most (well .power)
+  pub slots-low : slots ≤ 1024
+  slots-low = power-most (well .power)
+
+  pub ports-low : ports ≤ 16
+  ports-low = well .rack .1
 
   pub size-low : slots * ports ≤ 16384
-  size-low = let z : slots * ports ≤ 1024 * 16 = mul-le-mul most-slots (well .rack .1) in omega arith
+  size-low = let z : slots * ports ≤ 1024 * 16 = mul-le-mul slots-low ports-low in omega arith
 
   pub part-size : n * stride ≡ length part
   part-size = let l = x .few in omega (arith, length-take (n * stride) list, x .size)
@@ -59,41 +63,51 @@ module _ (ports slots n : ℕ) (list frame : List ℕ) (x : Readable ports slots
   pub size-inside : slots * ports ≤ length frame
   size-inside = omega (arith, size-low, x .room)
 
-  -- what Build reports is 5 or 6
-  report-two : built ports slots part room ≡ report (overloads ports slots part) (acceptance ports slots part room)
-  unfolding buildChecks
-  report-two = past-frame ports slots part well room (sym room-size) (overloads ports slots part) (acceptance ports slots part room)
+  abbrev each : List ℕ
+  each = slotsEach slots
 
-  clear-two : clear (buildChecks ports slots part room) ≡ clear (overloads ports slots part)
+  -- Build reports overload alone
+  report-three : built ports slots part each room ≡ report (overloads ports slots part each) (acceptance ports slots part each room)
   unfolding buildChecks
-  clear-two =
-      clear-then (listChecks ports slots part) (bad-frame ports slots room ∷ overloads ports slots part) (x .fine)
+  report-three =
+      past-frame ports slots part well room (sym room-size) (overloads ports slots part each) (acceptance ports slots part each room)
+
+  clear-three : clear (buildChecks ports slots part each room) ≡ clear (overloads ports slots part each)
+  unfolding buildChecks
+  clear-three =
+      clear-then (listChecks ports slots part) (bad-frame ports slots room ∷ overloads ports slots part each) (x .fine)
       ∙ rw (frame-tells ports slots room .met (sym room-size))
 
-  refuse-two : Every Refuses (overloads ports slots part)
-  refuse-two = ((λ e. omega arith), ((λ e. omega arith), tt))
+  refuse-three : Every Refuses (overloads ports slots part each)
+  refuse-three = ((λ e. omega arith), ((λ e. omega arith), ((λ e. omega arith), tt)))
 
-  pub built-yes : (a : Built) (mid : List ℕ) (settled : ℕ) → outcome a ≡ built ports slots part room → mid ≡ left ports slots part room → a ≡ builds.Accepted settled
-      → length mid ≡ length room → Answered (overloaded (loads ports slots part)) (mid ++ drop (slots * ports) frame) (Loads ports slots n)
+  pub built-yes : (a : Built) (mid : List ℕ) (settled : ℕ) → outcome a ≡ built ports slots part each room → mid ≡ left ports slots part each room
+      → a ≡ builds.Accepted settled → length mid ≡ length room
+      → Answered (overloaded (loads ports slots part)) (mid ++ drop (slots * ports) frame) (Loads ports slots n)
   built-yes a mid settled e f g k =
-      let c : clear (overloads ports slots part) ≡ true =
-      clear-none (overloads ports slots part) (acceptance ports slots part room) refuse-two (ap (λ l. getD l 0 0) (sym report-two ∙ (sym e ∙ ap outcome g))) in
+      let two = portOverloads ports slots part in
+      let three = overloads ports slots part each in
+      let c : clear three ≡ true =
+      clear-none three (acceptance ports slots part each room) refuse-three (ap (λ l. getD l 0 0) (sym report-three ∙ (sym e ∙ ap outcome g))) in
+      let d = clear-parts two (linkOverload ports part each ∷ []) c .0 in
       let h : take (slots * ports) (mid ++ drop (slots * ports) frame) ≡ mid = take-at mid (drop (slots * ports) frame) (slots * ports) (k ∙ sym room-size) in
       record {
-        prints = ap printed (ap (λ b. if b (loads ports slots part) (refused (report (overloads ports slots part) []))) c)
-            ∙ ap (printFrame ports slots) (sym (h ∙ (f ∙ ap (λ b. if b (frameFor ports slots part) room) (clear-two ∙ c))));
-        printable = record { most-ports = well .rack .1; most-slots = most-slots; inside = omega (arith, k, room-size, length-append mid (drop (slots * ports) frame)) };
+        prints = ap printed (ap (λ b. if b (loads ports slots part) (refused (report two []))) d)
+            ∙ ap (printFrame ports slots) (sym (h ∙ (f ∙ ap (λ b. if b (frameFor ports slots part) room) (clear-three ∙ c))));
+        printable = record { most-ports = ports-low; most-slots = slots-low; inside = omega (arith, k, room-size, length-append mid (drop (slots * ports) frame)) };
       }
 
-  pub built-no : (a : Built) (r : Refusal) (new : List ℕ) → outcome a ≡ built ports slots part room → a ≡ builds.Refused r
+  -- with these limits what Build refuses for is 5 or 6
+  pub built-no : (a : Built) (r : Refusal) (new : List ℕ) → outcome a ≡ built ports slots part each room → a ≡ builds.Refused r
       → Answered (overloaded (loads ports slots part)) new (Refused r)
   built-no a r new e g =
-      let two = overloads ports slots part in
-      let k : report two (acceptance ports slots part room) ≡ refusal r = sym report-two ∙ (sym e ∙ ap outcome g) in
-      let c : clear two ≡ false = clear-some two (acceptance ports slots part room) refl (λ z. refusal-number r (ap (λ l. getD l 0 0) (sym k) ∙ z)) in
+      let two = portOverloads ports slots part in
+      let taken = acceptance ports slots part each room in
+      let k : report two taken ≡ refusal r = sym (slots-report ports slots part ports-low taken) ∙ (sym report-three ∙ (sym e ∙ ap outcome g)) in
+      let c : clear two ≡ false = clear-some two taken refl (λ z. refusal-number r (ap (λ l. getD l 0 0) (sym k) ∙ z)) in
       record {
         prints = ap printed (ap (λ b. if b (loads ports slots part) (refused (report two []))) c
-            ∙ ap refused (report-refused two [] (acceptance ports slots part room) c ∙ k));
+            ∙ ap refused (report-refused two [] taken c ∙ k));
         printable = tt;
       }
 

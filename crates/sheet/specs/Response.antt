@@ -10,11 +10,12 @@ use Rattle.model.specs.Sheet.{Asked, printed, printFrame, printRefusal}
 use Rattle.reading.specs.declared.Reading.{Reading}
 use Rattle.reading.specs.declared.Reading.the-variants.{Ports, Slots, Pair, Loads, Refused}
 
--- The n flows read, at the front of a list, of which none of 1, 2, 3, 21 and 22 holds, and the buffer that their frame is built in.
+-- The n flows read, at the front of a list, of which none of 1, 2, 3, 21, 22 and 23 holds, and the buffer that their frame is built
+-- in.
 pub record Readable (ports slots n : ℕ) (list frame : List ℕ) : Type 0 where
   pub fine : clear (listChecks ports slots (take (n * stride) list)) ≡ true
   pub few : n ≤ 512
-  pub size : length list ≡ 1536
+  pub size : length list ≡ 2048
   pub room : length frame ≡ 16384
 
 -- What is printed for an answer, the frame standing at the front of its buffer.

@@ -24,14 +24,15 @@ pub const RESPONSE_MOST: usize = 76749;
 // The entries of the largest frame, 16 ports in 1,024 slots.
 const FRAME_MOST: usize = 16384;
 
-// Builds the frame of the flows read, at the front of the buffer: 5, then 6.
+// Builds the frame of the flows read, at the front of the buffer: 5, then 6; 24 never, each link's limit being the slots.
 fn build_loads(ports: usize, slots: usize, flows: usize, list: &[u16], frame: &mut [u16]) -> Reading
     requires { ⌜ Readable ports slots flows (now list) (now frame) ⌝ }
     ensures { λ r. ⌜ Answered (overloaded (loads ports slots (take (flows * stride) (now (list .entry))))) (now (frame .exit)) r ⌝ }
 {
     let numbers = flows * STRIDE;
     let size = slots * ports;
-    let built = schedule::build(ports, slots, &list[..numbers], &mut frame[..size]);
+    let limits = [slots as u16; 64];
+    let built = schedule::build(ports, slots, &list[..numbers], limits, &mut frame[..size]);
     let Built::Refused(refusal) = built else {
         return Reading::Loads {
             ports,

@@ -2,7 +2,7 @@ use mathlib.Core.Path.{_≡_}
 use borrow.Author.Needs.{needs}
 use mir.Syntax.{w64}
 use mir.Val.{toZ, ofZ}
-use Rattle.numbers.proofs.Threes.{replied-of}
+use Rattle.numbers.proofs.Told.{replied-of}
 use Rattle.exports.proofs.count.Statement.{statement}
 use Rattle.exports.proofs.count.Tie as tie
 

@@ -1,4 +1,4 @@
-use Rattle.numbers.proofs.Threes.{three-of}
+use Rattle.numbers.proofs.Told.{four-of}
 use borrow.Author.Needs.{needs}
 use Rattle.exports.proofs.frame_builder_admit.Statement.{statement}
 use Rattle.exports.proofs.frame_builder_admit.Tie as tie
@@ -9,4 +9,4 @@ frame-builder-admit-spec =
     (tie.spec
     (λ c κs. search needs)
     (λ c κs. search needs)
-    (λ c. three-of (c .of-answer .ensures) (c .before .admit .ensures)))
+    (λ c. four-of (c .of-answer .ensures) (c .before .admit .ensures)))

@@ -1,4 +1,4 @@
-use Rattle.numbers.proofs.Threes.{three-of}
+use Rattle.numbers.proofs.Told.{four-of}
 use borrow.Author.Needs.{needs}
 use Rattle.exports.proofs.frame_builder_build.Statement.{statement}
 use Rattle.exports.proofs.frame_builder_build.Tie as tie
@@ -10,4 +10,4 @@ frame-builder-build-spec =
     (λ c κs. search needs)
     (λ c κs. search needs)
     (λ c. search needs)
-    (λ c. (three-of (c .of-built .ensures) (c .before .before .before .build .ensures .0), c .before .before .before .build .ensures .1)))
+    (λ c. (four-of (c .of-built .ensures) (c .before .before .before .build .ensures .0), c .before .before .before .build .ensures .1)))

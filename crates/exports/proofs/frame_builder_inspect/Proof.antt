@@ -1,4 +1,4 @@
-use Rattle.numbers.proofs.Threes.{three-of}
+use Rattle.numbers.proofs.Told.{three-of}
 use borrow.Author.Needs.{needs}
 use Rattle.exports.proofs.frame_builder_inspect.Statement.{statement}
 use Rattle.exports.proofs.frame_builder_inspect.Tie as tie
@@ -9,4 +9,4 @@ frame-builder-inspect-spec =
     (tie.spec
     (λ c κs. search needs)
     (λ c κs. search needs)
-    (λ c. three-of (c .of-inspection .ensures) (c .before .inspect .ensures)))
+    (λ c. three-of (c .of-inspection .ensures .three) (c .before .inspect .ensures)))

@@ -11,7 +11,7 @@ opened c = accepted-open (c .before .before .check-frame .ensures) (c .enum-told
 returns : tie.Need-returns
 returns c =
     let shut = refused-shut (c .before .before .before .before .check-frame .ensures) (c .before .before .answer .given .1) in
-    (c .of-refusal .ensures .number-is ∙ view-refused _ _ _ _ _ shut, (no-start _ _ _ _ _ shut, no-size _ _ _ _ _ shut))
+    (c .of-refusal .ensures .three .number-is ∙ view-refused _ _ _ _ _ shut, (no-start _ _ _ _ _ shut, no-size _ _ _ _ _ shut))
 
 returns-2 : tie.Need-returns-2
 returns-2 c = let o = opened c in (view-accepted _ _ _ _ o, (view-start _ _ _ _ o, view-size _ _ _ _ o))

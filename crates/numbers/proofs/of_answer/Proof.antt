@@ -1,5 +1,5 @@
 use Rattle.model.specs.Refusals.{answered}
-use Rattle.numbers.proofs.Threes.{told, passed}
+use Rattle.numbers.proofs.Told.{told, passed}
 use borrow.Author.Needs.{needs}
 use Rattle.numbers.proofs.of_answer.Statement.{statement}
 use Rattle.numbers.proofs.of_answer.Tie as tie
@@ -12,5 +12,5 @@ of-answer-spec =
     (λ c κs. search needs)
     (λ c. search needs)
     (λ c κs. search needs)
-    (λ c. told answered _ _ (c .before .enum-told .given .1) (c .three .ensures))
+    (λ c. told answered _ _ (c .before .enum-told .given .1) (c .four .ensures))
     (λ c. passed answered _ _ (c .before .before .answer .given .1) (c .of-refusal .ensures)))

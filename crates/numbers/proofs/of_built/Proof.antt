@@ -1,5 +1,5 @@
 use Rattle.model.specs.Build.{outcome}
-use Rattle.numbers.proofs.Threes.{told, passed}
+use Rattle.numbers.proofs.Told.{told, passed}
 use borrow.Author.Needs.{needs}
 use Rattle.numbers.proofs.of_built.Statement.{statement}
 use Rattle.numbers.proofs.of_built.Tie as tie
@@ -12,5 +12,5 @@ of-built-spec =
     (λ c κs. search needs)
     (λ c. search needs)
     (λ c κs. search needs)
-    (λ c. told outcome _ _ (c .before .before .built .given .1) (c .three .ensures))
+    (λ c. told outcome _ _ (c .before .before .built .given .1) (c .four .ensures))
     (λ c. passed outcome _ _ (c .before .before .built2 .given .1) (c .of-refusal .ensures)))

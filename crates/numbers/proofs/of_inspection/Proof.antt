@@ -1,5 +1,5 @@
 use Rattle.model.specs.Inspect.{finding}
-use Rattle.numbers.proofs.Threes.{told, passed}
+use Rattle.numbers.proofs.Told.{told, passed}
 use borrow.Author.Needs.{needs}
 use Rattle.numbers.proofs.of_inspection.Statement.{statement}
 use Rattle.numbers.proofs.of_inspection.Tie as tie
@@ -20,9 +20,9 @@ of-inspection-spec =
     (λ c κs. search needs)
     (λ c. search needs)
     (λ c κs. search needs)
-    (λ c. told finding _ _ (c .before .enum-told .given .1) (c .three .ensures))
-    (λ c. told finding _ _ (c .before .before .inspection .given .1) (c .three2 .ensures))
-    (λ c. told finding _ _ (c .before .before .inspection2 .given .1) (c .three3 .ensures))
-    (λ c. told finding _ _ (c .before .before .inspection3 .given .1) (c .three4 .ensures))
-    (λ c. told finding _ _ (c .before .before .inspection4 .given .1) (c .three5 .ensures))
+    (λ c. told finding _ _ (c .before .enum-told .given .1) (c .four .ensures))
+    (λ c. told finding _ _ (c .before .before .inspection .given .1) (c .four2 .ensures))
+    (λ c. told finding _ _ (c .before .before .inspection2 .given .1) (c .four3 .ensures))
+    (λ c. told finding _ _ (c .before .before .inspection3 .given .1) (c .four4 .ensures))
+    (λ c. told finding _ _ (c .before .before .inspection4 .given .1) (c .four5 .ensures))
     (λ c. passed finding _ _ (c .before .before .inspection5 .given .1) (c .of-refusal .ensures)))

@@ -1,4 +1,4 @@
-use Rattle.printing.proofs.Prints.{low-plain, with-load, with-line, high-plain}
+use Rattle.printing.proofs.Prints.{low-plain, with-load, with-line, high-plain, with-three}
 use borrow.Author.Needs.{needs}
 use Rattle.printing.proofs.put_refusal.Statement.{statement}
 use Rattle.printing.proofs.put_refusal.Tie as tie
@@ -19,4 +19,7 @@ put-refusal-spec =
     (λ c. search (needs, with-line))
     (λ c κs. search needs)
     (λ c. search needs)
-    (λ c. search (needs, high-plain)))
+    (λ c. search (needs, high-plain))
+    (λ c κs. search needs)
+    (λ c. search needs)
+    (λ c. search (needs, with-three)))

@@ -1,4 +1,4 @@
-use Rattle.sheet.proofs.Responses.{size-low, part-size, size-inside, room-size, built-yes, built-no}
+use Rattle.sheet.proofs.Responses.{slots-low, ports-low, size-low, part-size, size-inside, room-size, built-yes, built-no}
 use borrow.Author.Needs.{needs}
 use native.Mathlib.Omega.{arith}
 use Rattle.sheet.proofs.build_loads.Statement.{statement}
@@ -10,6 +10,7 @@ build-loads-spec =
     (tie.spec
     (λ c. omega (arith, c .before .before .pre .few))
     (λ c. omega (arith, size-low _ _ _ _ _ (c .before .before .pre)))
+    (λ c. omega (arith, slots-low _ _ _ _ _ (c .before .before .pre), ports-low _ _ _ _ _ (c .before .before .pre)))
     (λ c. part-size _ _ _ _ _ (c .before .before .before .pre))
     (λ c. size-inside _ _ _ _ _ (c .before .before .before .pre))
     (λ c. room-size _ _ _ _ _ (c .before .before .before .before .pre))
@@ -17,6 +18,6 @@ build-loads-spec =
     (λ c. search needs)
     (λ c. search needs)
     (λ c. search needs)
-    (λ c. built-yes _ _ _ _ _ (c .before .before .before .before .before .before .before .before .before .pre) _ _ _ (c .before .before .before .before .build .ensures .0) (c .before .before .before .before .build .ensures .1) (c .enum-told .given .1) (c .before .before .before .before .build .kept .1 .1 .1 .0))
+    (λ c. built-yes _ _ _ _ _ (c .before .before .before .before .before .before .before .before .before .pre) _ _ _ (c .before .before .before .before .build .ensures .0) (c .before .before .before .before .build .ensures .1) (c .enum-told .given .1) (c .before .before .before .before .build .kept .1 .1 .1 .1 .0))
     (λ c. search needs)
     (λ c. built-no _ _ _ _ _ (c .before .before .before .before .before .before .before .before .before .before .pre) _ _ _ (c .before .before .before .before .before .build .ensures .0) (c .before .built .given .1)))

@@ -6,10 +6,10 @@ use Rattle.bench.proofs.lists.fill.Statement.{statement}
 use Rattle.bench.proofs.lists.fill.Tie as tie
 
 abbrev Inv-loop : tie.InvT-loop
-Inv-loop list₀ place number p₀ list p = length list ≡ 1540
+Inv-loop list₀ place number p₀ list p = length list ≡ 2053
 
 abbrev μ-loop : tie.MeasureT-loop
-μ-loop list₀ place number p₀ list p = 1540 - p
+μ-loop list₀ place number p₀ list p = 2053 - p
 
 pub fill-spec : {M : Type 1} → statement M
 fill-spec =
