@@ -12,8 +12,8 @@
 #define LIST_LENGTH (FLOWS * FRAME_BUILDER_FLOW_NUMBERS)
 #define FRAME_LENGTH (SLOTS * PORTS)
 
-/* Input, output, cells. */
-static const uint16_t list[LIST_LENGTH] = {1, 2, 3, 1, 3, 2, 2, 1, 4, 2, 3, 3, 3, 1, 1, 3, 2, 5};
+/* Input, output, cells, link. */
+static const uint16_t list[LIST_LENGTH] = {1, 2, 3, 1, 1, 3, 2, 1, 2, 1, 4, 1, 2, 3, 3, 1, 3, 1, 1, 1, 3, 2, 5, 1};
 
 /* A run of the frame: its cells, and its lead in eighths of a cell, as the frame has eight slots. */
 struct run {
@@ -50,10 +50,13 @@ static void print_run(const char *name, struct run run)
 
 int main(void)
 {
-    uint16_t frame[FRAME_LENGTH];
-    size_t first, second;
+    uint16_t frame[FRAME_LENGTH], limits[FRAME_BUILDER_LIMITS];
+    size_t first, second, third;
 
-    if (frame_builder_build(PORTS, SLOTS, list, LIST_LENGTH, frame, FRAME_LENGTH, &first, &second) != FRAME_BUILDER_ACCEPTED)
+    for (size_t place = 0; place < FRAME_BUILDER_LIMITS; place++)
+        limits[place] = SLOTS;
+    size_t answer = frame_builder_build(PORTS, SLOTS, list, LIST_LENGTH, limits, frame, FRAME_LENGTH, &first, &second, &third);
+    if (answer != FRAME_BUILDER_ACCEPTED)
         return 1;
     struct run whole = run_of(frame, 1, SLOTS), behind = farthest(frame, -1);
     printf("flow %d: %zu cells in %d slots, lead %" PRId64 "\n", FLOW, whole.cells, SLOTS, whole.lead);

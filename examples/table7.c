@@ -10,7 +10,7 @@
 #define LIST_LENGTH (FLOWS * FRAME_BUILDER_FLOW_NUMBERS)
 #define FRAME_LENGTH (SLOTS * PORTS)
 
-/* Prints an answer: its text and, of a refusal or a fault, its number and its two values. */
+/* Prints an answer: its text and, of a refusal or a fault, its number and two values; only a link's load has a third. */
 static void print_answer(const char *call, size_t answer, size_t first, size_t second)
 {
     printf("%s: %s", call, frame_builder_text(answer));
@@ -46,12 +46,15 @@ static void print_count(const uint16_t *list, const uint16_t *frame, size_t star
 
 int main(void)
 {
-    /* Input, output, cells. */
-    uint16_t list[LIST_LENGTH] = {1, 1, 2, 1, 2, 2, 4, 1, 1, 4, 2, 1, 4, 4, 2};
-    uint16_t frame[FRAME_LENGTH];
-    size_t first, second;
+    /* Input, output, cells, link. */
+    uint16_t list[LIST_LENGTH] = {1, 1, 2, 1, 1, 2, 2, 1, 4, 1, 1, 1, 4, 2, 1, 1, 4, 4, 2, 1};
+    uint16_t frame[FRAME_LENGTH], limits[FRAME_BUILDER_LIMITS];
+    size_t first, second, third;
 
-    size_t answer = frame_builder_build(PORTS, SLOTS, list, LIST_LENGTH, frame, FRAME_LENGTH, &first, &second);
+    /* A cell in every slot, so that no link is slower than its output. */
+    for (size_t place = 0; place < FRAME_BUILDER_LIMITS; place++)
+        limits[place] = SLOTS;
+    size_t answer = frame_builder_build(PORTS, SLOTS, list, LIST_LENGTH, limits, frame, FRAME_LENGTH, &first, &second, &third);
     print_answer("build", answer, first, second);
     if (answer != FRAME_BUILDER_ACCEPTED)
         return 1;
@@ -65,7 +68,7 @@ int main(void)
 
     /* The cells of flow 1. */
     list[2]++;
-    answer = frame_builder_build(PORTS, SLOTS, list, LIST_LENGTH, frame, FRAME_LENGTH, &first, &second);
+    answer = frame_builder_build(PORTS, SLOTS, list, LIST_LENGTH, limits, frame, FRAME_LENGTH, &first, &second, &third);
     print_answer("build with one cell more", answer, first, second);
     /* A flow of input 4 where input 1 stands. */
     frame[0] = 5;

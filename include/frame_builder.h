@@ -2,26 +2,31 @@
  *
  * Link with libframe_builder.a: `./install` of the frame builder proves the calls and puts it under its prefix, and pkg-config has the
  * flags of frame_builder. In a checkout `rt staticlib exports` writes the same to target/staticlib/libexports.a. Of the C library it needs
- * memcpy and memset. examples/table7.c shows how the calls are used.
+ * memcpy and memset. examples/table7.c shows how the calls are used, examples/links.c how links and limits are.
  *
- * WORDS. Ports and slots are numbered from 1, inputs and outputs separately. A flow is so many cells per frame from an input to an output;
- * a pair of ports may have several. A list is the reserved flows as 16-bit numbers, three to a flow: input, output, cells. Flow 1 comes
- * first, and a flow's number is its place. A list may have no flows. The load of a port is the sum of the cells of its flows. A frame is
- * slots x ports 16-bit entries, slot 1 first; within a slot there is one entry per input: the number of the flow that it sends a cell of,
- * or 0 for idle. A block is the whole frame, or either half of a block of 2 or more slots. A slice is a list or a frame as a call is lent
- * it: a pointer, and how many 16-bit numbers there are. A lent number is one that a call is lent to write to: *first, *second, *start,
- * *size and *cells, each a size_t, and *lead, an int64_t.
+ * WORDS. Ports and slots are numbered from 1, inputs and outputs separately. An output drives up to four links, 1 to 4. A flow is so many
+ * cells per frame from an input to one link of an output; a pair of ports may have several. A list is the reserved flows as 16-bit numbers,
+ * four to a flow: input, output, cells, link. Flow 1 comes first, and a flow's number is its place. A list may have no flows. The load of a
+ * port, and of a link, is the sum of the cells of its flows. A link's limit is how many cells per frame it takes. The limits are 64 16-bit
+ * numbers, output by output: those of output 1's links 1 to 4, then those of output 2's, and so on to output 16. Those of outputs above
+ * ports are not looked at. For a link as fast as its output the limit may be slots or any number above. A frame is slots x ports 16-bit
+ * entries, slot 1 first; within a slot there is one entry per input: the number of the flow that it sends a cell of, or 0 for idle. A
+ * block is the whole frame, or either half of a block of 2 or more slots. A slice is a list or a frame as a call is lent it: a pointer, and
+ * how many 16-bit numbers there are. A lent number is one that a call is lent to write to: *first, *second, *third, *start, *size and
+ * *cells, each a size_t, and *lead, an int64_t.
  *
  * ANSWERS. Every call takes any numbers and slices of any length. It tries its refusals, and Inspect then its faults, in the order of its
  * table below, and returns the number of the first whose condition holds, or 0 if none does. It writes its lent numbers whatever it
- * answers: the values of the answer, and 0 where the answer has none. No list is ever written, and no frame but Build's: an accepted Build
- * leaves the list's frame there, every entry of it, and a refused one leaves every entry as it was. All this is proved.
+ * answers: the values of the answer, and 0 where the answer has none. No list and no limits are ever written, and no frame but Build's: an
+ * accepted Build leaves the list's frame there, every entry of it, and a refused one leaves every entry as it was. All this is proved.
  *
  * POINTERS. The caller sees to it that
- * - a slice's pointer points to as many 16-bit numbers as its length says, and a lent number's to one number;
+ * - a slice's pointer points to as many 16-bit numbers as its length says, that of the limits to all FRAME_BUILDER_LIMITS of them, and a
+ *   lent number's to one number;
  * - each is aligned as C asks of its type;
- * - what a call writes overlaps nothing else lent in the same call. So *first and *second are two numbers even where neither is looked at,
- *   *cells and *lead too, and Build's frame has no byte of the list. What is only read may overlap, as a list and Inspect's frame;
+ * - what a call writes overlaps nothing else lent in the same call. So *first, *second and *third are three numbers even where none is
+ *   looked at, *cells and *lead two, and Build's frame has no byte of the list or of the limits. What is only read may overlap, as a list
+ *   and Inspect's frame;
  * - no pointer is null, but for that of a slice of length 0. Nothing is read or written there. A list of length 0 has no flows, and its
  *   frame is all 0; a frame of length 0 is refused, since no switch has one.
  * What a call writes needs no value before. No call keeps a pointer.
@@ -41,13 +46,15 @@
 #include <stdint.h>
 
 /* The version of the project. It stands in this line alone; whatever else says the version reads it from here. */
-#define FRAME_BUILDER_VERSION "4.0.0"
+#define FRAME_BUILDER_VERSION "5.0.0"
 
-/* Limits. */
+/* Sizes. */
 #define FRAME_BUILDER_MAX_PORTS 16
+#define FRAME_BUILDER_MAX_LINKS 4 /* of an output */
+#define FRAME_BUILDER_LIMITS 64   /* four for each of 16 outputs, whatever ports are */
 #define FRAME_BUILDER_MAX_SLOTS 1024
 #define FRAME_BUILDER_MAX_FLOWS 512
-#define FRAME_BUILDER_FLOW_NUMBERS 3 /* of a list: so many to a flow */
+#define FRAME_BUILDER_FLOW_NUMBERS 4 /* of a list: so many to a flow */
 #define FRAME_BUILDER_MAX_FLOW_CELLS 65535
 #define FRAME_BUILDER_MAX_FRAME_ENTRIES 16384
 #define FRAME_BUILDER_MAX_RUN_SLOTS 1000000
@@ -74,6 +81,8 @@
 #define FRAME_BUILDER_REFUSED_RUN_LENGTH 13
 #define FRAME_BUILDER_REFUSED_TOO_MANY_FLOWS 21 /* the sheet program has it too */
 #define FRAME_BUILDER_REFUSED_FLOW_PORT 22
+#define FRAME_BUILDER_REFUSED_FLOW_LINK 23
+#define FRAME_BUILDER_REFUSED_LINK_LOAD 24
 
 #define FRAME_BUILDER_FAULT_WRONG_ENTRY 101
 #define FRAME_BUILDER_FAULT_OUTPUT_TWICE 102
@@ -114,6 +123,10 @@ static inline const char *frame_builder_text(size_t number)
         return "there are more than 512 flows";
     case FRAME_BUILDER_REFUSED_FLOW_PORT:
         return "a flow's input or output is outside 1 to ports";
+    case FRAME_BUILDER_REFUSED_FLOW_LINK:
+        return "a flow's link is outside 1 to 4";
+    case FRAME_BUILDER_REFUSED_LINK_LOAD:
+        return "a link's load is above its limit";
     case FRAME_BUILDER_FAULT_WRONG_ENTRY:
         return "an entry of the frame is no flow of its input";
     case FRAME_BUILDER_FAULT_OUTPUT_TWICE:
@@ -133,19 +146,22 @@ extern "C" {
 
 /* In the tables FRAME_BUILDER_ is left out before each name. */
 
-/* Admit: whether Build would accept the list, with a frame of its length.
+/* Admit: whether Build would accept the list with these limits, and a frame of its length.
  *
- *     answer                  *first                   *second
- *     ACCEPTED                0                        0
- *     REFUSED_PORTS           0                        0
- *     REFUSED_SLOTS           0                        0
- *     REFUSED_LIST_LENGTH     0                        0
- *     REFUSED_TOO_MANY_FLOWS  0                        0
- *     REFUSED_FLOW_PORT       0                        0
- *     REFUSED_INPUT_LOAD      the lowest such input    its load, slots + 1 to 33,553,920
- *     REFUSED_OUTPUT_LOAD     the lowest such output   its load, slots + 1 to 33,553,920
+ *     answer                  *first                   *second                             *third
+ *     ACCEPTED                0                        0                                   0
+ *     REFUSED_PORTS           0                        0                                   0
+ *     REFUSED_SLOTS           0                        0                                   0
+ *     REFUSED_LIST_LENGTH     0                        0                                   0
+ *     REFUSED_TOO_MANY_FLOWS  0                        0                                   0
+ *     REFUSED_FLOW_PORT       0                        0                                   0
+ *     REFUSED_FLOW_LINK       0                        0                                   0
+ *     REFUSED_INPUT_LOAD      the lowest such input    its load, slots + 1 to 33,553,920   0
+ *     REFUSED_OUTPUT_LOAD     the lowest such output   its load, slots + 1 to 33,553,920   0
+ *     REFUSED_LINK_LOAD       the lowest such output   its lowest such link                that link's load, limit + 1 to slots
  */
-size_t frame_builder_admit(size_t ports, size_t slots, const uint16_t *list, size_t list_length, size_t *first, size_t *second);
+size_t frame_builder_admit(size_t ports, size_t slots, const uint16_t *list, size_t list_length, const uint16_t *limits, size_t *first,
+                           size_t *second, size_t *third);
 
 /* Build: fills the frame, every entry of it, and says how many odd counts it settled.
  *
@@ -155,23 +171,26 @@ size_t frame_builder_admit(size_t ports, size_t slots, const uint16_t *list, siz
  * pair, in as many slots as ports, comes to that: 1,024 for 16 x 16. No block has more of them than the list has flows, so that there are
  * 97,792 at most for 16 x 1,024. All this is proved but for what it says of instructions.
  *
- *     answer                  *first                   *second                             frame
- *     ACCEPTED                the odd counts settled   0                                   the frame of the list
- *     REFUSED_PORTS           0                        0                                   as it was
- *     REFUSED_SLOTS           0                        0                                   as it was
- *     REFUSED_LIST_LENGTH     0                        0                                   as it was
- *     REFUSED_TOO_MANY_FLOWS  0                        0                                   as it was
- *     REFUSED_FLOW_PORT       0                        0                                   as it was
- *     REFUSED_FRAME_LENGTH    0                        0                                   as it was
- *     REFUSED_INPUT_LOAD      the lowest such input    its load, slots + 1 to 33,553,920   as it was
- *     REFUSED_OUTPUT_LOAD     the lowest such output   its load, slots + 1 to 33,553,920   as it was
+ *     answer                  *first                   *second                             *third             frame
+ *     ACCEPTED                the odd counts settled   0                                   0                  the frame of the list
+ *     REFUSED_PORTS           0                        0                                   0                  as it was
+ *     REFUSED_SLOTS           0                        0                                   0                  as it was
+ *     REFUSED_LIST_LENGTH     0                        0                                   0                  as it was
+ *     REFUSED_TOO_MANY_FLOWS  0                        0                                   0                  as it was
+ *     REFUSED_FLOW_PORT       0                        0                                   0                  as it was
+ *     REFUSED_FLOW_LINK       0                        0                                   0                  as it was
+ *     REFUSED_FRAME_LENGTH    0                        0                                   0                  as it was
+ *     REFUSED_INPUT_LOAD      the lowest such input    its load, slots + 1 to 33,553,920   0                  as it was
+ *     REFUSED_OUTPUT_LOAD     the lowest such output   its load, slots + 1 to 33,553,920   0                  as it was
+ *     REFUSED_LINK_LOAD       the lowest such output   its lowest such link                that link's load   as it was
  */
-size_t frame_builder_build(size_t ports, size_t slots, const uint16_t *list, size_t list_length, uint16_t *frame, size_t frame_length,
-                           size_t *first, size_t *second);
+size_t frame_builder_build(size_t ports, size_t slots, const uint16_t *list, size_t list_length, const uint16_t *limits, uint16_t *frame,
+                           size_t frame_length, size_t *first, size_t *second, size_t *third);
 
 /* Inspect: whether a frame from anywhere is legal for the list and balanced; if not, its first fault. Each kind of fault is looked for in
  * the whole frame before the next kind. An entry is wrong that is above the number of flows, or that is the number of a flow of another
- * input. A block is unbalanced where its halves differ by more than one cell of some flow, input or output, or in total.
+ * input. A block is unbalanced where its halves differ by more than one cell of some flow, input, output or link, or in total. Inspect is
+ * not told the limits, so that a list that Build refuses for a link's load may have clean frames.
  *
  *     answer                  *first                   *second                             which, of several
  *     CLEAN                   0                        0
@@ -180,6 +199,7 @@ size_t frame_builder_build(size_t ports, size_t slots, const uint16_t *list, siz
  *     REFUSED_LIST_LENGTH     0                        0
  *     REFUSED_TOO_MANY_FLOWS  0                        0
  *     REFUSED_FLOW_PORT       0                        0
+ *     REFUSED_FLOW_LINK       0                        0
  *     REFUSED_FRAME_LENGTH    0                        0
  *     FAULT_WRONG_ENTRY       the slot                 the input                           the lowest such slot, then input
  *     FAULT_OUTPUT_TWICE      the slot                 the output                          the lowest such slot, then output
@@ -229,6 +249,7 @@ size_t frame_builder_slot_view(size_t ports, size_t slots, const uint16_t *frame
  *     REFUSED_LIST_LENGTH     0                             0
  *     REFUSED_TOO_MANY_FLOWS  0                             0
  *     REFUSED_FLOW_PORT       0                             0
+ *     REFUSED_FLOW_LINK       0                             0
  *     REFUSED_FRAME_LENGTH    0                             0
  *     REFUSED_SLOT_NUMBER     0                             0
  *     REFUSED_FLOW_OR_PORT    0                             0

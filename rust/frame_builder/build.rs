@@ -19,7 +19,7 @@ const VARIABLES: [&str; 6] = [
 ];
 
 /// How the version begins of a library that has the calls as this crate makes them.
-const CALLS: &str = "4.";
+const CALLS: &str = "5.";
 
 const ADVICE: &str = "\
 What to do, one of these:

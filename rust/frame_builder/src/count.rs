@@ -11,12 +11,12 @@
 /// slots, where slots are 2^k: no run is farther from its share than (2k + 1)/3 cells. That is proved.
 ///
 /// ```
-/// use frame_builder::{build, service_count, Count, Flow, Refusal, Who};
+/// use frame_builder::{build, service_count, slots_each, Count, Flow, Refusal, Who};
 ///
 /// // Three cells in four slots, the last of which is idle.
 /// let list = [Flow::new(1, 1, 3)];
 /// let mut frame = [0; 4];
-/// build(1, 4, &list, &mut frame)?;
+/// build(1, 4, &list, slots_each(4), &mut frame)?;
 /// assert_eq!(frame, [1, 1, 1, 0]);
 /// let count = |start, length| service_count(1, 4, &list, &frame, Who::Flow(1), start, length);
 /// // The share of two slots is one cell and a half; the run has half a cell more, or half a cell less.

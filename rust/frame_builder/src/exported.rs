@@ -3,7 +3,7 @@
 use std::mem::size_of;
 
 use crate::numbers::Numbers;
-use crate::{Flow, Who};
+use crate::{Flow, Limits, Who};
 
 /// The numbers of a list that a flow is.
 const FLOW_NUMBERS: usize = size_of::<Flow>() / size_of::<u16>();
@@ -29,18 +29,22 @@ extern "C" {
         slots: usize,
         list: *const u16,
         list_length: usize,
+        limits: &Limits,
         first: &mut usize,
         second: &mut usize,
+        third: &mut usize,
     ) -> usize;
     fn frame_builder_build(
         ports: usize,
         slots: usize,
         list: *const u16,
         list_length: usize,
+        limits: &Limits,
         frame: *mut u16,
         frame_length: usize,
         first: &mut usize,
         second: &mut usize,
+        third: &mut usize,
     ) -> usize;
     fn frame_builder_inspect(
         ports: usize,
@@ -102,28 +106,38 @@ extern "C" {
     ) -> usize;
 }
 
-/// A list as the library takes it, its numbers end to end; a flow is three of them and nothing else.
+/// A list as the library takes it, its numbers end to end; a flow is four of them and nothing else.
 fn numbers_of(list: &[Flow]) -> (*const u16, usize) {
     (list.as_ptr().cast(), list.len() * FLOW_NUMBERS)
 }
 
-pub fn admit(ports: usize, slots: usize, list: &[Flow]) -> Numbers {
+pub fn admit(ports: usize, slots: usize, list: &[Flow], limits: &Limits) -> Numbers {
     let (data, length) = numbers_of(list);
     let mut given = Numbers::default();
-    let (first, second) = (&mut given.first, &mut given.second);
+    let (first, second, third) = (&mut given.first, &mut given.second, &mut given.third);
     // SAFETY: the slice is readable for its length.
-    given.number = unsafe { frame_builder_admit(ports, slots, data, length, first, second) };
+    given.number =
+        unsafe { frame_builder_admit(ports, slots, data, length, limits, first, second, third) };
     given
 }
 
-pub fn build(ports: usize, slots: usize, list: &[Flow], frame: &mut [u16]) -> Numbers {
+pub fn build(
+    ports: usize,
+    slots: usize,
+    list: &[Flow],
+    limits: &Limits,
+    frame: &mut [u16],
+) -> Numbers {
     let (data, length) = numbers_of(list);
     let (entries, size) = (frame.as_mut_ptr(), frame.len());
     let mut given = Numbers::default();
-    let (first, second) = (&mut given.first, &mut given.second);
+    let (first, second, third) = (&mut given.first, &mut given.second, &mut given.third);
     // SAFETY: both slices are readable for their lengths, and the frame is writable and nobody else's.
-    given.number =
-        unsafe { frame_builder_build(ports, slots, data, length, entries, size, first, second) };
+    given.number = unsafe {
+        frame_builder_build(
+            ports, slots, data, length, limits, entries, size, first, second, third,
+        )
+    };
     given
 }
 

@@ -92,8 +92,8 @@ pub enum Fault {
         /// The flow's number.
         flow: usize,
     },
-    /// 104: the halves of a block differ by more than one cell in some flow, input or output, or in all cells. The largest block, then
-    /// the earliest.
+    /// 104: the halves of a block differ by more than one cell in some flow, input, output or link, or in all cells. The largest block,
+    /// then the earliest.
     UnbalancedBlock {
         /// The first slot of the block.
         slot: usize,

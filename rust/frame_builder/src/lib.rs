@@ -12,14 +12,18 @@
 //!
 //! A [**flow**](Flow) is so many cells per frame that are reserved from an input to an output. A **list** is all of them, up to 512, and
 //! a flow's number is its place there, from 1. Several flows may have the same input and output, such as sound and picture between the
-//! same two ports: each has its own slots, so that each can have a buffer of its own. A list fits if no input and no output is asked for
-//! more cells than the frame has slots; every list that fits can be built. [`in_matrix_order`] makes the list of a load matrix.
+//! same two ports: each has its own slots, so that each can have a buffer of its own. [`in_matrix_order`] makes the list of a load matrix.
+//!
+//! An output drives up to four **links**, numbered from 1, and each flow goes over one of them. A link may be slower than its output: its
+//! [**limit**](Limits) is how many cells per frame it takes. [`slots_each`] has the limits of links that are as fast as their outputs. A
+//! list fits if no input and no output is asked for more cells than the frame has slots, and no link for more than its limit; every list
+//! that fits can be built.
 //!
 //! A **frame** says what the switch does in 1, 2, 4, .. or 1,024 slots, after which it begins again. It is slots × ports entries, slot
 //! 1 first; within a slot there is one entry per input: the number of the flow that the input sends a cell of, or 0 where it is idle.
 //!
-//! A frame is **balanced** if the cells of every flow, input and output, and all cells together, are spread evenly: a frame of two or
-//! more slots has two halves, which differ by at most one cell, each half is split again, and so on down to the slots. The frame, its
+//! A frame is **balanced** if the cells of every flow, input, output and link, and all cells together, are spread evenly: a frame of two
+//! or more slots has two halves, which differ by at most one cell, each half is split again, and so on down to the slots. The frame, its
 //! halves, their halves and so on are its **blocks**.
 //!
 //! A **run** is some consecutive slots of the repeating frame. Its **share** is the part of a whole frame's cells that falls to so
@@ -29,19 +33,20 @@
 //!
 //! | call | what it does | refusals, in their order |
 //! |---|---|---|
-//! | [`admit`] | says whether a list would be built | 1, 2, 21, 22, 5, 6 |
-//! | [`build`] | fills a frame, and says how much work that was | 1, 2, 21, 22, 4, 5, 6 |
-//! | [`inspect`] | looks over a frame that came from anywhere | 1, 2, 21, 22, 4 |
+//! | [`admit`] | says whether a list would be built | 1, 2, 21, 22, 23, 5, 6, 24 |
+//! | [`build`] | fills a frame, and says how much work that was | 1, 2, 21, 22, 23, 4, 5, 6, 24 |
+//! | [`inspect`] | looks over a frame that came from anywhere | 1, 2, 21, 22, 23, 4 |
 //! | [`slot_view`] | shows a slot's part of a frame | 1, 2, 4, 11 |
-//! | [`service_count`] | counts the cells that a flow, an input or an output gets in a run, with their lead | 1, 2, 21, 22, 4, 11, 12, 13 |
+//! | [`service_count`] | counts the cells of a flow, an input or an output in a run, with their lead | 1, 2, 21, 22, 23, 4, 11, 12, 13 |
 //!
 //! Every call takes any numbers and slices of any length, and none panics. One that cannot be answered is turned away with a
 //! [`Refusal`], the first in the table's order that holds. **A refusal leaves everything as it was**: above all, a refused [`build`]
 //! leaves every entry of the frame, so that the switch can go on with it.
 //!
-//! | limit | |
+//! | size | |
 //! |---|---|
 //! | ports | 1 to 16, [`MAX_PORTS`] |
+//! | links of an output | 1 to 4, [`MAX_LINKS`] |
 //! | slots of a frame | a power of two from 1 to 1,024, [`MAX_SLOTS`] |
 //! | flows of a list | 0 to 512, [`MAX_FLOWS`] |
 //! | cells of a flow | 0 to 65,535, [`MAX_FLOW_CELLS`] |
@@ -53,11 +58,11 @@
 //! Four ports and four slots. Input 1 sends two cells to output 1 and two to output 2, input 4 one each to 1 and 2 and two to 4.
 //!
 //! ```
-//! use frame_builder::{build, inspect, service_count, slot_view, Count, Flow, Inspection, Refusal, Who};
+//! use frame_builder::{build, inspect, service_count, slot_view, slots_each, Count, Flow, Inspection, Refusal, Who};
 //!
 //! # fn main() -> Result<(), Refusal> {
 //! let (ports, slots) = (4, 4);
-//! // Input, output, cells; flow 1 comes first.
+//! // Input, output, cells; flow 1 comes first, and all are on link 1.
 //! let list = [
 //!     Flow::new(1, 1, 2),
 //!     Flow::new(1, 2, 2),
@@ -66,7 +71,9 @@
 //!     Flow::new(4, 4, 2),
 //! ];
 //! let mut frame = [0; 16];
-//! build(ports, slots, &list, &mut frame)?;
+//! // No link is slower than its output.
+//! let limits = slots_each(slots);
+//! build(ports, slots, &list, limits, &mut frame)?;
 //! assert_eq!(
 //!     frame,
 //!     [
@@ -91,7 +98,7 @@
 //! let mut overloaded = list;
 //! overloaded[0] = Flow::new(3, 1, 5);
 //! let refusal = Refusal::InputLoad { port: 3, cells: 5 };
-//! assert_eq!(build(ports, slots, &overloaded, &mut frame), Err(refusal));
+//! assert_eq!(build(ports, slots, &overloaded, limits, &mut frame), Err(refusal));
 //! assert_eq!(refusal.number(), 5);
 //! assert_eq!(refusal.to_string(), "input 3 is asked for 5 cells, more than the frame has slots");
 //! assert_eq!(frame, before);
@@ -111,7 +118,7 @@
 //!    the crate stands in. It needs the Rattle kit.
 //!
 //! A variable that is set and leads to no library is an error, as is an installed one that is not whole, and one of another version
-//! than 4, whose calls take other arguments or answer otherwise: nothing else is taken in its place. An empty variable is as one that
+//! than 5, whose calls take other arguments or answer otherwise: nothing else is taken in its place. An empty variable is as one that
 //! is not set. Where no way leads to a library, the error says why each of them did not.
 //!
 //! A crate that depends on this one directly has in its own build script `DEP_FRAME_BUILDER_ARCHIVE`, the archive,
@@ -125,6 +132,7 @@ mod count;
 mod exported;
 mod flow;
 mod inspection;
+mod limits;
 mod numbers;
 mod refusal;
 mod who;
@@ -132,6 +140,7 @@ mod who;
 pub use count::Count;
 pub use flow::{in_matrix_order, Flow};
 pub use inspection::{Fault, Inspection};
+pub use limits::{slots_each, Limits};
 pub use refusal::Refusal;
 pub use who::Who;
 
@@ -145,6 +154,9 @@ pub const VERSION: &str = env!("FRAME_BUILDER_VERSION");
 
 /// The most ports of a switch.
 pub const MAX_PORTS: usize = 16;
+
+/// The most links of an output.
+pub const MAX_LINKS: usize = 4;
 
 /// The most slots of a frame.
 pub const MAX_SLOTS: usize = 1_024;
@@ -161,23 +173,27 @@ pub const MAX_FRAME_ENTRIES: usize = MAX_SLOTS * MAX_PORTS;
 /// The most slots of a run that [`service_count`] counts.
 pub const MAX_RUN_SLOTS: usize = 1_000_000;
 
-/// Says whether a list would be built.
+/// Says whether a list would be built with these limits.
 ///
 /// # Errors
 ///
-/// Refusals 1, 2, 21, 22, 5 and 6, the first of them that holds.
+/// Refusals 1, 2, 21, 22, 23, 5, 6 and 24, the first of them that holds.
 ///
 /// ```
-/// use frame_builder::{admit, Flow, Refusal};
+/// use frame_builder::{admit, slots_each, Flow, Refusal};
 ///
-/// assert_eq!(admit(2, 4, &[Flow::new(1, 1, 3), Flow::new(1, 2, 1), Flow::new(2, 2, 3)]), Ok(()));
+/// let limits = slots_each(4);
+/// assert_eq!(admit(2, 4, &[Flow::new(1, 1, 3), Flow::new(1, 2, 1), Flow::new(2, 2, 3)], limits), Ok(()));
 /// let refusal = Refusal::OutputLoad { port: 2, cells: 5 };
-/// assert_eq!(admit(2, 4, &[Flow::new(1, 2, 1), Flow::new(2, 2, 4)]), Err(refusal));
-/// assert_eq!(admit(2, 4, &[Flow::new(3, 1, 1)]), Err(Refusal::FlowPort));
-/// assert_eq!(admit(2, 4, &[]), Ok(()));
+/// assert_eq!(admit(2, 4, &[Flow::new(1, 2, 1), Flow::new(2, 2, 4)], limits), Err(refusal));
+/// assert_eq!(admit(2, 4, &[Flow::new(3, 1, 1)], limits), Err(Refusal::FlowPort));
+/// assert_eq!(admit(2, 4, &[Flow::new(1, 1, 1).on_link(5)], limits), Err(Refusal::FlowLink));
+/// let refusal = Refusal::LinkLoad { output: 1, link: 3, cells: 2 };
+/// assert_eq!(admit(2, 4, &[Flow::new(1, 1, 2).on_link(3)], slots_each(1)), Err(refusal));
+/// assert_eq!(admit(2, 4, &[], limits), Ok(()));
 /// ```
-pub fn admit(ports: usize, slots: usize, list: &[Flow]) -> Result<(), Refusal> {
-    exported::admit(ports, slots, list).answer()
+pub fn admit(ports: usize, slots: usize, list: &[Flow], limits: Limits) -> Result<(), Refusal> {
+    exported::admit(ports, slots, list, &limits).answer()
 }
 
 /// Fills the frame with the one schedule of the list, and says how many odd counts were settled for it.
@@ -190,33 +206,36 @@ pub fn admit(ports: usize, slots: usize, list: &[Flow]) -> Result<(), Refusal> {
 ///
 /// # Errors
 ///
-/// Refusals 1, 2, 21, 22, 4, 5 and 6, the first of them that holds; the frame then keeps every entry.
+/// Refusals 1, 2, 21, 22, 23, 4, 5, 6 and 24, the first of them that holds; the frame then keeps every entry.
 ///
 /// ```
-/// use frame_builder::{build, Flow, Refusal};
+/// use frame_builder::{build, slots_each, Flow, Refusal};
 ///
 /// let list = [Flow::new(1, 1, 2), Flow::new(2, 2, 1)];
+/// let limits = slots_each(4);
 /// let mut frame = [9; 8];
-/// assert_eq!(build(2, 3, &list, &mut frame), Err(Refusal::Slots));
+/// assert_eq!(build(2, 3, &list, limits, &mut frame), Err(Refusal::Slots));
 /// assert_eq!(frame, [9; 8]);
 /// // Flow 2 has one cell in the frame and in its first half, flow 1 one in each half.
-/// assert_eq!(build(2, 4, &list, &mut frame), Ok(4));
+/// assert_eq!(build(2, 4, &list, limits, &mut frame), Ok(4));
 /// assert_eq!(frame, [1, 0, 0, 2, 1, 0, 0, 0]);
 /// ```
 pub fn build(
     ports: usize,
     slots: usize,
     list: &[Flow],
+    limits: Limits,
     frame: &mut [u16],
 ) -> Result<usize, Refusal> {
-    exported::build(ports, slots, list, frame).settled()
+    exported::build(ports, slots, list, &limits, frame).settled()
 }
 
 /// Looks over a frame from anywhere: whether it carries the flows of the list, and evenly.
 ///
 /// # Errors
 ///
-/// Refusals 1, 2, 21, 22 and 4, the first of them that holds. An overloaded list is not refused: no frame carries it.
+/// Refusals 1, 2, 21, 22, 23 and 4, the first of them that holds. A list that overloads a port is not refused: no frame carries it. The
+/// limits of links are not asked for.
 ///
 /// ```
 /// use frame_builder::{inspect, Fault, Flow, Inspection};
@@ -278,7 +297,7 @@ pub fn slot_view(
 ///
 /// # Errors
 ///
-/// Refusals 1, 2, 21, 22, 4, 11, 12 and 13, the first of them that holds.
+/// Refusals 1, 2, 21, 22, 23, 4, 11, 12 and 13, the first of them that holds.
 ///
 /// ```
 /// use frame_builder::{service_count, Count, Flow, Refusal, Who};

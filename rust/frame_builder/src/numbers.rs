@@ -2,12 +2,13 @@
 
 use crate::{Count, Fault, Refusal};
 
-/// An answer's number, and two values where it has them; a count has its cells and its lead.
+/// An answer's number, and up to three values; a count has its cells and its lead.
 #[derive(Default)]
 pub struct Numbers {
     pub number: usize,
     pub first: usize,
     pub second: usize,
+    pub third: usize,
     pub lead: i64,
 }
 
@@ -41,8 +42,14 @@ impl Numbers {
             12 => Refusal::FlowOrPort,
             13 => Refusal::RunLength,
             21 => Refusal::TooManyFlows,
-            // By the library's contract this is 22: a slice of flows is never 3, and no call refuses with another number.
-            _ => Refusal::FlowPort,
+            22 => Refusal::FlowPort,
+            23 => Refusal::FlowLink,
+            // By the library's contract this is 24: a slice of flows is never 3, and no call refuses with another number.
+            _ => Refusal::LinkLoad {
+                output: self.first,
+                link: self.second,
+                cells: self.third,
+            },
         }
     }
 

@@ -44,6 +44,18 @@ pub enum Refusal {
     TooManyFlows,
     /// 22, caused by the house that reserves: a flow's input or output is not 1 to ports.
     FlowPort,
+    /// 23, caused by the house that reserves: a flow's link is not 1 to [`MAX_LINKS`](crate::MAX_LINKS).
+    FlowLink,
+    /// 24, caused by the house that reserves: no input and no output, but a link is asked for more cells than its
+    /// [limit](crate::Limits).
+    LinkLoad {
+        /// The lowest output that has such a link.
+        output: usize,
+        /// Its lowest such link.
+        link: usize,
+        /// All the cells that the link is asked for.
+        cells: usize,
+    },
 }
 
 impl Refusal {
@@ -64,6 +76,8 @@ impl Refusal {
             Refusal::RunLength => 13,
             Refusal::TooManyFlows => 21,
             Refusal::FlowPort => 22,
+            Refusal::FlowLink => 23,
+            Refusal::LinkLoad { .. } => 24,
         }
     }
 }
@@ -71,32 +85,33 @@ impl Refusal {
 impl fmt::Display for Refusal {
     fn fmt(&self, to: &mut fmt::Formatter<'_>) -> fmt::Result {
         let above = "more than the frame has slots";
-        match self {
-            Refusal::Ports => write!(to, "the number of ports is not 1 to 16"),
-            Refusal::Slots => {
-                write!(
-                    to,
-                    "the number of slots is not a power of two from 1 to 1,024"
-                )
-            }
-            Refusal::FrameLength => write!(to, "the frame's length is not slots × ports"),
+        to.write_str(match self {
+            Refusal::Ports => "the number of ports is not 1 to 16",
+            Refusal::Slots => "the number of slots is not a power of two from 1 to 1,024",
+            Refusal::FrameLength => "the frame's length is not slots × ports",
             Refusal::InputLoad { port, cells } => {
-                write!(to, "input {port} is asked for {cells} cells, {above}")
+                return write!(to, "input {port} is asked for {cells} cells, {above}");
             }
             Refusal::OutputLoad { port, cells } => {
-                write!(to, "output {port} is asked for {cells} cells, {above}")
+                return write!(to, "output {port} is asked for {cells} cells, {above}");
             }
-            Refusal::SlotNumber => write!(to, "the slot or start is outside 1 to slots"),
-            Refusal::FlowOrPort => {
-                write!(
+            Refusal::SlotNumber => "the slot or start is outside 1 to slots",
+            Refusal::FlowOrPort => "the flow is not in the list, or the port is outside 1 to ports",
+            Refusal::RunLength => "the run is longer than 1,000,000 slots",
+            Refusal::TooManyFlows => "there are more than 512 flows",
+            Refusal::FlowPort => "a flow's input or output is outside 1 to ports",
+            Refusal::FlowLink => "a flow's link is outside 1 to 4",
+            Refusal::LinkLoad {
+                output,
+                link,
+                cells,
+            } => {
+                return write!(
                     to,
-                    "the flow is not in the list, or the port is outside 1 to ports"
-                )
+                    "link {link} of output {output} is asked for {cells} cells, more than its limit"
+                );
             }
-            Refusal::RunLength => write!(to, "the run is longer than 1,000,000 slots"),
-            Refusal::TooManyFlows => write!(to, "there are more than 512 flows"),
-            Refusal::FlowPort => write!(to, "a flow's input or output is outside 1 to ports"),
-        }
+        })
     }
 }
 

@@ -2,8 +2,8 @@
 
 use std::error::Error;
 
-use frame_builder::{admit, build, in_matrix_order, inspect, service_count, slot_view};
-use frame_builder::{Count, Fault, Flow, Inspection, Refusal, Who};
+use frame_builder::{admit, build, in_matrix_order, inspect, service_count, slot_view, slots_each};
+use frame_builder::{Count, Fault, Flow, Inspection, Limits, Refusal, Who, MAX_LINKS};
 
 /// The flows of source document 000's Table 7.
 const TABLE7: [Flow; 5] = [
@@ -17,88 +17,100 @@ const TABLE7: [Flow; 5] = [
 /// One cell from each of two ports to its own number.
 const OWN: [Flow; 2] = [Flow::new(1, 1, 1), Flow::new(2, 2, 1)];
 
-/// Every refusal, from a call that is refused so.
-fn refusals() -> [(Refusal, &'static str); 10] {
+/// Every refusal, by rising number, from a call that is refused so.
+fn refusals() -> [Refusal; 12] {
     let refused = |refusal: Result<(), Refusal>| refusal.expect_err("the call is refused");
-    let counted = |who, start, length| {
-        let count = service_count(2, 2, &OWN, &[0; 4], who, start, length);
+    let admitted = |ports, slots, list: &[Flow]| refused(admit(ports, slots, list, slots_each(4)));
+    let counted = |who, length| {
+        let count = service_count(2, 2, &OWN, &[0; 4], who, 1, length);
         refused(count.map(|_| ()))
     };
     [
-        (
-            refused(admit(17, 2, &[])),
-            "the number of ports is not 1 to 16",
-        ),
-        (
-            refused(admit(2, 3, &[])),
-            "the number of slots is not a power of two from 1 to 1,024",
-        ),
-        (
-            refused(build(2, 2, &[], &mut [0; 3]).map(|_| ())),
-            "the frame's length is not slots × ports",
-        ),
-        (
-            refused(admit(2, 4, &[Flow::new(1, 1, 3), Flow::new(1, 2, 2)])),
-            "input 1 is asked for 5 cells, more than the frame has slots",
-        ),
-        (
-            refused(admit(2, 4, &[Flow::new(1, 1, 3), Flow::new(2, 1, 2)])),
-            "output 1 is asked for 5 cells, more than the frame has slots",
-        ),
-        (
-            refused(slot_view(2, 2, &[0; 4], 3).map(|_| ())),
-            "the slot or start is outside 1 to slots",
-        ),
-        (
-            counted(Who::Output(3), 1, 1),
-            "the flow is not in the list, or the port is outside 1 to ports",
-        ),
-        (
-            counted(Who::Input(1), 1, 1_000_001),
-            "the run is longer than 1,000,000 slots",
-        ),
-        (
-            refused(admit(2, 2, &[Flow::new(1, 1, 0); 513])),
-            "there are more than 512 flows",
-        ),
-        (
-            refused(admit(2, 2, &[Flow::new(1, 3, 0)])),
-            "a flow's input or output is outside 1 to ports",
-        ),
+        admitted(17, 2, &[]),
+        admitted(2, 3, &[]),
+        refused(build(2, 2, &[], slots_each(4), &mut [0; 3]).map(|_| ())),
+        admitted(2, 4, &[Flow::new(1, 1, 3), Flow::new(1, 2, 2)]),
+        admitted(2, 4, &[Flow::new(1, 1, 3), Flow::new(2, 1, 2)]),
+        refused(slot_view(2, 2, &[0; 4], 3).map(|_| ())),
+        counted(Who::Output(3), 1),
+        counted(Who::Input(1), 1_000_001),
+        admitted(2, 2, &[Flow::new(1, 1, 0); 513]),
+        admitted(2, 2, &[Flow::new(1, 3, 0)]),
+        admitted(2, 2, &[Flow::new(1, 2, 0).on_link(5)]),
+        admitted(2, 8, &[Flow::new(1, 2, 5).on_link(3)]),
     ]
 }
 
+const SENTENCES: [(usize, &str); 12] = [
+    (1, "the number of ports is not 1 to 16"),
+    (
+        2,
+        "the number of slots is not a power of two from 1 to 1,024",
+    ),
+    (4, "the frame's length is not slots × ports"),
+    (
+        5,
+        "input 1 is asked for 5 cells, more than the frame has slots",
+    ),
+    (
+        6,
+        "output 1 is asked for 5 cells, more than the frame has slots",
+    ),
+    (11, "the slot or start is outside 1 to slots"),
+    (
+        12,
+        "the flow is not in the list, or the port is outside 1 to ports",
+    ),
+    (13, "the run is longer than 1,000,000 slots"),
+    (21, "there are more than 512 flows"),
+    (22, "a flow's input or output is outside 1 to ports"),
+    (23, "a flow's link is outside 1 to 4"),
+    (
+        24,
+        "link 3 of output 2 is asked for 5 cells, more than its limit",
+    ),
+];
+
 #[test]
 fn refusals_read_as_sentences() {
-    for (refusal, sentence) in refusals() {
+    for (refusal, (number, sentence)) in refusals().into_iter().zip(SENTENCES) {
+        assert_eq!(refusal.number(), number);
         assert_eq!(refusal.to_string(), sentence);
     }
-    let numbers = refusals().map(|(refusal, _)| refusal.number());
-    assert_eq!(numbers, [1, 2, 4, 5, 6, 11, 12, 13, 21, 22]);
 }
 
 #[test]
 fn refusals_come_in_the_order_of_the_call() {
     // All that can be wrong with a build, and then one thing after the other put right.
-    let wrong = [Flow::new(17, 1, 65_535); 513];
-    let in_input = [Flow::new(1, 1, 65_535); 512];
+    let wrong = [Flow::new(17, 1, 65_535).on_link(0); 513];
+    let in_link = [Flow::new(1, 1, 65_535).on_link(5); 512];
+    let in_input = [Flow::new(1, 1, 65_535).on_link(4); 512];
     let in_output = [Flow::new(1, 1, 1), Flow::new(2, 1, 1)];
+    let past_limit = [Flow::new(1, 2, 1).on_link(2)];
     let input = Refusal::InputLoad {
         port: 1,
         cells: 33_553_920,
     };
     let output = Refusal::OutputLoad { port: 1, cells: 2 };
+    let limit = Refusal::LinkLoad {
+        output: 2,
+        link: 2,
+        cells: 1,
+    };
     for (ports, slots, list, length, refusal) in [
         (0, 3, &wrong[..], 1, Refusal::Ports),
         (2, 3, &wrong, 1, Refusal::Slots),
         (2, 1, &wrong, 1, Refusal::TooManyFlows),
         (2, 1, &wrong[..512], 1, Refusal::FlowPort),
+        (2, 1, &in_link, 1, Refusal::FlowLink),
         (2, 1, &in_input, 1, Refusal::FrameLength),
         (2, 1, &in_input, 2, input),
         (2, 1, &in_output, 2, output),
+        (2, 1, &past_limit, 2, limit),
     ] {
         let mut frame = vec![7; length];
-        assert_eq!(build(ports, slots, list, &mut frame), Err(refusal));
+        let answer = build(ports, slots, list, [0; 64], &mut frame);
+        assert_eq!(answer, Err(refusal));
         assert!(frame.iter().all(|&entry| entry == 7));
     }
 }
@@ -120,8 +132,8 @@ fn flows_that_are_not_in_the_list() {
 #[test]
 fn a_list_without_flows_has_an_idle_frame() {
     let mut frame = [7; 8];
-    assert_eq!(admit(4, 2, &[]), Ok(()));
-    assert_eq!(build(4, 2, &[], &mut frame), Ok(0));
+    assert_eq!(admit(4, 2, &[], [0; 64]), Ok(()));
+    assert_eq!(build(4, 2, &[], [0; 64], &mut frame), Ok(0));
     assert_eq!(frame, [0; 8]);
     assert_eq!(inspect(4, 2, &[], &frame), Ok(Inspection::Clean));
 }
@@ -168,6 +180,96 @@ fn flows_of_one_pair_are_told_apart() {
     assert_eq!(found(&[1, 1, 2, 0]), Ok(Inspection::Faulty(bunched)));
 }
 
+/// One cell from each of four ports to output 1, over these links.
+fn to_one_output(links: [u16; 4]) -> [Flow; 4] {
+    let [first, second, third, fourth] = links;
+    [
+        Flow::new(1, 1, 1).on_link(first),
+        Flow::new(2, 1, 1).on_link(second),
+        Flow::new(3, 1, 1).on_link(third),
+        Flow::new(4, 1, 1).on_link(fourth),
+    ]
+}
+
+#[test]
+fn links_are_partnered_for_themselves() {
+    // The flow of each slot: all on one link, two links with two flows each, and links that rise otherwise than the flows.
+    for (links, slots) in [
+        ([1, 1, 1, 1], [1, 3, 2, 4]),
+        ([1, 2, 1, 2], [1, 2, 3, 4]),
+        ([3, 2, 1, 4], [1, 2, 3, 4]),
+    ] {
+        let list = to_one_output(links);
+        let mut frame = [0; 16];
+        assert_eq!(build(4, 4, &list, slots_each(4), &mut frame), Ok(8));
+        let flows = frame.iter().filter(|&&entry| entry > 0);
+        assert!(flows.eq(&slots), "{links:?}: {frame:?}");
+        assert_eq!(inspect(4, 4, &list, &frame), Ok(Inspection::Clean));
+    }
+}
+
+#[test]
+fn links_are_balanced() {
+    // Flows 1 and 3 in the first half, flows 2 and 4 in the second.
+    let frame = [1, 0, 0, 0, 0, 0, 3, 0, 0, 2, 0, 0, 0, 0, 0, 4];
+    let found = |links| inspect(4, 4, &to_one_output(links), &frame);
+    assert_eq!(found([1, 1, 1, 1]), Ok(Inspection::Clean));
+    assert_eq!(found([4, 4, 2, 2]), Ok(Inspection::Clean));
+    let apart = Fault::UnbalancedBlock { slot: 1, size: 4 };
+    assert_eq!(found([4, 2, 4, 2]), Ok(Inspection::Faulty(apart)));
+    assert_eq!(found([1, 3, 2, 3]), Ok(Inspection::Faulty(apart)));
+}
+
+/// Limits with which the flows of a list come to their limit at each link, and no link without cells has any.
+fn exact_limits(list: &[Flow]) -> Limits {
+    let mut limits = [0; 64];
+    for flow in list {
+        limits[place_of(usize::from(flow.output), usize::from(flow.link))] += flow.cells;
+    }
+    limits
+}
+
+/// The place of a link's limit.
+fn place_of(output: usize, link: usize) -> usize {
+    (output - 1) * MAX_LINKS + link - 1
+}
+
+#[test]
+fn limits_are_held() {
+    // Output 2 has one cell on link 1 and two on link 3, output 3 two on link 2 and one on link 4.
+    let list = [
+        Flow::new(1, 2, 1),
+        Flow::new(2, 2, 1).on_link(3),
+        Flow::new(3, 2, 1).on_link(3),
+        Flow::new(3, 3, 2).on_link(2),
+        Flow::new(1, 3, 1).on_link(4),
+    ];
+    let exact = exact_limits(&list);
+    let mut above = exact;
+    above[place_of(4, 1)..].fill(9);
+    for limits in [exact, above, slots_each(4)] {
+        assert_eq!(admit(3, 4, &list, limits), Ok(()));
+    }
+    for (lowered, output, link, cells) in [
+        (&[(2, 3)][..], 2, 3, 2),
+        (&[(3, 4)], 3, 4, 1),
+        (&[(3, 4), (3, 2)], 3, 2, 2),
+        (&[(3, 2), (2, 3)], 2, 3, 2),
+        (&[(3, 2), (2, 3), (2, 1)], 2, 1, 1),
+    ] {
+        let mut limits = exact;
+        for &(output, link) in lowered {
+            limits[place_of(output, link)] -= 1;
+        }
+        let refusal = Refusal::LinkLoad {
+            output,
+            link,
+            cells,
+        };
+        assert_eq!(admit(3, 4, &list, limits), Err(refusal), "{lowered:?}");
+    }
+}
+
 #[test]
 fn refusals_and_faults_are_errors() {
     fn whole(frame: &[u16]) -> Result<(), Box<dyn Error + Send + Sync>> {
@@ -191,14 +293,17 @@ fn a_refused_build_leaves_every_entry() {
         (2, 0, &OWN),
         (2, 2, &[OWN[0]; 513]),
         (2, 2, &[Flow::new(0, 1, 0)]),
+        (2, 2, &[Flow::new(1, 1, 0).on_link(0)]),
         (2, 4, &OWN),
         (2, 2, &[input]),
         (2, 2, &[output, Flow::new(1, 2, 1)]),
         (usize::MAX, usize::MAX, &[]),
     ] {
-        assert!(build(ports, slots, list, &mut frame).is_err());
+        assert!(build(ports, slots, list, slots_each(2), &mut frame).is_err());
         assert_eq!(frame, [7; 4]);
     }
+    assert!(build(2, 2, &OWN, [0; 64], &mut frame).is_err());
+    assert_eq!(frame, [7; 4]);
 }
 
 /// A list with the same number of cells for each pair.
@@ -222,7 +327,7 @@ fn builds_say_how_many_odd_counts_they_settled() {
         (16, 32, &even(16, 1).repeat(2), 16 * 32 * 5),
     ] {
         let mut frame = vec![0; ports * slots];
-        let answer = build(ports, slots, list, &mut frame);
+        let answer = build(ports, slots, list, slots_each(slots), &mut frame);
         assert_eq!(answer, Ok(settled), "{ports} x {slots}");
     }
 }
@@ -233,8 +338,8 @@ fn a_matrix_has_one_flow_for_each_pair() {
     let list = in_matrix_order(4, &matrix).expect("a matrix of four ports");
     assert_eq!(list.len(), 16);
     let mut frames = [[0; 16]; 2];
-    build(4, 4, &list, &mut frames[0]).expect("the list fits");
-    build(4, 4, &TABLE7, &mut frames[1]).expect("the list fits");
+    build(4, 4, &list, slots_each(4), &mut frames[0]).expect("the list fits");
+    build(4, 4, &TABLE7, slots_each(4), &mut frames[1]).expect("the list fits");
     // The flows without cells change the numbers and nothing else.
     let [by_matrix, by_list] = frames;
     for (one, other) in by_matrix.into_iter().zip(by_list) {
@@ -250,7 +355,7 @@ fn a_matrix_has_one_flow_for_each_pair() {
 fn counts_have_a_lead() {
     // In a frame of four slots input 1 sends to output 1 in slots 1 and 3, and input 4 in slot 2.
     let mut frame = [0; 16];
-    build(4, 4, &TABLE7, &mut frame).expect("the list fits");
+    build(4, 4, &TABLE7, slots_each(4), &mut frame).expect("the list fits");
     for (who, start, length, cells, lead) in [
         (Who::Flow(3), 2, 1, 1, 3),
         (Who::Flow(3), 3, 3, 0, -3),

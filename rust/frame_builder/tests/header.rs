@@ -1,6 +1,6 @@
 //! The crate and the C header of the library that it is linked with name the same numbers.
 
-use frame_builder::{Fault, Flow, Inspection, Refusal};
+use frame_builder::{Fault, Flow, Inspection, Limits, Refusal};
 
 const HEADER: &str = include_str!(env!("FRAME_BUILDER_HEADER"));
 
@@ -25,8 +25,9 @@ fn version() {
 }
 
 #[test]
-fn limits() {
+fn sizes() {
     assert_eq!(number("MAX_PORTS"), Some(frame_builder::MAX_PORTS));
+    assert_eq!(number("MAX_LINKS"), Some(frame_builder::MAX_LINKS));
     assert_eq!(number("MAX_SLOTS"), Some(frame_builder::MAX_SLOTS));
     assert_eq!(number("MAX_FLOWS"), Some(frame_builder::MAX_FLOWS));
     assert_eq!(
@@ -48,9 +49,16 @@ fn numbers_of_a_flow() {
     assert_eq!(align_of::<Flow>(), align_of::<u16>());
 }
 
+/// The limits go over as a pointer without a length.
+#[test]
+fn number_of_limits() {
+    let limits = size_of::<Limits>() / size_of::<u16>();
+    assert_eq!(number("LIMITS"), Some(limits));
+}
+
 #[test]
 fn refusals() {
-    let (port, cells) = (1, 2);
+    let (port, output, link, cells) = (1, 2, 3, 4);
     let refusals = [
         ("PORTS", Refusal::Ports),
         ("SLOTS", Refusal::Slots),
@@ -62,6 +70,15 @@ fn refusals() {
         ("RUN_LENGTH", Refusal::RunLength),
         ("TOO_MANY_FLOWS", Refusal::TooManyFlows),
         ("FLOW_PORT", Refusal::FlowPort),
+        ("FLOW_LINK", Refusal::FlowLink),
+        (
+            "LINK_LOAD",
+            Refusal::LinkLoad {
+                output,
+                link,
+                cells,
+            },
+        ),
     ];
     for (name, refusal) in refusals {
         let defined = number(&format!("REFUSED_{name}"));
@@ -77,7 +94,7 @@ fn refusals_that_the_crate_does_not_have() {
     assert_eq!(number("REFUSED_LINE_PORT"), Some(8));
     assert_eq!(number("REFUSED_SHEET_LENGTH"), Some(10));
     let names = HEADER.matches("#define FRAME_BUILDER_REFUSED_").count();
-    assert_eq!(names, 4 + 10);
+    assert_eq!(names, 4 + 12);
 }
 
 #[test]

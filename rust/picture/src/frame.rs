@@ -1,6 +1,6 @@
 //! The frame of a sheet.
 
-use frame_builder::{admit, build, Flow, Refusal};
+use frame_builder::{admit, build, slots_each, Flow, Refusal};
 
 use crate::sheet::Sheet;
 
@@ -16,16 +16,18 @@ impl Frame {
     /// The frame that Build makes of a sheet.
     pub fn build(sheet: Sheet) -> Result<Frame, Refusal> {
         let Sheet { ports, slots, list } = &sheet;
+        let limits = slots_each(*slots);
         // Numbers of any size may stand in a sheet; those of one that is admitted have a frame of moderate size.
-        admit(*ports, *slots, list)?;
+        admit(*ports, *slots, list, limits)?;
         let mut entries = vec![0; ports * slots];
-        build(*ports, *slots, list, &mut entries)?;
+        build(*ports, *slots, list, limits, &mut entries)?;
         Ok(Frame { sheet, entries })
     }
 
     /// A frame from anywhere for a sheet that Build takes, with as many entries as its own, each of them 0 or one of its flows.
     pub fn of_entries(sheet: Sheet, entries: Vec<u16>) -> Option<Frame> {
-        admit(sheet.ports, sheet.slots, &sheet.list).ok()?;
+        let limits = slots_each(sheet.slots);
+        admit(sheet.ports, sheet.slots, &sheet.list, limits).ok()?;
         let flows = sheet.list.len();
         let whole = entries.len() == sheet.ports * sheet.slots;
         let known = entries.iter().all(|&entry| usize::from(entry) <= flows);
