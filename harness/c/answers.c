@@ -1,5 +1,5 @@
 /* Holds the calls to what the header says of them: the texts, every answer with what the lent numbers and the frame then hold, slices of
- * length 0, slices beside memory that must not be touched, and two threads at once. The last line is 'N passed, M failed'.
+ * length 0, slices and limits beside memory that must not be touched, and two threads at once. The last line is 'N passed, M failed'.
  */
 #define _GNU_SOURCE
 #include <errno.h>
@@ -21,6 +21,7 @@
 #define MOST_FLOWS FRAME_BUILDER_MAX_FLOWS
 #define MOST_FRAME FRAME_BUILDER_MAX_FRAME_ENTRIES
 #define OF_FLOW FRAME_BUILDER_FLOW_NUMBERS
+#define LIMITS FRAME_BUILDER_LIMITS
 #define BUILDS 300
 
 static size_t passed, failed;
@@ -53,6 +54,8 @@ static const size_t numbers[] = {
     FRAME_BUILDER_REFUSED_RUN_LENGTH,
     FRAME_BUILDER_REFUSED_TOO_MANY_FLOWS,
     FRAME_BUILDER_REFUSED_FLOW_PORT,
+    FRAME_BUILDER_REFUSED_FLOW_LINK,
+    FRAME_BUILDER_REFUSED_LINK_LOAD,
     FRAME_BUILDER_FAULT_WRONG_ENTRY,
     FRAME_BUILDER_FAULT_OUTPUT_TWICE,
     FRAME_BUILDER_FAULT_FLOW_COUNT,
@@ -60,7 +63,7 @@ static const size_t numbers[] = {
     9, /* no answer, as those below */
     14,
     20,
-    23,
+    25,
     100,
     105,
     SIZE_MAX,
@@ -90,6 +93,7 @@ struct lent {
     size_t ports, slots;
     const uint16_t *list;
     size_t list_length;
+    const uint16_t *limits;
     uint16_t *frame;
     size_t frame_length, slot, length, whose; /* slot: Service count's start; whose: its flow or port */
 };
@@ -98,18 +102,19 @@ struct lent {
 struct numbers {
     size_t before, first, between, second, beside;
     int64_t lead;
-    size_t after;
+    size_t after, third, behind;
 };
 
 static size_t make_call(enum call call, const struct lent *l, struct numbers *n)
 {
-    size_t *first = &n->first, *second = &n->second;
+    size_t *first = &n->first, *second = &n->second, *third = &n->third;
     int64_t *lead = &n->lead;
     switch (call) {
     case ADMIT:
-        return frame_builder_admit(l->ports, l->slots, l->list, l->list_length, first, second);
+        return frame_builder_admit(l->ports, l->slots, l->list, l->list_length, l->limits, first, second, third);
     case BUILD:
-        return frame_builder_build(l->ports, l->slots, l->list, l->list_length, l->frame, l->frame_length, first, second);
+        return frame_builder_build(l->ports, l->slots, l->list, l->list_length, l->limits, l->frame, l->frame_length, first, second,
+                                   third);
     case INSPECT:
         return frame_builder_inspect(l->ports, l->slots, l->list, l->list_length, l->frame, l->frame_length, first, second);
     case SLOT_VIEW:
@@ -126,16 +131,23 @@ static size_t make_call(enum call call, const struct lent *l, struct numbers *n)
     }
 }
 
-/* The call answers with these numbers and writes nothing else beside them. A count's second value is its lead. */
-static int answers(enum call call, const struct lent *lent, size_t number, size_t first, int64_t second)
+/* The call answers with these numbers and writes nothing else beside them. A count's second value is its lead; only Admit and Build have a
+ * third. */
+static int answers_three(enum call call, const struct lent *lent, size_t number, size_t first, int64_t second, size_t third)
 {
-    struct numbers n = {UNSET, UNSET, UNSET, UNSET, UNSET, UNSET_LEAD, UNSET};
+    struct numbers n = {UNSET, UNSET, UNSET, UNSET, UNSET, UNSET_LEAD, UNSET, UNSET, UNSET};
     errno = ERRNO;
     size_t got = make_call(call, lent, &n);
-    size_t expected = call < COUNT_FLOW ? (size_t)second : UNSET;
+    size_t expected = call < COUNT_FLOW ? (size_t)second : UNSET, last = call <= BUILD ? third : UNSET;
     int64_t lead = call < COUNT_FLOW ? UNSET_LEAD : second;
-    return got == number && n.first == first && n.second == expected && n.lead == lead && n.before == UNSET && n.between == UNSET
-           && n.beside == UNSET && n.after == UNSET && errno == ERRNO;
+    return got == number && n.first == first && n.second == expected && n.lead == lead && n.third == last && n.before == UNSET
+           && n.between == UNSET && n.beside == UNSET && n.after == UNSET && n.behind == UNSET && errno == ERRNO;
+}
+
+/* The same of an answer other than a link's load, which alone has a third value. */
+static int answers(enum call call, const struct lent *lent, size_t number, size_t first, int64_t second)
+{
+    return answers_three(call, lent, number, first, second, 0);
 }
 
 /* An edit of what an accepted call is lent, and the answer then. */
@@ -150,12 +162,14 @@ struct expected {
 #define PORTS 4
 #define SLOTS 4
 
-/* The flows of the sheet of Table 7, and loads, ports and lengths that are turned away. */
-static const uint16_t table7[] = {1, 1, 2, 1, 2, 2, 4, 1, 1, 4, 2, 1, 4, 4, 2};
-static const uint16_t input_full[] = {1, 1, 2, 2, 1, 65535, 2, 1, 65535, 2, 4, 65535, 2, 4, 65535, 4, 4, 5};
-static const uint16_t output_full[] = {1, 1, 2, 1, 2, 2, 2, 2, 1, 4, 2, 2, 4, 4, 1};
-static const uint16_t outside[] = {1, 1, 2, 1, 5, 0};
-static const uint16_t input_0[] = {1, 1, 2, 0, 4, 0};
+/* The flows of the sheet of Table 7, and loads, ports, links and lengths that are turned away, some of them for two reasons. */
+static const uint16_t table7[] = {1, 1, 2, 1, 1, 2, 2, 1, 4, 1, 1, 1, 4, 2, 1, 1, 4, 4, 2, 1};
+static const uint16_t input_full[] = {1, 1, 2, 1, 2, 1, 65535, 1, 2, 1, 65535, 2, 2, 4, 65535, 3, 2, 4, 65535, 4, 4, 4, 5, 1};
+static const uint16_t output_full[] = {1, 1, 2, 1, 1, 2, 2, 1, 2, 2, 1, 2, 4, 2, 2, 3, 4, 4, 1, 1};
+static const uint16_t outside[] = {1, 1, 2, 1, 1, 5, 0, 0};
+static const uint16_t input_0[] = {1, 1, 2, 5, 0, 4, 0, 1};
+static const uint16_t link_0[] = {1, 1, 9, 1, 2, 2, 1, 0};
+static const uint16_t link_5[] = {1, 1, 2, 5, 2, 2, 9, 1};
 static uint16_t built[SLOTS * PORTS] = {1, 0, 0, 5, 2, 0, 0, 3, 1, 0, 0, 4, 2, 0, 0, 5};
 static uint16_t above[SLOTS * PORTS] = {1, 0, 0, 5, 2, 0, 0, 6, 1, 0, 0, 65535, 2, 0, 0, 5};
 static uint16_t of_other[SLOTS * PORTS] = {1, 0, 0, 5, 2, 0, 0, 3, 1, 0, 5, 4, 2, 0, 0, 6};
@@ -165,23 +179,36 @@ static uint16_t bunched[SLOTS * PORTS] = {1, 0, 0, 5, 1, 0, 0, 4, 2, 0, 0, 3, 2,
 static uint16_t crowded[SLOTS * PORTS] = {1, 1, 1, 1, 1, 1, 1, 1, 0, 0, 0, 0, 0, 0, 0, 513};
 
 /* One cell from each port to its own number. */
-static const uint16_t own[] = {1, 1, 1, 2, 2, 1, 3, 3, 1, 4, 4, 1};
+static const uint16_t own[] = {1, 1, 1, 1, 2, 2, 1, 1, 3, 3, 1, 1, 4, 4, 1, 1};
 static uint16_t own_spread[SLOTS * PORTS] = {1, 0, 0, 0, 0, 0, 3, 0, 0, 2, 0, 0, 0, 0, 0, 4};
 static uint16_t own_in_one[SLOTS * PORTS] = {1, 2, 3, 4, 0, 0, 0, 0, 0, 0, 0, 0, 0, 0, 0, 0};
 static uint16_t own_in_two[SLOTS * PORTS] = {1, 0, 0, 0, 0, 0, 3, 0, 0, 2, 0, 4, 0, 0, 0, 0};
 
 /* Sound and picture between the same two ports. */
-static const uint16_t both[] = {1, 2, 2, 1, 2, 2};
+static const uint16_t both[] = {1, 2, 2, 1, 1, 2, 2, 1};
 static uint16_t both_spread[SLOTS * PORTS] = {1, 0, 0, 0, 2, 0, 0, 0, 1, 0, 0, 0, 2, 0, 0, 0};
 static uint16_t both_apart[SLOTS * PORTS] = {1, 0, 0, 0, 1, 0, 0, 0, 2, 0, 0, 0, 2, 0, 0, 0};
 
-/* 513 flows without cells at ports 1, but for the last, which is at input 0. */
+/* One cell from each port to output 1: over one link, over two in turn, and over a link each, which rise otherwise than the flows. */
+static const uint16_t on_one[] = {1, 1, 1, 1, 2, 1, 1, 1, 3, 1, 1, 1, 4, 1, 1, 1};
+static const uint16_t on_two[] = {1, 1, 1, 1, 2, 1, 1, 2, 3, 1, 1, 1, 4, 1, 1, 2};
+static const uint16_t on_four[] = {1, 1, 1, 3, 2, 1, 1, 2, 3, 1, 1, 1, 4, 1, 1, 4};
+static uint16_t in_order[SLOTS * PORTS] = {1, 0, 0, 0, 0, 2, 0, 0, 0, 0, 3, 0, 0, 0, 0, 4};
+
+/* Limits: none that a load can be above, and none that lets a cell pass. */
+#define FOUR(limit) limit, limit, limit, limit
+#define SIXTEEN(limit) FOUR(limit), FOUR(limit), FOUR(limit), FOUR(limit)
+static const uint16_t unlimited[LIMITS] = {SIXTEEN(65535), SIXTEEN(65535), SIXTEEN(65535), SIXTEEN(65535)};
+static const uint16_t closed[LIMITS] = {0};
+
+/* 513 flows without cells at ports 1 and links 1, but for the last, which is at input 0 and link 0. */
 static uint16_t too_many[(MOST_FLOWS + 1) * OF_FLOW];
 static uint16_t idle[SLOTS * PORTS];
 
-#define LIST(list) list, COUNT_OF(list)
+#define LIMITED(list, limits) list, COUNT_OF(list), limits
+#define LIST(list) LIMITED(list, unlimited)
 #define FRAME(frame) frame, SLOTS *PORTS
-#define NO_LIST NULL, 0
+#define NO_LIST NULL, 0, unlimited
 #define NO_FRAME NULL, 0
 
 static const struct expected expectations[] = {
@@ -189,29 +216,42 @@ static const struct expected expectations[] = {
     {"admit: ports 0", ADMIT, {0, 4, LIST(table7), NO_FRAME, 0, 0, 0}, 1, 0, 0},
     {"admit: ports 17", ADMIT, {17, 4, LIST(table7), NO_FRAME, 0, 0, 0}, 1, 0, 0},
     {"admit: slots 3", ADMIT, {4, 3, LIST(table7), NO_FRAME, 0, 0, 0}, 2, 0, 0},
-    {"admit: a number too few", ADMIT, {4, 4, table7, 14, NO_FRAME, 0, 0, 0}, 3, 0, 0},
-    {"admit: a number too many", ADMIT, {4, 4, table7, 13, NO_FRAME, 0, 0, 0}, 3, 0, 0},
+    {"admit: a number too few", ADMIT, {4, 4, table7, 19, unlimited, NO_FRAME, 0, 0, 0}, 3, 0, 0},
+    {"admit: two numbers too few", ADMIT, {4, 4, table7, 18, unlimited, NO_FRAME, 0, 0, 0}, 3, 0, 0},
+    {"admit: a number too many", ADMIT, {4, 4, table7, 17, unlimited, NO_FRAME, 0, 0, 0}, 3, 0, 0},
     {"admit: 513 flows", ADMIT, {4, 4, LIST(too_many), NO_FRAME, 0, 0, 0}, 21, 0, 0},
-    {"admit: 513 flows and two numbers", ADMIT, {4, 4, too_many, COUNT_OF(too_many) - 1, NO_FRAME, 0, 0, 0}, 3, 0, 0},
-    {"admit: 512 flows", ADMIT, {4, 4, too_many, MOST_FLOWS *OF_FLOW, NO_FRAME, 0, 0, 0}, 0, 0, 0},
+    {"admit: 512 flows and three numbers", ADMIT, {4, 4, too_many, COUNT_OF(too_many) - 1, unlimited, NO_FRAME, 0, 0, 0}, 3, 0, 0},
+    {"admit: 512 flows", ADMIT, {4, 4, too_many, MOST_FLOWS *OF_FLOW, unlimited, NO_FRAME, 0, 0, 0}, 0, 0, 0},
     {"admit: output 5", ADMIT, {4, 4, LIST(outside), NO_FRAME, 0, 0, 0}, 22, 0, 0},
     {"admit: input 0", ADMIT, {4, 4, LIST(input_0), NO_FRAME, 0, 0, 0}, 22, 0, 0},
     {"admit: port 4 of 3", ADMIT, {3, 4, LIST(table7), NO_FRAME, 0, 0, 0}, 22, 0, 0},
+    {"admit: link 0, and a load", ADMIT, {4, 4, LIST(link_0), NO_FRAME, 0, 0, 0}, 23, 0, 0},
+    {"admit: link 5, and a load", ADMIT, {4, 4, LIST(link_5), NO_FRAME, 0, 0, 0}, 23, 0, 0},
     {"admit: input load", ADMIT, {4, 4, LIST(input_full), NO_FRAME, 0, 0, 0}, 5, 2, 262140},
     {"admit: output load", ADMIT, {4, 4, LIST(output_full), NO_FRAME, 0, 0, 0}, 6, 2, 5},
+    {"admit: input load, and a link's", ADMIT, {4, 4, LIMITED(input_full, closed), NO_FRAME, 0, 0, 0}, 5, 2, 262140},
+    {"admit: output load, and a link's", ADMIT, {4, 4, LIMITED(output_full, closed), NO_FRAME, 0, 0, 0}, 6, 2, 5},
     {"admit: no flows", ADMIT, {4, 4, NO_LIST, NO_FRAME, 0, 0, 0}, 0, 0, 0},
+    {"admit: no flows, limits 0", ADMIT, {4, 4, NULL, 0, closed, NO_FRAME, 0, 0, 0}, 0, 0, 0},
     {"admit: no flows, ports 0", ADMIT, {0, 4, NO_LIST, NO_FRAME, 0, 0, 0}, 1, 0, 0},
     {"admit: no flows, slots 0", ADMIT, {4, 0, NO_LIST, NO_FRAME, 0, 0, 0}, 2, 0, 0},
 
     {"build: accepted", BUILD, {4, 4, LIST(table7), FRAME(built), 0, 0, 0}, 0, 10, 0},
     {"build: ports", BUILD, {0, 4, LIST(table7), FRAME(built), 0, 0, 0}, 1, 0, 0},
     {"build: slots", BUILD, {4, 2048, LIST(table7), FRAME(built), 0, 0, 0}, 2, 0, 0},
-    {"build: list length", BUILD, {4, 4, table7, 14, FRAME(built), 0, 0, 0}, 3, 0, 0},
+    {"build: list length", BUILD, {4, 4, table7, 19, unlimited, FRAME(built), 0, 0, 0}, 3, 0, 0},
     {"build: 513 flows", BUILD, {4, 4, LIST(too_many), FRAME(built), 0, 0, 0}, 21, 0, 0},
     {"build: a flow's port", BUILD, {4, 4, LIST(outside), FRAME(built), 0, 0, 0}, 22, 0, 0},
+    {"build: a flow's link, and the frame length", BUILD, {4, 4, LIST(link_5), built, 15, 0, 0, 0}, 23, 0, 0},
     {"build: frame length", BUILD, {4, 4, LIST(table7), built, 15, 0, 0, 0}, 4, 0, 0},
+    {"build: frame length, and a link's load", BUILD, {4, 4, LIMITED(table7, closed), built, 15, 0, 0, 0}, 4, 0, 0},
     {"build: input load", BUILD, {4, 4, LIST(input_full), FRAME(built), 0, 0, 0}, 5, 2, 262140},
     {"build: output load", BUILD, {4, 4, LIST(output_full), FRAME(built), 0, 0, 0}, 6, 2, 5},
+    {"build: input load, and a link's", BUILD, {4, 4, LIMITED(input_full, closed), FRAME(built), 0, 0, 0}, 5, 2, 262140},
+    {"build: output load, and a link's", BUILD, {4, 4, LIMITED(output_full, closed), FRAME(built), 0, 0, 0}, 6, 2, 5},
+    {"build: one link", BUILD, {4, 4, LIST(on_one), FRAME(own_spread), 0, 0, 0}, 0, 8, 0},
+    {"build: two links", BUILD, {4, 4, LIST(on_two), FRAME(in_order), 0, 0, 0}, 0, 8, 0},
+    {"build: four links", BUILD, {4, 4, LIST(on_four), FRAME(in_order), 0, 0, 0}, 0, 8, 0},
     {"build: no flows", BUILD, {4, 4, NO_LIST, FRAME(idle), 0, 0, 0}, 0, 0, 0},
     {"build: no flows, frame length", BUILD, {4, 4, NO_LIST, idle, 15, 0, 0, 0}, 4, 0, 0},
     {"build: no frame", BUILD, {4, 4, LIST(table7), NO_FRAME, 0, 0, 0}, 4, 0, 0},
@@ -222,9 +262,10 @@ static const struct expected expectations[] = {
     {"inspect: clean", INSPECT, {4, 4, LIST(table7), FRAME(built), 0, 0, 0}, 0, 0, 0},
     {"inspect: ports", INSPECT, {17, 4, LIST(table7), FRAME(built), 0, 0, 0}, 1, 0, 0},
     {"inspect: slots", INSPECT, {4, 5, LIST(table7), FRAME(built), 0, 0, 0}, 2, 0, 0},
-    {"inspect: list length", INSPECT, {4, 4, table7, 14, FRAME(built), 0, 0, 0}, 3, 0, 0},
+    {"inspect: list length", INSPECT, {4, 4, table7, 19, unlimited, FRAME(built), 0, 0, 0}, 3, 0, 0},
     {"inspect: 513 flows", INSPECT, {4, 4, LIST(too_many), FRAME(built), 0, 0, 0}, 21, 0, 0},
     {"inspect: a flow's port", INSPECT, {4, 4, LIST(input_0), FRAME(built), 0, 0, 0}, 22, 0, 0},
+    {"inspect: a flow's link, and the frame length", INSPECT, {4, 4, LIST(link_0), built, 15, 0, 0, 0}, 23, 0, 0},
     {"inspect: frame length", INSPECT, {4, 2, LIST(table7), FRAME(built), 0, 0, 0}, 4, 0, 0},
     {"inspect: entry above the flows", INSPECT, {4, 4, LIST(table7), FRAME(above), 0, 0, 0}, 101, 2, 4},
     {"inspect: entry of another input's flow", INSPECT, {4, 4, LIST(table7), FRAME(of_other), 0, 0, 0}, 101, 3, 3},
@@ -236,6 +277,9 @@ static const struct expected expectations[] = {
     {"inspect: block of two unbalanced in all cells", INSPECT, {4, 4, LIST(own), FRAME(own_in_two), 0, 0, 0}, 104, 3, 2},
     {"inspect: clean, two flows of a pair", INSPECT, {4, 4, LIST(both), FRAME(both_spread), 0, 0, 0}, 0, 0, 0},
     {"inspect: block unbalanced in two flows of a pair", INSPECT, {4, 4, LIST(both), FRAME(both_apart), 0, 0, 0}, 104, 1, 4},
+    {"inspect: clean, two links", INSPECT, {4, 4, LIST(on_two), FRAME(in_order), 0, 0, 0}, 0, 0, 0},
+    {"inspect: block unbalanced in a link", INSPECT, {4, 4, LIST(on_two), FRAME(own_spread), 0, 0, 0}, 104, 1, 4},
+    {"inspect: the same frame on one link", INSPECT, {4, 4, LIST(on_one), FRAME(own_spread), 0, 0, 0}, 0, 0, 0},
     {"inspect: no flows, clean", INSPECT, {4, 4, NO_LIST, FRAME(idle), 0, 0, 0}, 0, 0, 0},
     {"inspect: no flows, wrong entry", INSPECT, {4, 4, NO_LIST, FRAME(built), 0, 0, 0}, 101, 1, 1},
     {"inspect: no frame", INSPECT, {4, 4, LIST(table7), NO_FRAME, 0, 0, 0}, 4, 0, 0},
@@ -262,9 +306,10 @@ static const struct expected expectations[] = {
     {"count flow: without entries", COUNT_FLOW, {4, 4, LIST(table7), FRAME(crowded), 1, 2, 2}, 0, 0, 0},
     {"count flow: ports", COUNT_FLOW, {0, 4, LIST(table7), FRAME(built), 4, 2, 5}, 1, 0, 0},
     {"count flow: slots", COUNT_FLOW, {4, 0, LIST(table7), FRAME(built), 4, 2, 5}, 2, 0, 0},
-    {"count flow: list length", COUNT_FLOW, {4, 4, table7, 13, FRAME(built), 4, 2, 5}, 3, 0, 0},
+    {"count flow: list length", COUNT_FLOW, {4, 4, table7, 18, unlimited, FRAME(built), 4, 2, 5}, 3, 0, 0},
     {"count flow: 513 flows", COUNT_FLOW, {4, 4, LIST(too_many), FRAME(built), 4, 2, 5}, 21, 0, 0},
     {"count flow: a flow's port", COUNT_FLOW, {4, 4, LIST(outside), FRAME(built), 4, 2, 1}, 22, 0, 0},
+    {"count flow: a flow's link, and the frame length", COUNT_FLOW, {4, 4, LIST(link_0), built, 15, 4, 2, 5}, 23, 0, 0},
     {"count flow: frame length", COUNT_FLOW, {4, 4, LIST(table7), built, 15, 4, 2, 5}, 4, 0, 0},
     {"count flow: start 0", COUNT_FLOW, {4, 4, LIST(table7), FRAME(built), 0, 2, 5}, 11, 0, 0},
     {"count flow: flow 0", COUNT_FLOW, {4, 4, LIST(table7), FRAME(built), 4, 2, 0}, 12, 0, 0},
@@ -284,9 +329,10 @@ static const struct expected expectations[] = {
     {"count input: no flows", COUNT_INPUT, {4, 4, NO_LIST, FRAME(built), 1, 4, 4}, 0, 4, 0},
     {"count input: ports", COUNT_INPUT, {17, 4, LIST(table7), FRAME(built), 1, 2, 4}, 1, 0, 0},
     {"count input: slots", COUNT_INPUT, {4, 7, LIST(table7), FRAME(built), 1, 2, 4}, 2, 0, 0},
-    {"count input: list length", COUNT_INPUT, {4, 4, table7, 1, FRAME(built), 1, 2, 4}, 3, 0, 0},
+    {"count input: list length", COUNT_INPUT, {4, 4, table7, 1, unlimited, FRAME(built), 1, 2, 4}, 3, 0, 0},
     {"count input: 513 flows", COUNT_INPUT, {4, 4, LIST(too_many), FRAME(built), 1, 2, 4}, 21, 0, 0},
     {"count input: a flow's port", COUNT_INPUT, {4, 4, LIST(input_0), FRAME(built), 1, 2, 4}, 22, 0, 0},
+    {"count input: a flow's link, and the frame length", COUNT_INPUT, {4, 4, LIST(link_5), built, 15, 1, 2, 4}, 23, 0, 0},
     {"count input: frame length", COUNT_INPUT, {4, 4, LIST(table7), built, 12, 1, 2, 4}, 4, 0, 0},
     {"count input: start 5", COUNT_INPUT, {4, 4, LIST(table7), FRAME(built), 5, 2, 4}, 11, 0, 0},
     {"count input: input 0", COUNT_INPUT, {4, 4, LIST(table7), FRAME(built), 1, 2, 0}, 12, 0, 0},
@@ -304,9 +350,10 @@ static const struct expected expectations[] = {
     {"count output: no flows", COUNT_OUTPUT, {4, 4, NO_LIST, FRAME(built), 1, 4, 1}, 0, 0, 0},
     {"count output: ports", COUNT_OUTPUT, {0, 4, LIST(table7), FRAME(built), 3, 3, 1}, 1, 0, 0},
     {"count output: slots", COUNT_OUTPUT, {4, 9, LIST(table7), FRAME(built), 3, 3, 1}, 2, 0, 0},
-    {"count output: list length", COUNT_OUTPUT, {4, 4, table7, 14, FRAME(built), 3, 3, 1}, 3, 0, 0},
+    {"count output: list length", COUNT_OUTPUT, {4, 4, table7, 19, unlimited, FRAME(built), 3, 3, 1}, 3, 0, 0},
     {"count output: 513 flows", COUNT_OUTPUT, {4, 4, LIST(too_many), FRAME(built), 3, 3, 1}, 21, 0, 0},
     {"count output: a flow's port", COUNT_OUTPUT, {4, 4, LIST(outside), FRAME(built), 3, 3, 1}, 22, 0, 0},
+    {"count output: a flow's link, and the frame length", COUNT_OUTPUT, {4, 4, LIST(link_0), built, 15, 3, 3, 1}, 23, 0, 0},
     {"count output: frame length", COUNT_OUTPUT, {2, 4, NO_LIST, FRAME(built), 3, 3, 1}, 4, 0, 0},
     {"count output: start 0", COUNT_OUTPUT, {4, 4, LIST(table7), FRAME(built), 0, 3, 1}, 11, 0, 0},
     {"count output: output 5", COUNT_OUTPUT, {4, 4, LIST(table7), FRAME(built), 3, 3, 5}, 12, 0, 0},
@@ -319,7 +366,7 @@ static const struct expected expectations[] = {
 static void fill_too_many(void)
 {
     for (size_t flow = 0; flow <= MOST_FLOWS; flow++) {
-        too_many[flow * OF_FLOW] = flow < MOST_FLOWS;
+        too_many[flow * OF_FLOW] = too_many[flow * OF_FLOW + 3] = flow < MOST_FLOWS;
         too_many[flow * OF_FLOW + 1] = 1;
     }
 }
@@ -385,13 +432,63 @@ static size_t settled(size_t slots, const uint16_t *list, size_t flows)
     return sum;
 }
 
+/* Link loads. */
+
+/* What Admit and Build answer to the flows of `linked` with these limits. */
+struct limited {
+    const char *what;
+    uint16_t limits[LIMITS];
+    size_t number, output, link, cells;
+};
+
+/* Output 2 has one cell on link 1 and two on link 3, output 3 two on link 2 and one on link 4, output 4 one on link 4. */
+static const uint16_t linked[] = {1, 2, 1, 1, 2, 2, 1, 3, 3, 2, 1, 3, 4, 3, 2, 2, 1, 3, 1, 4, 2, 4, 1, 4};
+
+#define ABOVE(limit) SIXTEEN(limit), SIXTEEN(limit), SIXTEEN(limit)
+
+/* The limits are in memory that may not be written. */
+static const struct limited limitations[] = {
+    {"every limit reached", {FOUR(0), 1, 0, 2, 0, 0, 2, 0, 1, 0, 0, 0, 1, ABOVE(0)}, 0, 0, 0, 0},
+    {"every limit reached, and others above ports", {FOUR(0), 1, 0, 2, 0, 0, 2, 0, 1, 0, 0, 0, 1, ABOVE(65535)}, 0, 0, 0, 0},
+    {"one cell above a limit", {FOUR(4), 4, 4, 1, 4, FOUR(4), FOUR(4), ABOVE(4)}, 24, 2, 3, 2},
+    {"the same, and limits 0 above ports", {FOUR(4), 4, 4, 1, 4, FOUR(4), FOUR(4), ABOVE(0)}, 24, 2, 3, 2},
+    {"a limit of 0", {FOUR(4), 0, 4, 4, 4, FOUR(4), FOUR(4), ABOVE(4)}, 24, 2, 1, 1},
+    {"the lowest output, not the lowest link", {FOUR(4), 4, 4, 0, 4, 4, 1, 4, 4, FOUR(4), ABOVE(4)}, 24, 2, 3, 2},
+    {"the lowest link of the output", {FOUR(4), FOUR(4), 4, 1, 4, 0, FOUR(0), ABOVE(4)}, 24, 3, 2, 2},
+    {"the last link of the last output", {FOUR(4), FOUR(4), FOUR(4), 4, 4, 4, 0, ABOVE(4)}, 24, 4, 4, 1},
+    {"all limits 0", {SIXTEEN(0), ABOVE(0)}, 24, 2, 1, 1},
+};
+
+/* An accepted Build leaves the frame that is built without limits, a refused one the entries that were there. */
+static void check_limits(void)
+{
+    uint16_t frame[SLOTS * PORTS], before[SLOTS * PORTS], free_of_limits[SLOTS * PORTS];
+    size_t odd = settled(SLOTS, linked, COUNT_OF(linked) / OF_FLOW);
+    struct lent lent = {PORTS, SLOTS, LIST(linked), FRAME(free_of_limits), 0, 0, 0};
+    memset(before, 0xaa, sizeof before);
+    check(answers(BUILD, &lent, 0, odd, 0) && answers(INSPECT, &lent, 0, 0, 0), "several links of an output");
+    lent.frame = frame;
+    for (size_t place = 0; place < COUNT_OF(limitations); place++) {
+        const struct limited *l = limitations + place;
+        const uint16_t *after = l->number == FRAME_BUILDER_ACCEPTED ? free_of_limits : before;
+        size_t first = l->number == FRAME_BUILDER_ACCEPTED ? odd : l->output;
+        lent.limits = l->limits;
+        memcpy(frame, before, sizeof frame);
+        check(answers_three(ADMIT, &lent, l->number, l->output, (int64_t)l->link, l->cells), l->what);
+        check(answers_three(BUILD, &lent, l->number, first, (int64_t)l->link, l->cells), l->what);
+        check(memcmp(frame, after, sizeof frame) == 0, l->what);
+    }
+}
+
 /* Loads. */
 
+/* The flows take the links in turn. */
 static void put_flow(uint16_t *list, size_t flow, size_t input, size_t output, size_t cells)
 {
     list[flow * OF_FLOW] = (uint16_t)(input + 1);
     list[flow * OF_FLOW + 1] = (uint16_t)(output + 1);
     list[flow * OF_FLOW + 2] = (uint16_t)cells;
+    list[flow * OF_FLOW + 3] = (uint16_t)(flow % FRAME_BUILDER_MAX_LINKS + 1);
 }
 
 /* A full load: every input and every output has `slots` cells, most of them in counts of `step`; `each` flows for each input. */
@@ -412,7 +509,7 @@ static void check_settled(void)
     static uint16_t list[MOST_FLOWS * OF_FLOW], frame[MOST_FRAME];
     for (size_t ports = 1; ports <= MOST_PORTS; ports *= 2)
         for (size_t k = 0, slots = 1; slots <= MOST_FLOWS / ports; k++, slots *= 2) {
-            struct lent lent = {ports, slots, list, ports * slots * OF_FLOW, frame, ports * slots, 0, 0, 0};
+            struct lent lent = {ports, slots, list, ports * slots * OF_FLOW, unlimited, frame, ports * slots, 0, 0, 0};
             fill_load(list, ports, slots, slots, 1);
             check(answers(BUILD, &lent, 0, ports * slots * k, 0), "every count 1, as many slots as flows at an input");
         }
@@ -420,11 +517,12 @@ static void check_settled(void)
 
 /* Slices beside memory that may not be used. */
 
-/* All calls are accepted, with the cells of a full load in whole turns, on this list, of so many flows at each input, and this frame. */
-static int all_accept(size_t ports, size_t slots, size_t each, uint16_t *list, uint16_t *frame)
+/* All calls are accepted, with the cells of a full load in whole turns, on this list, of so many flows at each input, with these limits
+ * and this frame. */
+static int all_accept(size_t ports, size_t slots, size_t each, uint16_t *list, const uint16_t *limits, uint16_t *frame)
 {
     size_t turns = 1000, length = turns * slots <= 1000000 ? turns * slots : slots, flows = ports * each;
-    struct lent lent = {ports, slots, list, flows * OF_FLOW, frame, slots * ports, slots, length, ports};
+    struct lent lent = {ports, slots, list, flows * OF_FLOW, limits, frame, slots * ports, slots, length, ports};
     struct lent of_flow = lent;
     of_flow.whose = flows - each + 1;
     fill_load(list, ports, slots, each, 1 + slots / each);
@@ -434,17 +532,27 @@ static int all_accept(size_t ports, size_t slots, size_t each, uint16_t *list, u
            && answers(COUNT_INPUT, &lent, 0, length, 0) && answers(COUNT_OUTPUT, &lent, 0, length, 0);
 }
 
+/* Limits that no load is above, in memory that may only be read. */
+static struct fenced fence_limits(void)
+{
+    struct fenced limits = fence();
+    memset(limits.begin, 0xff, MOST_FRAME * sizeof(uint16_t));
+    if (mprotect(limits.begin, MOST_FRAME * sizeof(uint16_t), PROT_READ) != 0)
+        exit(3);
+    return limits;
+}
+
 /* One flow for each pair, and as many as there may be. */
 static void check_bounds(void)
 {
-    struct fenced list = fence(), frame = fence();
+    struct fenced list = fence(), limits = fence_limits(), frame = fence();
     for (size_t ports = 1; ports <= MOST_PORTS; ports++)
         for (size_t slots = 1; slots <= MOST_SLOTS; slots *= 2)
             for (int most = 0; most < 2; most++) {
                 size_t each = most ? MOST_FLOWS / ports : ports;
-                uint16_t *last = list.end - ports * each * OF_FLOW;
-                check(all_accept(ports, slots, each, list.begin, frame.begin), "slices with forbidden memory before them");
-                check(all_accept(ports, slots, each, last, frame.end - slots * ports), "slices with forbidden memory after them");
+                uint16_t *last = list.end - ports * each * OF_FLOW, *end = frame.end - slots * ports;
+                check(all_accept(ports, slots, each, list.begin, limits.begin, frame.begin), "slices with forbidden memory before them");
+                check(all_accept(ports, slots, each, last, limits.end - LIMITS, end), "slices with forbidden memory after them");
             }
 }
 
@@ -458,7 +566,7 @@ struct work {
 
 static int build_once(struct work *work, uint16_t *frame)
 {
-    struct lent lent = {MOST_PORTS, MOST_SLOTS, work->list, COUNT_OF(work->list), frame, MOST_FRAME, 0, 0, 0};
+    struct lent lent = {MOST_PORTS, MOST_SLOTS, work->list, COUNT_OF(work->list), unlimited, frame, MOST_FRAME, 0, 0, 0};
     memset(frame, 0xaa, sizeof work->frame);
     return answers(BUILD, &lent, 0, work->settled, 0);
 }
@@ -490,13 +598,28 @@ static void check_threads(void)
     }
 }
 
-/* What is only read may overlap: the numbers of the one flow, of one cell, are the frame of three of its cells. */
+/* What is only read may overlap: the numbers of a flow of one cell are four of its cells in a frame of eight slots. */
 static void check_overlap(void)
 {
-    uint16_t numbers[] = {1, 1, 1, 0};
-    struct lent lent = {1, 4, numbers, OF_FLOW, numbers, 4, 1, 3, 1};
+    uint16_t numbers[] = {1, 1, 1, 1, 0, 0, 0, 0};
+    struct lent lent = {1, 8, numbers, OF_FLOW, unlimited, numbers, 8, 1, 3, 1};
     check(answers(INSPECT, &lent, FRAME_BUILDER_FAULT_FLOW_COUNT, 1, 0), "a list that is the frame, inspected");
-    check(answers(COUNT_FLOW, &lent, 0, 3, 3), "a list that is the frame, counted");
+    check(answers(COUNT_FLOW, &lent, 0, 3, 12), "a list that is the frame, counted");
+}
+
+/* Sixteen flows are as many numbers as the limits: one from each port to its own number, which is then the limit of the output's link 1. */
+static void check_own_limits(void)
+{
+    uint16_t numbers[LIMITS], frame[MOST_PORTS * MOST_PORTS];
+    struct lent lent = {MOST_PORTS, MOST_PORTS, LIMITED(numbers, numbers), frame, COUNT_OF(frame), 0, 0, 0};
+    for (size_t port = 0; port < MOST_PORTS; port++) {
+        put_flow(numbers, port, port, port, port + 1);
+        numbers[port * OF_FLOW + 3] = 1;
+    }
+    check(answers(ADMIT, &lent, 0, 0, 0), "a list that is its limits, admitted");
+    check(answers(BUILD, &lent, 0, settled(MOST_PORTS, numbers, MOST_PORTS), 0), "a list that is its limits, built");
+    numbers[2 * OF_FLOW + 2]++;
+    check(answers_three(BUILD, &lent, FRAME_BUILDER_REFUSED_LINK_LOAD, 3, 1, 4), "a list that is its limits, refused");
 }
 
 /* The furthest leads of any entries: all inputs have the last flow in the first half of the frame, and nothing in the second. */
@@ -504,7 +627,7 @@ static void check_furthest(void)
 {
     static uint16_t list[MOST_FLOWS * OF_FLOW], frame[MOST_FRAME];
     size_t half = MOST_SLOTS / 2, turns = 976;
-    struct lent lent = {MOST_PORTS, MOST_SLOTS, list, COUNT_OF(list), frame, MOST_FRAME, 1, half, 16};
+    struct lent lent = {MOST_PORTS, MOST_SLOTS, LIST(list), frame, MOST_FRAME, 1, half, 16};
     struct lent of_flow = lent;
     for (size_t flow = 0; flow < MOST_FLOWS; flow++)
         put_flow(list, flow, 0, flow % MOST_PORTS, 0);
@@ -527,10 +650,12 @@ int main(void)
     setvbuf(stdout, NULL, _IOLBF, 0);
     check_texts();
     check_answers();
+    check_limits();
     check_furthest();
     check_settled();
     check_bounds();
     check_overlap();
+    check_own_limits();
     check_threads();
     printf("%zu passed, %zu failed\n", passed, failed);
     return failed != 0;

@@ -1,6 +1,7 @@
 /* Makes calls through the header, as records on standard input ask for them, and answers each on standard output.
  *
- * A record is a struct record, the list and the frame. An answer is a struct answer and, after Build, the frame.
+ * A record is a struct record, the limits where the call takes any, the list and the frame. An answer is a struct answer and, after Build,
+ * the frame.
  */
 #include <stdint.h>
 #include <stdio.h>
@@ -15,7 +16,7 @@
 enum call { ADMIT, BUILD, INSPECT, SLOT_VIEW, COUNT_FLOW, COUNT_INPUT, COUNT_OUTPUT };
 
 /* What a call may have written to and must not have. */
-enum harm { NONE, LIST, AROUND_LIST, FRAME, AROUND_FRAME };
+enum harm { NONE, LIMITS, AROUND_LIMITS, LIST, AROUND_LIST, FRAME, AROUND_FRAME };
 
 struct record {
     uint64_t call, ports, slots, list_length, frame_length;
@@ -27,6 +28,7 @@ struct record {
 struct answer {
     uint64_t number, first;
     uint64_t second; /* Service count: the lead, in two's complement */
+    uint64_t third;  /* 0 of a call that has none */
     uint64_t harm;
 };
 
@@ -34,6 +36,11 @@ struct answer {
 struct lent {
     unsigned char *whole, *copy;
     size_t length;
+};
+
+/* What a call is lent to read and to write; its limits are empty where it takes none. */
+struct slices {
+    struct lent limits, list, frame;
 };
 
 static void *part_of(const struct lent *lent)
@@ -84,15 +91,19 @@ static int same_margins(const struct lent *lent)
     return memcmp(lent->whole, lent->copy, MARGIN) == 0 && memcmp(lent->whole + end, lent->copy + end, MARGIN) == 0;
 }
 
-static enum harm harm_done(uint64_t call, const struct lent *list, const struct lent *frame)
+static enum harm harm_done(uint64_t call, const struct slices *s)
 {
-    if (!same_part(list))
+    if (!same_part(&s->limits))
+        return LIMITS;
+    if (!same_margins(&s->limits))
+        return AROUND_LIMITS;
+    if (!same_part(&s->list))
         return LIST;
-    if (!same_margins(list))
+    if (!same_margins(&s->list))
         return AROUND_LIST;
-    if (call != BUILD && !same_part(frame))
+    if (call != BUILD && !same_part(&s->frame))
         return FRAME;
-    return same_margins(frame) ? NONE : AROUND_FRAME;
+    return same_margins(&s->frame) ? NONE : AROUND_FRAME;
 }
 
 /* A call that counts; all three take the same. */
@@ -112,13 +123,20 @@ static count_call *count_of(uint64_t call)
     exit(2);
 }
 
-static size_t make_call(const struct record *r, const uint16_t *list, uint16_t *frame, size_t *first, size_t *second)
+static int takes_limits(uint64_t call)
 {
+    return call == ADMIT || call == BUILD;
+}
+
+static size_t make_call(const struct record *r, const struct slices *s, size_t *first, size_t *second, size_t *third)
+{
+    const uint16_t *limits = part_of(&s->limits), *list = part_of(&s->list);
+    uint16_t *frame = part_of(&s->frame);
     switch (r->call) {
     case ADMIT:
-        return frame_builder_admit(r->ports, r->slots, list, r->list_length, first, second);
+        return frame_builder_admit(r->ports, r->slots, list, r->list_length, limits, first, second, third);
     case BUILD:
-        return frame_builder_build(r->ports, r->slots, list, r->list_length, frame, r->frame_length, first, second);
+        return frame_builder_build(r->ports, r->slots, list, r->list_length, limits, frame, r->frame_length, first, second, third);
     case INSPECT:
         return frame_builder_inspect(r->ports, r->slots, list, r->list_length, frame, r->frame_length, first, second);
     case SLOT_VIEW:
@@ -134,17 +152,20 @@ static size_t make_call(const struct record *r, const uint16_t *list, uint16_t *
 /* Makes one call and answers it. */
 static void respond(const struct record *record)
 {
-    struct lent list = lend(record->list_length * sizeof(uint16_t));
-    struct lent frame = lend(record->frame_length * sizeof(uint16_t));
-    size_t first = SIZE_MAX, second = SIZE_MAX;
-    size_t number = make_call(record, part_of(&list), part_of(&frame), &first, &second);
-    struct answer answer = {number, first, second, harm_done(record->call, &list, &frame)};
+    struct slices slices;
+    slices.limits = lend(takes_limits(record->call) ? FRAME_BUILDER_LIMITS * sizeof(uint16_t) : 0);
+    slices.list = lend(record->list_length * sizeof(uint16_t));
+    slices.frame = lend(record->frame_length * sizeof(uint16_t));
+    size_t first = SIZE_MAX, second = SIZE_MAX, third = takes_limits(record->call) ? SIZE_MAX : 0;
+    size_t number = make_call(record, &slices, &first, &second, &third);
+    struct answer answer = {number, first, second, third, harm_done(record->call, &slices)};
     fwrite(&answer, sizeof answer, 1, stdout);
     if (record->call == BUILD)
-        fwrite(part_of(&frame), 1, frame.length, stdout);
+        fwrite(part_of(&slices.frame), 1, slices.frame.length, stdout);
     fflush(stdout);
-    give_back(&list);
-    give_back(&frame);
+    give_back(&slices.limits);
+    give_back(&slices.list);
+    give_back(&slices.frame);
 }
 
 int main(void)

@@ -27,13 +27,14 @@ static const char *const names[CALLS] = {"admit", "build", "inspect", "slot_view
                                          "(5,000 bytes)"};
 
 /* How many different answers each call has. */
-static const size_t answers[CALLS] = {8, 9, 11, 5, 10, 10, 10, 1};
+static const size_t answers[CALLS] = {10, 11, 12, 5, 11, 11, 11, 1};
 
 /* The call to make, what it is lent, and its answer. */
 static struct {
     enum call call;
     size_t ports, slots, list_length, frame_length, slot, length, flow, port, answer;
     uint16_t list[(FLOWS + 1) * OF_FLOW];
+    uint16_t limits[FRAME_BUILDER_LIMITS];
     uint16_t frame[FRAME_ENTRIES];
 } asked;
 
@@ -56,16 +57,17 @@ static void make_call(void)
 {
     size_t ports = asked.ports, slots = asked.slots, list_length = asked.list_length, frame_length = asked.frame_length;
     size_t slot = asked.slot, length = asked.length, flow = asked.flow, port = asked.port, first, second;
-    static int64_t lead; /* so that what is measured of the other calls does not grow with it */
-    const uint16_t *list = asked.list;
+    static int64_t lead; /* so that what is measured of the other calls does not grow with it, nor with the next one */
+    static size_t third;
+    const uint16_t *list = asked.list, *limits = asked.limits;
     uint16_t *frame = asked.frame;
     top = __builtin_frame_address(0);
     switch (asked.call) {
     case ADMIT:
-        asked.answer = frame_builder_admit(ports, slots, list, list_length, &first, &second);
+        asked.answer = frame_builder_admit(ports, slots, list, list_length, limits, &first, &second, &third);
         break;
     case BUILD:
-        asked.answer = frame_builder_build(ports, slots, list, list_length, frame, frame_length, &first, &second);
+        asked.answer = frame_builder_build(ports, slots, list, list_length, limits, frame, frame_length, &first, &second, &third);
         break;
     case INSPECT:
         asked.answer = frame_builder_inspect(ports, slots, list, list_length, frame, frame_length, &first, &second);
@@ -123,7 +125,8 @@ static void measure_all(void)
         measure((enum call)call);
 }
 
-/* A full load: every input and every output has `slots` cells, in counts that are odd where they can be, of `each` flows at each input. */
+/* A full load: every input and every output has `slots` cells, in counts that are odd where they can be, of `each` flows at each input,
+ * which take the links in turn. */
 static void ask_full(size_t ports, size_t slots, size_t each)
 {
     size_t left = slots;
@@ -137,8 +140,11 @@ static void ask_full(size_t ports, size_t slots, size_t each)
             flow[0] = (uint16_t)(input + 1);
             flow[1] = (uint16_t)((input + turn) % ports + 1);
             flow[2] = (uint16_t)count;
+            flow[3] = (uint16_t)(turn % FRAME_BUILDER_MAX_LINKS + 1);
         }
     }
+    for (size_t place = 0; place < FRAME_BUILDER_LIMITS; place++)
+        asked.limits[place] = (uint16_t)slots;
     asked.ports = ports;
     asked.slots = slots;
     asked.list_length = ports * each * OF_FLOW;
@@ -198,6 +204,8 @@ static void measure_refusals(void)
     measure_all();
     asked.slot++;
     measure_all();
+    memset(asked.limits, 0, sizeof asked.limits);
+    measure_all();
     ++last[2];
     if (asked.ports > 1 && last[2 - OF_FLOW] > 0) {
         last[2 - OF_FLOW]--;
@@ -206,6 +214,8 @@ static void measure_refusals(void)
     }
     measure_all();
     asked.frame_length--;
+    measure_all();
+    last[3] = 0;
     measure_all();
     last[1] = 0;
     measure_all();

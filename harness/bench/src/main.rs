@@ -41,14 +41,16 @@ const fn size(ports: usize, slots: usize, cells: usize, flows: Flows, limit: Opt
     }
 }
 
-/// One flow for each pair, and then as many flows as there may be.
-const SIZES: [Size; 6] = [
+/// One flow for each pair, then as many flows as there may be, and then one for each pair over four links.
+const SIZES: [Size; 8] = [
     size(16, 1_024, 1_024, Flows::EachPair, Some(0.40)),
     size(16, 1_024, 102, Flows::EachPair, Some(0.22)),
     size(4, 64, 64, Flows::EachPair, Some(0.45)),
     size(16, 16, 16, Flows::EachPair, None),
     size(16, 1_024, 1_024, Flows::Most, None),
     size(16, 1_024, 102, Flows::Most, None),
+    size(16, 1_024, 1_024, Flows::FourLinks, None),
+    size(16, 1_024, 102, Flows::FourLinks, None),
 ];
 
 impl Size {
@@ -57,6 +59,7 @@ impl Size {
         let flows = match self.flows {
             Flows::EachPair => "",
             Flows::Most => ", 512 flows",
+            Flows::FourLinks => ", 4 links",
         };
         format!("{ports} x {slots}, {} a port{flows}", self.cells)
     }
@@ -163,7 +166,7 @@ fn in_turn<'l, T>(list: &'l [T]) -> impl FnMut() -> &'l T {
 /// One Build of a load that fits; the odd counts that it settled.
 fn build_once(load: &Load, frame: &mut [u16]) -> usize {
     let Shape { ports, slots } = load.shape;
-    let answer = frame_builder::build(ports, slots, &load.list, frame);
+    let answer = frame_builder::build(ports, slots, &load.list, load.limits, frame);
     black_box(frame);
     black_box(answer).expect("the load fits")
 }
@@ -179,8 +182,8 @@ fn build_row(size: Size, repetitions: usize) -> Row {
         build_once(next_left(), &mut left_frame);
     };
     let right = || {
-        let list = &next_right().numbers;
-        let built = plain::build(ports, slots, list, &mut right_frame);
+        let load = next_right();
+        let built = plain::build(ports, slots, &load.numbers, &load.limits, &mut right_frame);
         assert!(black_box(built).is_some());
         black_box(&mut right_frame);
     };

@@ -4,7 +4,7 @@ use std::io::{BufReader, Read, Write};
 use std::process::{Child, ChildStdin, ChildStdout, Command, Stdio};
 use std::sync::Mutex;
 
-use crate::{Answer, Built, Calls, Class, Count, Inspection, Refusal, Service};
+use crate::{Answer, Built, Calls, Class, Count, Inspection, Limits, Refusal, Service};
 
 /// The calls as `harness/c/calls.c` numbers them.
 #[derive(Clone, Copy, Default)]
@@ -25,6 +25,8 @@ struct Record<'r> {
     call: Call,
     ports: u64,
     slots: u64,
+    /// Those of a call that takes limits, none for the others.
+    limits: &'r [u16],
     list: &'r [u16],
     frame: &'r [u16],
     /// Service count: the start.
@@ -47,15 +49,17 @@ impl Record<'_> {
             self.whose,
         ];
         let mut bytes: Vec<u8> = numbers.into_iter().flat_map(u64::to_ne_bytes).collect();
-        let numbers = self.list.iter().chain(self.frame);
+        let numbers = self.limits.iter().chain(self.list).chain(self.frame);
         bytes.extend(numbers.copied().flat_map(u16::to_ne_bytes));
         bytes
     }
 }
 
 /// What a call wrote to and must not have, as `harness/c/calls.c` numbers it.
-const HARMS: [&str; 5] = [
+const HARMS: [&str; 7] = [
     "nothing",
+    "the limits",
+    "bytes around the limits",
     "the list",
     "bytes around the list",
     "the frame",
@@ -89,16 +93,16 @@ impl InC {
         }
     }
 
-    /// The answer's number and its two values, a count's cells and lead; a frame lent for writing is written.
-    fn make(&self, record: &[u8], written: &mut [u16]) -> [u64; 3] {
+    /// The answer's number and its three values, a count's cells and lead; a frame lent for writing is written.
+    fn make(&self, record: &[u8], written: &mut [u16]) -> [u64; 4] {
         let idle = self.idle.lock().expect("no thread panics here").pop();
         let mut process = idle.unwrap_or_else(|| Process::start(self.program));
-        let [number, first, second, harm] = process.ask(record, written);
+        let [number, first, second, third, harm] = process.ask(record, written);
         let touched = HARMS.get(harm as usize).unwrap_or(&"something");
         assert!(harm == 0, "wrote to {touched}");
         let mut idle = self.idle.lock().expect("no thread panics here");
         idle.push(process);
-        [number, first, second]
+        [number, first, second, third]
     }
 }
 
@@ -125,10 +129,10 @@ impl Process {
         }
     }
 
-    fn ask(&mut self, record: &[u8], written: &mut [u16]) -> [u64; 4] {
+    fn ask(&mut self, record: &[u8], written: &mut [u16]) -> [u64; 5] {
         let sent = self.input.write_all(record);
         sent.expect("the C program reads whole records");
-        let answer = [(); 4].map(|()| {
+        let answer = [(); 5].map(|()| {
             let mut number = [0; 8];
             let read = self.output.read_exact(&mut number);
             read.expect("the C program answers");
@@ -153,49 +157,64 @@ impl Drop for Process {
 }
 
 /// No other numbers may come back: 0 stands where a refusal has no value.
-fn refusal_of(numbers: [u64; 3]) -> Refusal {
+fn refusal_of(numbers: [u64; 4]) -> Refusal {
     match numbers {
-        [1, 0, 0] => Refusal::Ports,
-        [2, 0, 0] => Refusal::Slots,
-        [3, 0, 0] => Refusal::ListLength,
-        [4, 0, 0] => Refusal::FrameLength,
-        [5, port, cells] => Refusal::InputLoad { port, cells },
-        [6, port, cells] => Refusal::OutputLoad { port, cells },
-        [11, 0, 0] => Refusal::SlotNumber,
-        [12, 0, 0] => Refusal::FlowOrPort,
-        [13, 0, 0] => Refusal::RunLength,
-        [21, 0, 0] => Refusal::TooManyFlows,
-        [22, 0, 0] => Refusal::FlowPort,
+        [1, 0, 0, 0] => Refusal::Ports,
+        [2, 0, 0, 0] => Refusal::Slots,
+        [3, 0, 0, 0] => Refusal::ListLength,
+        [4, 0, 0, 0] => Refusal::FrameLength,
+        [5, port, cells, 0] => Refusal::InputLoad { port, cells },
+        [6, port, cells, 0] => Refusal::OutputLoad { port, cells },
+        [11, 0, 0, 0] => Refusal::SlotNumber,
+        [12, 0, 0, 0] => Refusal::FlowOrPort,
+        [13, 0, 0, 0] => Refusal::RunLength,
+        [21, 0, 0, 0] => Refusal::TooManyFlows,
+        [22, 0, 0, 0] => Refusal::FlowPort,
+        [23, 0, 0, 0] => Refusal::FlowLink,
+        [24, output, link, cells] => Refusal::LinkLoad {
+            output,
+            link,
+            cells,
+        },
         other => panic!("{other:?} is no answer of this call"),
     }
 }
 
 impl Calls for InC {
-    fn admit(&self, ports: u64, slots: u64, list: &[u16]) -> Answer {
+    fn admit(&self, ports: u64, slots: u64, list: &[u16], limits: &Limits) -> Answer {
         let record = Record {
             call: Call::Admit,
             ports,
             slots,
+            limits,
             list,
             ..Record::default()
         };
         match self.make(&record.bytes(), &mut []) {
-            [0, 0, 0] => Ok(()),
+            [0, 0, 0, 0] => Ok(()),
             refused => Err(refusal_of(refused)),
         }
     }
 
-    fn build(&self, ports: u64, slots: u64, list: &[u16], frame: &mut [u16]) -> Built {
+    fn build(
+        &self,
+        ports: u64,
+        slots: u64,
+        list: &[u16],
+        limits: &Limits,
+        frame: &mut [u16],
+    ) -> Built {
         let record = Record {
             call: Call::Build,
             ports,
             slots,
+            limits,
             list,
             frame,
             ..Record::default()
         };
         match self.make(&record.bytes(), frame) {
-            [0, settled, 0] => Ok(settled),
+            [0, settled, 0, 0] => Ok(settled),
             refused => Err(refusal_of(refused)),
         }
     }
@@ -210,11 +229,11 @@ impl Calls for InC {
             ..Record::default()
         };
         match self.make(&record.bytes(), &mut []) {
-            [0, 0, 0] => Inspection::Clean,
-            [101, slot, input] => Inspection::WrongEntry { slot, input },
-            [102, slot, output] => Inspection::OutputTwice { slot, output },
-            [103, flow, 0] => Inspection::FlowCount { flow },
-            [104, slot, size] => Inspection::UnbalancedBlock { slot, size },
+            [0, 0, 0, 0] => Inspection::Clean,
+            [101, slot, input, 0] => Inspection::WrongEntry { slot, input },
+            [102, slot, output, 0] => Inspection::OutputTwice { slot, output },
+            [103, flow, 0, 0] => Inspection::FlowCount { flow },
+            [104, slot, size, 0] => Inspection::UnbalancedBlock { slot, size },
             refused => Inspection::Refused(refusal_of(refused)),
         }
     }
@@ -236,7 +255,7 @@ impl Calls for InC {
             ..Record::default()
         };
         let numbers = self.make(&record.bytes(), &mut []);
-        let [answer, start, size] = numbers;
+        let [answer, start, size, _] = numbers;
         *number = match answer {
             0 => 0,
             _ => refusal_of(numbers).number(),
@@ -269,9 +288,10 @@ impl Calls for InC {
             slot: start,
             length,
             whose,
+            ..Record::default()
         };
         match self.make(&record.bytes(), &mut []) {
-            [0, cells, lead] => Ok(Count {
+            [0, cells, lead, 0] => Ok(Count {
                 cells,
                 // The same 64 bits, read with a sign.
                 lead: lead as i64,

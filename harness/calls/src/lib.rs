@@ -8,7 +8,7 @@ mod program;
 
 pub use in_c::InC;
 pub use library::Library;
-pub use reference::{Class, Count, Inspection, Refusal};
+pub use reference::{Class, Count, Inspection, Limits, Refusal};
 
 /// What Admit answers.
 pub type Answer = Result<(), Refusal>;
@@ -19,13 +19,20 @@ pub type Built = Result<u64, Refusal>;
 /// What Service count answers.
 pub type Service = Result<Count, Refusal>;
 
-/// The calls a program makes on a frame builder; a list is its numbers, three to a flow, however many there are.
+/// The calls a program makes on a frame builder; a list is its numbers, four to a flow, however many there are.
 pub trait Calls {
     /// Says whether the load would be built.
-    fn admit(&self, ports: u64, slots: u64, list: &[u16]) -> Answer;
+    fn admit(&self, ports: u64, slots: u64, list: &[u16], limits: &Limits) -> Answer;
 
     /// Fills the frame and says how many odd counts were settled, or refuses and leaves it as it was.
-    fn build(&self, ports: u64, slots: u64, list: &[u16], frame: &mut [u16]) -> Built;
+    fn build(
+        &self,
+        ports: u64,
+        slots: u64,
+        list: &[u16],
+        limits: &Limits,
+        frame: &mut [u16],
+    ) -> Built;
 
     /// Looks a frame from anywhere over against its list.
     fn inspect(&self, ports: u64, slots: u64, list: &[u16], frame: &[u16]) -> Inspection;
@@ -63,12 +70,19 @@ pub trait SheetProgram {
 pub struct Reference;
 
 impl Calls for Reference {
-    fn admit(&self, ports: u64, slots: u64, list: &[u16]) -> Answer {
-        reference::admit(ports, slots, list)
+    fn admit(&self, ports: u64, slots: u64, list: &[u16], limits: &Limits) -> Answer {
+        reference::admit(ports, slots, list, limits)
     }
 
-    fn build(&self, ports: u64, slots: u64, list: &[u16], frame: &mut [u16]) -> Built {
-        reference::build(ports, slots, list, frame)
+    fn build(
+        &self,
+        ports: u64,
+        slots: u64,
+        list: &[u16],
+        limits: &Limits,
+        frame: &mut [u16],
+    ) -> Built {
+        reference::build(ports, slots, list, limits, frame)
     }
 
     fn inspect(&self, ports: u64, slots: u64, list: &[u16], frame: &[u16]) -> Inspection {

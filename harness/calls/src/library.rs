@@ -3,17 +3,18 @@
 use frame_builder::{Fault, Flow, Who};
 
 use crate::{
-    program, Answer, Built, Calls, Class, Count, InC, Inspection, Refusal, Service, SheetProgram,
+    program, Answer, Built, Calls, Class, Count, InC, Inspection, Limits, Refusal, Service,
+    SheetProgram,
 };
 
 /// The numbers of a flow in a list.
-const FLOW_NUMBERS: usize = 3;
+const FLOW_NUMBERS: usize = 4;
 
 /// Flows kept on either side of a list that is lent.
 const MARGIN: usize = 8;
 
 /// What the margins have, which no list has at its ends.
-const MARK: Flow = Flow::new(0xa5a5, 0x5a5a, 0xa5a5);
+const MARK: Flow = Flow::new(0xa5a5, 0x5a5a, 0xa5a5).on_link(0x5a5a);
 
 /// The proved frame builder. A list that is not of whole flows is no slice of flows, so that a call with one goes through C.
 #[derive(Debug, Default)]
@@ -33,7 +34,7 @@ impl Lent {
         if !numbers.remainder().is_empty() {
             return None;
         }
-        let flows = numbers.map(|flow| Flow::new(flow[0], flow[1], flow[2]));
+        let flows = numbers.map(|flow| Flow::new(flow[0], flow[1], flow[2]).on_link(flow[3]));
         let margin = || std::iter::repeat_n(MARK, MARGIN);
         let whole = margin().chain(flows).chain(margin()).collect();
         Some(Lent { whole })
@@ -68,6 +69,16 @@ fn refusal_of(refusal: frame_builder::Refusal) -> Refusal {
         frame_builder::Refusal::RunLength => Refusal::RunLength,
         frame_builder::Refusal::TooManyFlows => Refusal::TooManyFlows,
         frame_builder::Refusal::FlowPort => Refusal::FlowPort,
+        frame_builder::Refusal::FlowLink => Refusal::FlowLink,
+        frame_builder::Refusal::LinkLoad {
+            output,
+            link,
+            cells,
+        } => Refusal::LinkLoad {
+            output: output as u64,
+            link: link as u64,
+            cells: cells as u64,
+        },
     }
 }
 
@@ -105,20 +116,28 @@ fn count_of(count: frame_builder::Count) -> Count {
 }
 
 impl Calls for Library {
-    fn admit(&self, ports: u64, slots: u64, list: &[u16]) -> Answer {
+    fn admit(&self, ports: u64, slots: u64, list: &[u16], limits: &Limits) -> Answer {
         let Some(lent) = Lent::of(list) else {
-            return self.in_c.admit(ports, slots, list);
+            return self.in_c.admit(ports, slots, list, limits);
         };
-        let answer = frame_builder::admit(ports as usize, slots as usize, lent.flows());
+        let answer = frame_builder::admit(ports as usize, slots as usize, lent.flows(), *limits);
         lent.give_back(list);
         answer.map_err(refusal_of)
     }
 
-    fn build(&self, ports: u64, slots: u64, list: &[u16], frame: &mut [u16]) -> Built {
+    fn build(
+        &self,
+        ports: u64,
+        slots: u64,
+        list: &[u16],
+        limits: &Limits,
+        frame: &mut [u16],
+    ) -> Built {
         let Some(lent) = Lent::of(list) else {
-            return self.in_c.build(ports, slots, list, frame);
+            return self.in_c.build(ports, slots, list, limits, frame);
         };
-        let answer = frame_builder::build(ports as usize, slots as usize, lent.flows(), frame);
+        let (flows, limits) = (lent.flows(), *limits);
+        let answer = frame_builder::build(ports as usize, slots as usize, flows, limits, frame);
         lent.give_back(list);
         answer.map(|settled| settled as u64).map_err(refusal_of)
     }

@@ -2,18 +2,34 @@
 
 use crate::grid::Grid;
 use crate::list::{share_out, Flow, Listing, MOST_FLOWS};
-use crate::load::Shape;
+use crate::load::{Call, Shape};
 use crate::random::{random_odd, Random};
 
 /// Flows with odd numbers of cells at any two ports, one after the other until there is no room at those that are tried, or as many
 /// as a list may have.
 pub(crate) fn many_odd(shape: Shape, random: &mut Random) -> Vec<Flow> {
+    odd_to(shape.ports, shape, random)
+}
+
+/// The same over several links, all to the first outputs, so that a link has many; half of them with limits that are exact.
+pub(crate) fn odd_links(shape: Shape, random: &mut Random) -> Call {
+    let outputs = random.between(1, shape.ports as u64) as usize;
+    let mut call = shape.call(&odd_to(outputs, shape, random));
+    call.spread(random);
+    if random.one_in(2) {
+        call.limit_exactly();
+    }
+    call
+}
+
+/// Such flows on link 1, to so many outputs.
+fn odd_to(outputs: usize, shape: Shape, random: &mut Random) -> Vec<Flow> {
     let mut rooms = [0; 2].map(|_| vec![shape.slots; shape.ports]);
     let largest = random.pick(&[1, 5, shape.slots as u64]);
     let tries = random.between(1, 2 * MOST_FLOWS as u64);
     let mut flows = Vec::new();
     for _ in 0..tries {
-        let [input, output] = [0; 2].map(|_| random.place(shape.ports));
+        let [input, output] = [shape.ports, outputs].map(|ports| random.place(ports));
         let room = rooms[0][input].min(rooms[1][output]) as u64;
         if room == 0 || flows.len() == MOST_FLOWS {
             continue;
@@ -25,6 +41,7 @@ pub(crate) fn many_odd(shape: Shape, random: &mut Random) -> Vec<Flow> {
             input,
             output,
             cells,
+            link: 0,
         });
     }
     flows

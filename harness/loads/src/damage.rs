@@ -1,6 +1,6 @@
 //! Frames that are not what the builder made.
 
-use crate::list::{flows_of, Flow, FLOW_NUMBERS};
+use crate::list::{flows_of, Flow, FLOW_NUMBERS, LINKS};
 use crate::load::{junk_of_shape, load_of_shape, Call, LoadKind, Shape};
 use crate::random::Random;
 
@@ -25,6 +25,7 @@ kinds! {
         BlockBunched = "block-bunched",
         CellsWrongByOne = "cells-wrong-by-one",
         OtherPort = "other-port",
+        OtherLink = "other-link",
         ListCut = "list-cut",
         Several = "several",
         Junk = "junk",
@@ -42,7 +43,11 @@ pub fn damage(
     match kind {
         Damage::Whole => {}
         Damage::CellsWrongByOne => change_cells(call, random),
-        Damage::OtherPort => change_port(shape.ports, call, random),
+        Damage::OtherPort => {
+            let side = random.place(2);
+            change_to(shape.ports, side, call, random);
+        }
+        Damage::OtherLink => change_to(LINKS, 3, call, random),
         Damage::ListCut => {
             let kept = random.place(call.flows().max(1));
             call.list.truncate(kept * FLOW_NUMBERS);
@@ -132,7 +137,7 @@ impl Block {
 /// A frame whose first fault is that the halves of this block differ by more than one cell in all, with its list.
 ///
 /// No two pairs share a port, and `build` makes their frame. In the block, some of the inputs with an odd number of cells
-/// exchange what they send in its first half with what they send in its second. Every flow, input and output stays balanced in
+/// exchange what they send in its first half with what they send in its second. Every flow, input, output and link stays balanced in
 /// every block, and so does the total in blocks that are larger or do not overlap this one; only the total of smaller blocks
 /// within it may be unbalanced besides. The shape has two ports or more and the block two slots or more; loads are tried until
 /// the block has two inputs with an odd number of cells.
@@ -366,10 +371,10 @@ fn change_cells(call: &mut Call, random: &mut Random) {
     };
 }
 
-/// Puts one flow of the list at another input or another output.
-fn change_port(ports: usize, call: &mut Call, random: &mut Random) {
-    let side = random.place(2);
-    if let Some(place) = place_in_list(call, side, random) {
-        call.list[place] = random.between(1, ports as u64) as u16;
+/// Puts one flow of the list at another input or another output, or on another link, by the place of that number and the most that
+/// it can be.
+fn change_to(most: usize, number: usize, call: &mut Call, random: &mut Random) {
+    if let Some(place) = place_in_list(call, number, random) {
+        call.list[place] = random.between(1, most as u64) as u16;
     }
 }

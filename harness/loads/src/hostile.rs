@@ -52,6 +52,33 @@ pub fn hostile_port(good: u16, random: &mut Random) -> u16 {
     random.pick(&[0, 17, 255, 256, u16::MAX, good.wrapping_add(1 << 8)])
 }
 
+/// A link of a flow that no output has, or the good one again with a bit above those of a byte.
+pub fn hostile_link(good: u16, random: &mut Random) -> u16 {
+    random.pick(&[0, 5, 255, 256, u16::MAX, good.wrapping_add(1 << 8)])
+}
+
+kinds! {
+    /// The limit of a link.
+    LimitKind {
+        Good = "good",
+        Zero = "0",
+        One = "1",
+        Slots = "slots",
+        Largest = "65535",
+    }
+}
+
+/// A limit of the kind.
+pub fn hostile_limit(kind: LimitKind, good: u16, slots: u64) -> u16 {
+    match kind {
+        LimitKind::Good => good,
+        LimitKind::Zero => 0,
+        LimitKind::One => 1,
+        LimitKind::Slots => slots as u16,
+        LimitKind::Largest => u16::MAX,
+    }
+}
+
 kinds! {
     /// A slice's length, against the one that the call asks for.
     LengthKind {

@@ -30,6 +30,7 @@ mod followed;
 mod grid;
 mod hostile;
 mod ill_formed;
+mod links;
 mod list;
 mod load;
 mod random;
@@ -39,9 +40,15 @@ mod uneven;
 
 pub use damage::{damage, unbalance_total, Block, Damage};
 pub use followed::{Company, Followed};
-pub use hostile::{hostile_length, hostile_number, hostile_port, LengthKind, HOSTILE};
+pub use hostile::{
+    hostile_length, hostile_limit, hostile_link, hostile_number, hostile_port, LengthKind,
+    LimitKind, HOSTILE,
+};
 pub use ill_formed::junk_number;
-pub use list::{flows_of, flows_of_matrix, list_of, Flow, Listing, FLOW_NUMBERS, MOST_FLOWS};
+pub use links::Limits;
+pub use list::{
+    flows_of, flows_of_matrix, list_of, Flow, Listing, FLOW_NUMBERS, LINKS, MOST_FLOWS,
+};
 pub use load::{
     full_load, full_load_of_flows, junk_of_shape, load, load_of_shape, load_of_total, random_shape,
     Call, LoadKind, Shape,

@@ -1,8 +1,9 @@
 //! Loads of every kind a switch may be handed.
 
-use crate::by_flow::{largest, many_odd, on_one_pair};
+use crate::by_flow::{largest, many_odd, odd_links, on_one_pair};
 use crate::grid::Grid;
-use crate::ill_formed::{junk, not_whole, port_outside, too_many_flows};
+use crate::ill_formed::{junk, link_outside, not_whole, port_outside, too_many_flows};
+use crate::links::{limited, Limits};
 use crate::list::{list_of, share_out, Flow, Listing, FLOW_NUMBERS};
 use crate::random::Random;
 
@@ -12,6 +13,7 @@ pub struct Call {
     pub ports: u64,
     pub slots: u64,
     pub list: Vec<u16>,
+    pub limits: Limits,
     pub frame_length: usize,
 }
 
@@ -34,19 +36,21 @@ impl Shape {
         self.ports * self.slots
     }
 
-    /// A call with these flows and a frame of the shape's length.
+    /// A call with these flows, limits of slots each and a frame of the shape's length.
     pub fn call(self, flows: &[Flow]) -> Call {
         Call {
             ports: self.ports as u64,
             slots: self.slots as u64,
             list: list_of(flows),
+            limits: [self.slots as u16; 64],
             frame_length: self.frame_length(),
         }
     }
 }
 
 kinds! {
-    /// How the counts of a load are laid out, and in what list.
+    /// How the counts of a load are laid out, in what list, and with what limits; all flows are on link 1 and all limits are the
+    /// slots but for the kinds that are named after links or limits.
     LoadKind {
         Zero = "zero",
         NoFlows = "no-flows",
@@ -65,22 +69,28 @@ kinds! {
         Staircase = "staircase",
         CyclicBand = "cyclic-band",
         AllOdd = "all-odd",
+        SpreadLinks = "spread-links",
+        OddLinks = "odd-links",
+        ExactLimits = "exact-limits",
         InputOverByOne = "input-over-by-one",
         OutputOverByOne = "output-over-by-one",
         InputOverByMuch = "input-over-by-much",
         OutputOverByMuch = "output-over-by-much",
         SixteenBitWrap = "sixteen-bit-wrap",
         Largest = "largest",
+        LinkOverByOne = "link-over-by-one",
+        RandomLimits = "random-limits",
         NotWhole = "not-whole",
         TooManyFlows = "too-many-flows",
         PortOutside = "port-outside",
+        LinkOutside = "link-outside",
         Junk = "junk",
     }
 }
 
 impl LoadKind {
     /// Kinds that are never refused.
-    pub const FITTING: [LoadKind; 17] = [
+    pub const FITTING: [LoadKind; 20] = [
         LoadKind::Zero,
         LoadKind::NoFlows,
         LoadKind::Full,
@@ -98,11 +108,15 @@ impl LoadKind {
         LoadKind::Staircase,
         LoadKind::CyclicBand,
         LoadKind::AllOdd,
+        LoadKind::SpreadLinks,
+        LoadKind::OddLinks,
+        LoadKind::ExactLimits,
     ];
 
     /// Fitting kinds with long chains of partners.
-    pub const CHAINED: [LoadKind; 5] = [
+    pub const CHAINED: [LoadKind; 6] = [
         LoadKind::ManyOdd,
+        LoadKind::OddLinks,
         LoadKind::OnePair,
         LoadKind::Staircase,
         LoadKind::CyclicBand,
@@ -120,10 +134,11 @@ impl LoadKind {
     ];
 
     /// Kinds whose list is turned away before its loads are added up.
-    pub const ILL_FORMED: [LoadKind; 3] = [
+    pub const ILL_FORMED: [LoadKind; 4] = [
         LoadKind::NotWhole,
         LoadKind::TooManyFlows,
         LoadKind::PortOutside,
+        LoadKind::LinkOutside,
     ];
 
     /// The lists that a matrix of the kind may become.
@@ -206,17 +221,23 @@ pub fn junk_of_shape(shape: Shape, random: &mut Random) -> Call {
 fn other_list(kind: LoadKind, shape: Shape, random: &mut Random) -> Call {
     match kind {
         LoadKind::ManyOdd => shape.call(&many_odd(shape, random)),
+        LoadKind::OddLinks => odd_links(shape, random),
+        LoadKind::SpreadLinks
+        | LoadKind::ExactLimits
+        | LoadKind::LinkOverByOne
+        | LoadKind::RandomLimits => limited(kind, shape, random),
         LoadKind::OnePair => shape.call(&on_one_pair(shape, random)),
         LoadKind::Largest => shape.call(&largest(shape, random)),
         LoadKind::NotWhole => not_whole(shape, random),
         LoadKind::TooManyFlows => too_many_flows(shape, random),
         LoadKind::PortOutside => port_outside(shape, random),
+        LoadKind::LinkOutside => link_outside(shape, random),
         LoadKind::Junk => junk(shape, random),
         _ => shape.call(&[]),
     }
 }
 
-/// A load that gives every port exactly so many cells, with one flow for each pair in matrix order.
+/// A load that gives every port exactly so many cells, with one flow for each pair in matrix order, on link 1.
 pub fn full_load(shape: Shape, cells: usize, random: &mut Random) -> Call {
     let mut grid = Grid::new(shape);
     grid.add_permutations_of_weight(cells, 1, random);

@@ -57,12 +57,12 @@ impl Seam {
     }
 
     /// The list of the first frame.
-    pub fn alone(self) -> [u16; 6] {
+    pub fn alone(self) -> [u16; 8] {
         load_alone(self.cells)
     }
 
     /// The list of the second.
-    pub fn beside(self) -> [u16; 6] {
+    pub fn beside(self) -> [u16; 8] {
         load_beside(self.slots, self.cells)
     }
 
@@ -79,12 +79,12 @@ impl Seam {
     }
 }
 
-/// The list of two flows of input 1, the second of which has cells.
-pub fn load_alone(cells: u16) -> [u16; 6] {
-    [1, 1, 0, 1, 2, cells]
+/// The list of two flows of input 1, both on link 1, the second of which has cells.
+pub fn load_alone(cells: u16) -> [u16; 8] {
+    [1, 1, 0, 1, 1, 2, cells, 1]
 }
 
 /// The same where the first has all other slots of the input.
-pub fn load_beside(slots: u64, cells: u16) -> [u16; 6] {
-    [1, 1, slots as u16 - cells, 1, 2, cells]
+pub fn load_beside(slots: u64, cells: u16) -> [u16; 8] {
+    [1, 1, slots as u16 - cells, 1, 1, 2, cells, 1]
 }

@@ -66,7 +66,7 @@ fn reservation(kind: SheetKind, random: &mut Random) -> Call {
     }
 }
 
-/// The lines of a well-formed sheet, one for each flow of the list.
+/// The lines of a well-formed sheet, one for each flow of the list, whose link a sheet does not say.
 fn lines_of(call: &Call) -> Vec<Vec<u8>> {
     let first = [
         number_line("ports", call.ports),

@@ -1,7 +1,7 @@
 //! Frames with one block whose halves differ by two cells in one class alone.
 
 use crate::damage::Block;
-use crate::list::{Flow, MOST_FLOWS};
+use crate::list::{Flow, LINKS, MOST_FLOWS};
 use crate::load::{Call, Shape};
 use crate::random::Random;
 
@@ -11,6 +11,7 @@ kinds! {
         Flow = "flow",
         Input = "input",
         Output = "output",
+        Link = "link",
     }
 }
 
@@ -23,23 +24,24 @@ enum Half {
 
 use Half::{Back, Front};
 
-/// A flow with its cells in a block of each sort; the two have as many. Ports are counted from 0.
+/// A flow with its cells in a block of each sort; the two have as many. Ports and links are counted from 0.
 struct Laid {
     input: usize,
     output: usize,
+    link: usize,
     evenly: &'static [Half],
     unevenly: &'static [Half],
 }
 
 const fn laid(
-    input: usize,
-    output: usize,
+    [input, output, link]: [usize; 3],
     evenly: &'static [Half],
     unevenly: &'static [Half],
 ) -> Laid {
     Laid {
         input,
         output,
+        link,
         evenly,
         unevenly,
     }
@@ -47,22 +49,29 @@ const fn laid(
 
 /// Two flows of one pair change places.
 const BY_FLOW: [Laid; 2] = [
-    laid(0, 0, &[Front, Back], &[Front, Front]),
-    laid(0, 0, &[Front, Back], &[Back, Back]),
+    laid([0, 0, 0], &[Front, Back], &[Front, Front]),
+    laid([0, 0, 0], &[Front, Back], &[Back, Back]),
 ];
 
 /// Two flows of an input are in the first half, and a third of another input in the second half.
 const BY_INPUT: [Laid; 3] = [
-    laid(0, 0, &[Front], &[Front]),
-    laid(0, 1, &[Back], &[Front]),
-    laid(1, 0, &[Back], &[Back]),
+    laid([0, 0, 0], &[Front], &[Front]),
+    laid([0, 1, 0], &[Back], &[Front]),
+    laid([1, 0, 0], &[Back], &[Back]),
 ];
 
-/// The same with inputs and outputs exchanged.
+/// The same with inputs and outputs exchanged, the two flows of the output on links of their own, which so stay balanced.
 const BY_OUTPUT: [Laid; 3] = [
-    laid(0, 0, &[Front], &[Front]),
-    laid(1, 0, &[Back], &[Front]),
-    laid(0, 1, &[Back], &[Back]),
+    laid([0, 0, 0], &[Front], &[Front]),
+    laid([1, 0, 1], &[Back], &[Front]),
+    laid([0, 1, 0], &[Back], &[Back]),
+];
+
+/// Two flows of a link are in the first half, and a third of another link of the same output in the second half.
+const BY_LINK: [Laid; 3] = [
+    laid([0, 0, 0], &[Front], &[Front]),
+    laid([0, 0, 0], &[Back], &[Front]),
+    laid([0, 0, 1], &[Back], &[Back]),
 ];
 
 impl Uneven {
@@ -71,13 +80,14 @@ impl Uneven {
             Uneven::Flow => &BY_FLOW,
             Uneven::Input => &BY_INPUT,
             Uneven::Output => &BY_OUTPUT,
+            Uneven::Link => &BY_LINK,
         }
     }
 }
 
-/// A frame whose first fault is that the halves of this block differ by two cells of some flows, of an input or of an output, and
-/// in nothing else, with its list. Every block of the same size has the same cells, the others of them halved evenly. The shape has
-/// two ports or more and the block four slots or more.
+/// A frame whose first fault is that the halves of this block differ by two cells of some flows, of an input, of an output or of a
+/// link, and in nothing else, with its list. Every block of the same size has the same cells, the others of them halved evenly. The
+/// shape has two ports or more and the block four slots or more: in a block of two an output, and so a link, has one cell a half.
 pub fn uneven(by: Uneven, shape: Shape, block: Block, random: &mut Random) -> (Call, Vec<u16>) {
     let number = random.between(3, MOST_FLOWS as u64) as usize;
     let places = random.permutation(number);
@@ -86,6 +96,7 @@ pub fn uneven(by: Uneven, shape: Shape, block: Block, random: &mut Random) -> (C
         .map(|_| Flow::without_cells(shape.ports, random))
         .collect();
     let [inputs, outputs] = [0; 2].map(|_| random.permutation(shape.ports));
+    let links = random.permutation(LINKS);
     let blocks = shape.slots / block.size;
     let mut frame = vec![0; shape.frame_length()];
     for (laid, &place) in by.flows().iter().zip(&places) {
@@ -93,6 +104,7 @@ pub fn uneven(by: Uneven, shape: Shape, block: Block, random: &mut Random) -> (C
             input: inputs[laid.input],
             output: outputs[laid.output],
             cells: (blocks * laid.evenly.len()) as u16,
+            link: links[laid.link],
         };
     }
     for first in (0..shape.slots).step_by(block.size) {

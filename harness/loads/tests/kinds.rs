@@ -4,7 +4,8 @@ use std::collections::BTreeSet;
 
 use loads::{
     damage, flows_of, full_load, full_load_of_flows, load, load_of_shape, random_shape, sheet,
-    uneven, Block, Call, Damage, Flow, LoadKind, Random, Shape, SheetKind, Uneven, MOST_FLOWS,
+    uneven, Block, Call, Damage, Flow, LoadKind, Random, Shape, SheetKind, Uneven, FLOW_NUMBERS,
+    LINKS, MOST_FLOWS,
 };
 use reference::Inspection;
 
@@ -12,7 +13,7 @@ use reference::Inspection;
 fn answers(kind: LoadKind) -> Vec<u64> {
     let mut random = Random::new(11);
     let number = |call: Call| {
-        let answer = reference::admit(call.ports, call.slots, &call.list);
+        let answer = reference::admit(call.ports, call.slots, &call.list, &call.limits);
         answer.map_or_else(|refusal| refusal.number(), |()| 0)
     };
     (0..300).map(|_| number(load(kind, &mut random))).collect()
@@ -32,9 +33,11 @@ fn refused_kinds_are_refused_for_what_they_say() {
         (LoadKind::OutputOverByOne, 6),
         (LoadKind::SixteenBitWrap, 5),
         (LoadKind::Largest, 5),
+        (LoadKind::LinkOverByOne, 24),
         (LoadKind::NotWhole, 3),
         (LoadKind::TooManyFlows, 21),
         (LoadKind::PortOutside, 22),
+        (LoadKind::LinkOutside, 23),
     ];
     for (kind, refusal) in cases {
         assert!(
@@ -44,6 +47,119 @@ fn refused_kinds_are_refused_for_what_they_say() {
     }
     assert!(answers(LoadKind::InputOverByMuch).contains(&5));
     assert!(answers(LoadKind::OutputOverByMuch).contains(&6));
+    let at_random: BTreeSet<u64> = answers(LoadKind::RandomLimits).into_iter().collect();
+    assert_eq!(at_random, [0, 24].into());
+}
+
+/// The kinds over several links.
+const OVER_LINKS: [LoadKind; 5] = [
+    LoadKind::SpreadLinks,
+    LoadKind::OddLinks,
+    LoadKind::ExactLimits,
+    LoadKind::LinkOverByOne,
+    LoadKind::RandomLimits,
+];
+
+#[test]
+fn lists_are_on_link_1_but_for_those_over_links() {
+    let mut random = Random::new(21);
+    let fitting = LoadKind::FITTING.into_iter().chain(LoadKind::OVERLOADED);
+    for kind in fitting.filter(|kind| !OVER_LINKS.contains(kind)) {
+        for _ in 0..100 {
+            let call = load(kind, &mut random);
+            let on_link_1 = flows_of(&call.list).iter().all(|flow| flow.link == 0);
+            assert!(on_link_1, "{kind:?}");
+            assert_eq!(call.limits, [call.slots as u16; 64], "{kind:?}");
+        }
+    }
+}
+
+#[test]
+fn lists_over_links_use_all_of_them() {
+    let mut random = Random::new(22);
+    for kind in OVER_LINKS {
+        let mut used = [0; LINKS];
+        for _ in 0..100 {
+            for flow in flows_of(&load(kind, &mut random).list) {
+                used[flow.link] += 1;
+            }
+        }
+        assert!(used.iter().all(|&flows| flows > 100), "{kind:?} {used:?}");
+    }
+}
+
+/// The load of each link, output by output.
+fn link_loads(call: &Call) -> [u16; 64] {
+    let mut loads = [0; 64];
+    for flow in flows_of(&call.list) {
+        loads[flow.output * LINKS + flow.link] += flow.cells;
+    }
+    loads
+}
+
+#[test]
+fn limits_are_exact_or_a_cell_short() {
+    let mut random = Random::new(24);
+    let [mut by_one, mut several] = [0; 2];
+    for _ in 0..300 {
+        let call = load(LoadKind::ExactLimits, &mut random);
+        assert_eq!(call.limits, link_loads(&call));
+        let call = load(LoadKind::LinkOverByOne, &mut random);
+        let links = link_loads(&call).into_iter().zip(call.limits);
+        let short: Vec<u16> = links.map(|(load, limit)| load - limit).collect();
+        by_one += usize::from(short.iter().sum::<u16>() == 1);
+        several += usize::from(short.iter().filter(|&&cells| cells > 0).count() > 1);
+    }
+    assert!(by_one > 50 && several > 50, "{by_one} {several}");
+}
+
+/// How many links of each output have an odd number of odd counts, and so leave one single: the most of a list.
+fn most_singles(flows: &[Flow]) -> usize {
+    let mut odd = [[0; LINKS]; 16];
+    for flow in flows {
+        odd[flow.output][flow.link] += flow.cells % 2;
+    }
+    let singles = odd
+        .iter()
+        .map(|links| links.iter().filter(|&&odd| odd % 2 == 1).count());
+    singles.max().unwrap_or_default()
+}
+
+#[test]
+fn links_leave_single_ones() {
+    let mut random = Random::new(25);
+    for kind in [LoadKind::SpreadLinks, LoadKind::OddLinks] {
+        let mut lists = [0; LINKS + 1];
+        for _ in 0..300 {
+            lists[most_singles(&flows_of(&load(kind, &mut random).list))] += 1;
+        }
+        assert!(
+            lists[1..].iter().all(|&lists| lists > 10),
+            "{kind:?} {lists:?}"
+        );
+    }
+}
+
+#[test]
+fn links_outside_are_0_and_5_and_others() {
+    let mut random = Random::new(26);
+    let mut outside = BTreeSet::new();
+    for _ in 0..300 {
+        let call = load(LoadKind::LinkOutside, &mut random);
+        let links = call.list.iter().skip(3).step_by(FLOW_NUMBERS);
+        let links: BTreeSet<u16> = links
+            .copied()
+            .filter(|link| !(1..=4).contains(link))
+            .collect();
+        assert_eq!(links.len(), 1);
+        outside.extend(links);
+    }
+    assert!(
+        [0, 5, 257, u16::MAX]
+            .iter()
+            .all(|link| outside.contains(link)),
+        "{outside:?}"
+    );
 }
 
 #[test]
@@ -89,12 +205,13 @@ fn lists_are_of_every_sort() {
 #[test]
 fn damages_are_of_the_kinds_they_say() {
     let mut random = Random::new(13);
-    let mut found = |kind: Damage| {
+    let mut found_in = |load: LoadKind, kind: Damage| {
         let inspected = (0..300).map(|_| {
             let shape = random_shape(&mut random);
-            let mut call = load_of_shape(LoadKind::Full, shape, &mut random);
+            let mut call = load_of_shape(load, shape, &mut random);
             let mut frame = vec![0; call.frame_length];
-            let built = reference::build(call.ports, call.slots, &call.list, &mut frame);
+            let Call { ports, slots, .. } = call;
+            let built = reference::build(ports, slots, &call.list, &call.limits, &mut frame);
             built.expect("the load fits");
             damage(kind, shape, &mut call, &mut frame, &mut random);
             match reference::inspect(call.ports, call.slots, &call.list, &frame) {
@@ -108,6 +225,9 @@ fn damages_are_of_the_kinds_they_say() {
         });
         inspected.collect::<BTreeSet<u64>>()
     };
+    let over_links = found_in(LoadKind::SpreadLinks, Damage::OtherLink);
+    assert_eq!(over_links, [0, 104].into());
+    let mut found = |kind: Damage| found_in(LoadKind::Full, kind);
     assert_eq!(found(Damage::Whole), [0].into());
     assert_eq!(found(Damage::EntryAboveFlows), [101].into());
     assert_eq!(found(Damage::OtherInputsFlow), [0, 101].into());

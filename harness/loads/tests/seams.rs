@@ -47,7 +47,7 @@ fn flows_keep_their_number_and_cells_in_loads_that_fit() {
         let call = flow.load(company, shape, &mut random);
         let flows = flows_of(&call.list);
         assert_eq!(flows[flow.number - 1].cells, cells, "{company:?}");
-        let answer = reference::admit(call.ports, call.slots, &call.list);
+        let answer = reference::admit(call.ports, call.slots, &call.list, &call.limits);
         assert_eq!(answer, Ok(()), "{company:?}");
         let before = &flows[..flow.number - 1];
         last += usize::from(flow.number == MOST_FLOWS);

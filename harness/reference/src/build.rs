@@ -2,7 +2,7 @@
 //! distance.
 
 use crate::admission::{check_frame, check_list, check_loads};
-use crate::flow::Flow;
+use crate::flow::{Flow, Limits, LINKS};
 use crate::refusal::Refusal;
 use crate::work::settled;
 
@@ -26,8 +26,7 @@ impl Half {
 #[derive(Clone, Copy)]
 struct Count {
     number: u16,
-    input: u64,
-    output: u64,
+    flow: Flow,
     cells: u64,
 }
 
@@ -37,12 +36,18 @@ impl Count {
     }
 }
 
-/// Fills the frame and says how many odd counts were settled, or gives the first refusal of 1, 2, 3, 21, 22, 4, 5, 6 and leaves
-/// it alone.
-pub fn build(ports: u64, slots: u64, list: &[u16], frame: &mut [u16]) -> Result<u64, Refusal> {
+/// Fills the frame and says how many odd counts were settled, or gives the first refusal of 1, 2, 3, 21, 22, 23, 4, 5, 6, 24 and
+/// leaves it alone.
+pub fn build(
+    ports: u64,
+    slots: u64,
+    list: &[u16],
+    limits: &Limits,
+    frame: &mut [u16],
+) -> Result<u64, Refusal> {
     let flows = check_list(ports, slots, list)?;
     check_frame(ports, slots, frame)?;
-    check_loads(ports, slots, &flows)?;
+    check_loads(ports, slots, &flows, limits)?;
     fill_block(ports, &counts_of(&flows), frame);
     Ok(settled(ports, frame))
 }
@@ -50,10 +55,9 @@ pub fn build(ports: u64, slots: u64, list: &[u16], frame: &mut [u16]) -> Result<
 /// The counts of the whole frame, by rising flow number.
 fn counts_of(flows: &[Flow]) -> Vec<Count> {
     let numbered = (1..).zip(flows).filter(|(_, flow)| flow.cells > 0);
-    let counts = numbered.map(|(number, flow)| Count {
+    let counts = numbered.map(|(number, &flow)| Count {
         number,
-        input: flow.input,
-        output: flow.output,
+        flow,
         cells: flow.cells,
     });
     counts.collect()
@@ -75,7 +79,7 @@ fn fill_block(ports: u64, counts: &[Count], block: &mut [u16]) {
 fn fill_slot(counts: &[Count], slot: &mut [u16]) {
     slot.fill(0);
     for count in counts {
-        slot[count.input as usize - 1] = count.number;
+        slot[count.flow.input as usize - 1] = count.number;
     }
 }
 
@@ -96,26 +100,41 @@ fn split(ports: u64, counts: &[Count]) -> [Vec<Count>; 2] {
 /// The places, among the counts of a block, of a count's partners: at its input and at its output.
 type Partners = [Option<usize>; 2];
 
-/// Rule 3: the partners of each count of a block.
+/// Rule 3: the partners of each count of a block. At an output those of one link are partnered first, and then the single ones that
+/// its links leave, by rising link.
 fn partnerships(ports: u64, counts: &[Count]) -> Vec<Partners> {
     let mut partners = vec![[None; 2]; counts.len()];
     let odd = (0..counts.len()).filter(|&place| counts[place].is_odd());
     let odd: Vec<usize> = odd.collect();
     for port in 1..=ports {
-        let at_input = odd.iter().filter(|&&place| counts[place].input == port);
-        let at_output = odd.iter().filter(|&&place| counts[place].output == port);
-        join_partners(&at_input.copied().collect::<Vec<_>>(), 0, &mut partners);
-        join_partners(&at_output.copied().collect::<Vec<_>>(), 1, &mut partners);
+        let at_input = places_of(&odd, |place| counts[place].flow.input == port);
+        join_partners(&at_input, 0, &mut partners);
+        let at_output = places_of(&odd, |place| counts[place].flow.output == port);
+        let mut singles = Vec::new();
+        for link in 1..=LINKS {
+            let of_link = places_of(&at_output, |place| counts[place].flow.link == link);
+            singles.extend(join_partners(&of_link, 1, &mut partners));
+        }
+        join_partners(&singles, 1, &mut partners);
     }
     partners
 }
 
-/// At one input or output: first odd count with second, third with fourth, by rising flow number.
-fn join_partners(odd: &[usize], side: usize, partners: &mut [Partners]) {
-    for couple in odd.chunks_exact(2) {
+/// Those of some places that are asked for, in their order.
+fn places_of(places: &[usize], asked: impl Fn(usize) -> bool) -> Vec<usize> {
+    let asked = places.iter().filter(|&&place| asked(place));
+    asked.copied().collect()
+}
+
+/// First with second, third with fourth, and so on, in the order given; the one that is left single, if any.
+fn join_partners(odd: &[usize], side: usize, partners: &mut [Partners]) -> Option<usize> {
+    let couples = odd.chunks_exact(2);
+    let single = couples.remainder().first().copied();
+    for couple in couples {
         partners[couple[0]][side] = Some(couple[1]);
         partners[couple[1]][side] = Some(couple[0]);
     }
+    single
 }
 
 /// All odd counts joined by partnership, by how many partnerships each is away from the first of them, that of the lowest flow
@@ -137,6 +156,7 @@ fn groups(counts: &[Count], partners: &[Partners]) -> Vec<Group> {
     }
     groups
 }
+
 /// Goes out from the first count one partnership at a time, until nobody new is reached.
 fn search_group(first: usize, partners: &[Partners], found: &mut [bool]) -> Group {
     let [mut even, mut odd] = [Vec::new(), Vec::new()];

@@ -1,7 +1,7 @@
 //! Inspect: legality and balance looked up in the frame's entries, without the splitting.
 
 use crate::admission::{check_frame, check_list};
-use crate::flow::{numbered, Flow};
+use crate::flow::{numbered, Flow, LINKS};
 use crate::refusal::Refusal;
 
 /// The answer of Inspect; slots, inputs, outputs and flows are numbered from 1.
@@ -15,7 +15,7 @@ pub enum Inspection {
     Refused(Refusal),
 }
 
-/// Clean, the first fault in the paper's order, or the first refusal of 1, 2, 3, 21, 22, 4.
+/// Clean, the first fault in the paper's order, or the first refusal of 1, 2, 3, 21, 22, 23, 4.
 pub fn inspect(ports: u64, slots: u64, list: &[u16], frame: &[u16]) -> Inspection {
     let checked = check_list(ports, slots, list)
         .and_then(|flows| check_frame(ports, slots, frame).map(|()| flows));
@@ -84,7 +84,7 @@ fn unbalanced_block(ports: usize, flows: &[Flow], frame: &[u16]) -> Option<Inspe
     None
 }
 
-/// Whether the halves of a block differ by at most 1 in every flow, input and output, and in the total.
+/// Whether the halves of a block differ by at most 1 in every flow, input, output and link, and in the total.
 fn is_balanced(ports: usize, flows: &[Flow], block: &[u16]) -> bool {
     let (front, back) = block.split_at(block.len() / 2);
     let front = cells_by_class(ports, flows, front);
@@ -92,17 +92,20 @@ fn is_balanced(ports: usize, flows: &[Flow], block: &[u16]) -> bool {
     front.iter().zip(&back).all(|(a, b)| a.abs_diff(*b) <= 1)
 }
 
-/// The cells of every flow, then of every input, then of every output, then all of them, where no entry is wrong.
+/// The cells of every flow, then of every input, of every output, of every link, and all of them, where no entry is wrong.
 fn cells_by_class(ports: usize, flows: &[Flow], block: &[u16]) -> Vec<u64> {
     let inputs = flows.len();
     let outputs = inputs + ports;
-    let total = outputs + ports;
+    let links = outputs + ports;
+    let total = links + ports * LINKS as usize;
     let mut cells = vec![0; total + 1];
     for &entry in block {
         if let Some(flow) = numbered(flows, entry.into()) {
             cells[usize::from(entry) - 1] += 1;
             cells[inputs + flow.input as usize - 1] += 1;
             cells[outputs + flow.output as usize - 1] += 1;
+            let links_before = (flow.output - 1) * LINKS + flow.link - 1;
+            cells[links + links_before as usize] += 1;
             cells[total] += 1;
         }
     }

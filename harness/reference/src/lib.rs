@@ -16,7 +16,7 @@ pub mod work;
 
 pub use admission::admit;
 pub use build::build;
-pub use flow::MOST_FLOWS;
+pub use flow::{slots_each, Limits, LINKS, MOST_FLOWS};
 pub use inspect::{inspect, Inspection};
 pub use query::{service_count, slot_view, Class, Count, LONGEST_RUN};
 pub use refusal::Refusal;

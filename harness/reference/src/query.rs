@@ -3,7 +3,7 @@
 use std::ops::Range;
 
 use crate::admission::{check_frame, check_list, check_ports, check_slots};
-use crate::flow::{numbered, Flow};
+use crate::flow::{numbered, sent_in, Flow};
 use crate::refusal::{require, Refusal};
 
 /// The longest run Service count takes.
@@ -37,10 +37,7 @@ impl Class {
                 None => 0,
             },
             Class::Input { port } => u64::from(slot[(port - 1) as usize] != 0),
-            Class::Output { port } => {
-                let sent = slot.iter().map(|&entry| numbered(flows, entry.into()));
-                sent.flatten().filter(|flow| flow.output == port).count() as u64
-            }
+            Class::Output { port } => sent_in(slot, flows, |flow| flow.output == port),
         }
     }
 }
@@ -69,7 +66,7 @@ pub struct Count {
     pub lead: i64,
 }
 
-/// The cells of a run of the repeating frame and their lead, or the first refusal of 1, 2, 3, 21, 22, 4, 11, 12, 13.
+/// The cells of a run of the repeating frame and their lead, or the first refusal of 1, 2, 3, 21, 22, 23, 4, 11, 12, 13.
 pub fn service_count(
     ports: u64,
     slots: u64,

@@ -1,4 +1,4 @@
-//! The queue of one flow, or of all cells together, slot by slot, and along a row of switches.
+//! The queue of one flow, of a link, or of all cells together, slot by slot, and along a row of switches.
 
 use crate::wire::{deviation, Course};
 

@@ -1,6 +1,6 @@
 //! The numbered refusals.
 
-/// Why a call was turned away; ports, lines and cells are the paper's own numbers.
+/// Why a call was turned away; ports, links, lines and cells are the paper's own numbers.
 #[derive(Clone, Copy, Debug, PartialEq, Eq)]
 pub enum Refusal {
     Ports,
@@ -17,6 +17,8 @@ pub enum Refusal {
     RunLength,
     TooManyFlows,
     FlowPort,
+    FlowLink,
+    LinkLoad { output: u64, link: u64, cells: u64 },
 }
 
 impl Refusal {
@@ -37,6 +39,8 @@ impl Refusal {
             Refusal::RunLength => 13,
             Refusal::TooManyFlows => 21,
             Refusal::FlowPort => 22,
+            Refusal::FlowLink => 23,
+            Refusal::LinkLoad { .. } => 24,
         }
     }
 
@@ -47,6 +51,11 @@ impl Refusal {
             Refusal::InputLoad { port, cells } | Refusal::OutputLoad { port, cells } => {
                 numbers.extend([port, cells]);
             }
+            Refusal::LinkLoad {
+                output,
+                link,
+                cells,
+            } => numbers.extend([output, link, cells]),
             Refusal::LineForm { line } | Refusal::LinePort { line } => numbers.push(line),
             _ => {}
         }

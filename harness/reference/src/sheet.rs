@@ -2,7 +2,7 @@
 
 use crate::admission::{check_ports, check_slots};
 use crate::build::build;
-use crate::flow::{flows_of, MOST_FLOWS};
+use crate::flow::{flows_of, slots_each, MOST_FLOWS};
 use crate::refusal::{require, Refusal};
 
 /// The most bytes a sheet may have.
@@ -24,11 +24,15 @@ pub fn respond(sheet: &[u8]) -> Vec<u8> {
     printed.into_bytes()
 }
 
+/// The link of every flow of a sheet, whose limit is the slots.
+const LINK: u64 = 1;
+
 /// The number of ports and the frame a sheet asks for.
 fn frame_of(sheet: &[u8]) -> Result<(u64, Vec<u16>), Refusal> {
     let asked = read_sheet(sheet)?;
     let mut frame = vec![0; (asked.ports * asked.slots) as usize];
-    build(asked.ports, asked.slots, &asked.list, &mut frame)?;
+    let limits = slots_each(asked.slots);
+    build(asked.ports, asked.slots, &asked.list, &limits, &mut frame)?;
     Ok((asked.ports, frame))
 }
 
@@ -55,7 +59,7 @@ fn read_pair(bytes: &[u8], line: u64, ports: u64, list: &mut Vec<u16>) -> Result
     let known = 1..=ports;
     let ports_known = known.contains(&input) && known.contains(&output);
     require(ports_known, Refusal::LinePort { line })?;
-    list.extend([input, output, cells].map(|number| number as u16));
+    list.extend([input, output, cells, LINK].map(|number| number as u16));
     Ok(())
 }
 

@@ -59,7 +59,7 @@ pub fn paced(k: u32, m: u64, ahead: u64) -> u128 {
     more.map_or(0, |parts| parts / u128::from(m) + 1)
 }
 
-/// Frames that follow on each other in a chain and all have cells of a class, or of all together: a chain by themselves.
+/// Frames that follow on each other in a chain and all have cells of a class, of a link, or some at all: a chain by themselves.
 #[derive(Clone, Debug)]
 pub struct Stretch<'c> {
     /// The slots of a frame, 2^k.

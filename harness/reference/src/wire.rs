@@ -1,12 +1,13 @@
 //! The accuracy rule: what the wire carried, counted entry by entry against the share.
 
-use crate::flow::{cells_of, flows_of, numbered, Flow};
+use crate::flow::{cells_of, flows_of, numbered, sent_in, Flow};
 use crate::query::Class;
 
-/// Whose share the accuracy rule speaks of: the classes that Service count counts, and all cells together.
+/// Whose share the accuracy rule speaks of: the classes that Service count counts, the links of outputs, and all cells together.
 #[derive(Clone, Copy, Debug, PartialEq, Eq)]
 pub enum Whose {
     Class(Class),
+    Link { output: u64, link: u64 },
     Total,
 }
 
@@ -17,14 +18,12 @@ impl From<Class> for Whose {
 }
 
 impl Whose {
-    /// Their cells among one slot's entries, whatever those are; for the total every entry counts that is a flow.
+    /// Their cells among one slot's entries, whatever those are; for a link and for the total only an entry counts that is a flow.
     fn cells_in_slot(self, flows: &[Flow], slot: &[u16]) -> u64 {
         match self {
             Whose::Class(class) => class.cells_in_slot(flows, slot),
-            Whose::Total => {
-                let sent = slot.iter().map(|&entry| numbered(flows, entry.into()));
-                sent.flatten().count() as u64
-            }
+            Whose::Link { output, link } => sent_in(slot, flows, |flow| flow.is_on(output, link)),
+            Whose::Total => sent_in(slot, flows, |_| true),
         }
     }
 
@@ -36,6 +35,7 @@ impl Whose {
             }
             Whose::Class(Class::Input { port }) => cells_of(flows, |flow| flow.input == port),
             Whose::Class(Class::Output { port }) => cells_of(flows, |flow| flow.output == port),
+            Whose::Link { output, link } => cells_of(flows, |flow| flow.is_on(output, link)),
             Whose::Total => cells_of(flows, |_| true),
         }
     }
@@ -78,14 +78,14 @@ pub struct Run {
     pub length: usize,
 }
 
-/// The cells of a class, or all cells, in a slot, and their load in the frame that the slot is in.
+/// The cells of a class, of a link, or all cells, in a slot, and their load in the frame that the slot is in.
 #[derive(Clone, Copy, Debug, PartialEq, Eq)]
 pub struct Slot {
     pub load: u64,
     pub cells: u64,
 }
 
-/// What a chain gives one class, or all cells together, slot by slot.
+/// What a chain gives one class, a link, or all cells together, slot by slot.
 #[derive(Clone, Debug)]
 pub struct Course {
     /// The slots of a frame, 2^k.
@@ -209,7 +209,7 @@ pub fn demanded(k: u32) -> i128 {
     i128::from(2 * k + 1) << k
 }
 
-/// How far a class, or the total, can be from its share, in parts of 1/2^k of a cell, after the first slots of a frame of 2^k.
+/// How far a class, a link or the total can be from its share, in parts of 1/2^k of a cell, after the first slots of a frame of 2^k.
 ///
 /// Each place in a frame is the middle of one block, and there within half a cell of the mean of the block's two ends. Of
 /// these one is the middle of the block's own parent, the other that of a block before it, or an end of the frame.

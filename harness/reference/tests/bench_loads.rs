@@ -1,11 +1,14 @@
-//! The bench loads of the paper, worked by hand.
+//! The bench loads of the paper, worked by hand, all flows on link 1.
+
+mod ample;
 
 use reference::wire::{self, Course, Frame, Run};
 use reference::{
-    admit, build, inspect, respond, service_count, slot_view, Class, Count, Inspection, Refusal,
+    admit, inspect, respond, service_count, slot_view, slots_each, Class, Count, Inspection,
+    Refusal,
 };
 
-const TABLE_7: [u16; 15] = [1, 1, 2, 1, 2, 2, 4, 1, 1, 4, 2, 1, 4, 4, 2];
+const TABLE_7: [u16; 20] = [1, 1, 2, 1, 1, 2, 2, 1, 4, 1, 1, 1, 4, 2, 1, 1, 4, 4, 2, 1];
 
 const TABLE_7_FRAME: [u16; 16] = [1, 0, 0, 5, 2, 0, 0, 3, 1, 0, 0, 4, 2, 0, 0, 5];
 
@@ -28,8 +31,9 @@ const TABLE_7_PRINTED: &str = "(frame (ports 4) (slots 4))
 /// Builds into a buffer of other entries and has the frame inspected.
 fn built(ports: u64, slots: u64, list: &[u16]) -> Result<Vec<u16>, Refusal> {
     let mut frame = vec![0xa5a5; (ports * slots) as usize];
-    let answer = build(ports, slots, list, &mut frame);
-    assert_eq!(answer.map(|_| ()), admit(ports, slots, list));
+    let answer = ample::build(ports, slots, list, &mut frame);
+    let admitted = admit(ports, slots, list, &slots_each(slots));
+    assert_eq!(answer.map(|_| ()), admitted);
     if answer.is_err() {
         assert!(frame.iter().all(|&entry| entry == 0xa5a5));
     } else {
@@ -40,24 +44,24 @@ fn built(ports: u64, slots: u64, list: &[u16]) -> Result<Vec<u16>, Refusal> {
 
 #[test]
 fn one_port_one_slot() {
-    assert_eq!(built(1, 1, &[1, 1, 1]), Ok(vec![1]));
+    assert_eq!(built(1, 1, &[1, 1, 1, 1]), Ok(vec![1]));
 }
 
 #[test]
 fn three_cells_in_four_slots() {
-    assert_eq!(built(1, 4, &[1, 1, 3]), Ok(vec![1, 1, 1, 0]));
+    assert_eq!(built(1, 4, &[1, 1, 3, 1]), Ok(vec![1, 1, 1, 0]));
 }
 
 #[test]
 fn two_ports_all_ones() {
-    let list = [1, 1, 1, 1, 2, 1, 2, 1, 1, 2, 2, 1];
+    let list = [1, 1, 1, 1, 1, 2, 1, 1, 2, 1, 1, 1, 2, 2, 1, 1];
     assert_eq!(built(2, 2, &list), Ok(vec![1, 4, 2, 3]));
 }
 
 /// Flows 1, 3, 2, 4 in slots 1 to 4.
 #[test]
 fn own_numbers_one_in_each_slot() {
-    let list = [1, 1, 1, 2, 2, 1, 3, 3, 1, 4, 4, 1];
+    let list = [1, 1, 1, 1, 2, 2, 1, 1, 3, 3, 1, 1, 4, 4, 1, 1];
     let frame = vec![1, 0, 0, 0, 0, 0, 3, 0, 0, 2, 0, 0, 0, 0, 0, 4];
     assert_eq!(built(4, 4, &list), Ok(frame));
 }
@@ -65,9 +69,9 @@ fn own_numbers_one_in_each_slot() {
 /// Sound and picture of one pair, and the same two in the other order.
 #[test]
 fn two_flows_on_one_pair() {
-    let list = [1, 1, 3, 1, 1, 1];
+    let list = [1, 1, 3, 1, 1, 1, 1, 1];
     assert_eq!(built(1, 4, &list), Ok(vec![1, 1, 1, 2]));
-    let list = [1, 1, 1, 1, 1, 3];
+    let list = [1, 1, 1, 1, 1, 1, 3, 1];
     assert_eq!(built(1, 4, &list), Ok(vec![1, 2, 2, 2]));
 }
 
@@ -83,24 +87,24 @@ fn table_7() {
 #[test]
 fn overloaded_input() {
     let refusal = Refusal::InputLoad { port: 1, cells: 5 };
-    assert_eq!(built(2, 4, &[1, 1, 3, 1, 2, 2]), Err(refusal));
+    assert_eq!(built(2, 4, &[1, 1, 3, 1, 1, 2, 2, 1]), Err(refusal));
     assert_eq!(refusal.numbers(), [5, 1, 5]);
-    let list = [1, 1, 2, 1, 2, 2];
+    let list = [1, 1, 2, 1, 1, 2, 2, 1];
     assert_eq!(built(2, 4, &list), Ok(vec![1, 0, 2, 0, 1, 0, 2, 0]));
 }
 
 #[test]
 fn overloaded_output() {
     let refusal = Refusal::OutputLoad { port: 1, cells: 5 };
-    assert_eq!(built(2, 4, &[1, 1, 3, 2, 1, 2]), Err(refusal));
+    assert_eq!(built(2, 4, &[1, 1, 3, 1, 2, 1, 2, 1]), Err(refusal));
     assert_eq!(refusal.numbers(), [6, 1, 5]);
 }
 
 #[test]
 fn overloaded_pair_is_refused_for_its_input() {
     let refusal = Refusal::InputLoad { port: 1, cells: 5 };
-    assert_eq!(built(2, 4, &[1, 1, 5]), Err(refusal));
-    assert_eq!(built(2, 4, &[1, 1, 2, 1, 1, 3]), Err(refusal));
+    assert_eq!(built(2, 4, &[1, 1, 5, 1]), Err(refusal));
+    assert_eq!(built(2, 4, &[1, 1, 2, 1, 1, 1, 3, 1]), Err(refusal));
 }
 
 fn count_in_table_7(class: Class, start: u64, length: u64) -> Result<Count, Refusal> {
@@ -136,7 +140,7 @@ fn idle_loads_and_empty_runs() {
     for ports in 1..=16 {
         for k in 0..=10 {
             let last = ports as u16;
-            for list in [&[][..], &[1, last, 0], &[last, 1, 0, last, 1, 0]] {
+            for list in [&[][..], &[1, last, 0, 1], &[last, 1, 0, 1, last, 1, 0, 1]] {
                 let frame = built(ports, 1 << k, list).unwrap();
                 assert!(frame.iter().all(|&entry| entry == 0));
             }
@@ -176,16 +180,16 @@ fn leads_of_table_7() {
 #[test]
 fn limits_of_slots_and_ports() {
     assert_eq!(built(1, 3, &[]), Err(Refusal::Slots));
-    assert!(built(1, 1_024, &[1, 1, 1_024]).is_ok());
+    assert!(built(1, 1_024, &[1, 1, 1_024, 1]).is_ok());
     assert_eq!(built(1, 2_048, &[]), Err(Refusal::Slots));
-    assert!(built(16, 1, &[16, 16, 1]).is_ok());
+    assert!(built(16, 1, &[16, 16, 1, 1]).is_ok());
     assert_eq!(built(17, 1, &[]), Err(Refusal::Ports));
     assert_eq!(built(0, 1, &[]), Err(Refusal::Ports));
 }
 
 #[test]
 fn seam_reaches_the_bound_exactly() {
-    let lists = [vec![1, 1, 0, 1, 2, 1], vec![1, 1, 1, 1, 2, 1]];
+    let lists = [vec![1, 1, 0, 1, 1, 2, 1, 1], vec![1, 1, 1, 1, 1, 2, 1, 1]];
     let chain = lists.map(|list| Frame {
         ports: 2,
         slots: 2,
@@ -208,7 +212,7 @@ fn seam_reaches_the_bound_exactly() {
     // Each frame's share, a half, rounded down would hide the whole difference.
     let rounded: u128 = chain
         .iter()
-        .map(|frame| u128::from(frame.list[5]) / 2)
+        .map(|frame| u128::from(frame.list[6]) / 2)
         .sum();
     assert_eq!(rounded, course.cells(run));
 }

@@ -1,13 +1,14 @@
 //! The tables and examples of docs/BUFFERS.md, held to their formula; the seam at which its bound is reached, and a frame
 //! that breaks it.
 
+mod ample;
 mod page;
 
 use loads::{load_alone, load_beside};
 use page::grouped;
 use reference::queue::{pass, Depth, Source};
 use reference::wire::{demanded, deviation, Course, Frame};
-use reference::{build, Class};
+use reference::Class;
 
 const TEXT: &str = include_str!("../../../docs/BUFFERS.md");
 const LEAD_OUTPUT: &str = include_str!("../../../examples/lead.output");
@@ -168,9 +169,9 @@ fn depth_on(chain: &[Frame], class: Class, source: Source) -> Depth {
 
 #[test]
 fn seam() {
-    let frame_of = |list: [u16; 6]| {
+    let frame_of = |list: [u16; 8]| {
         let mut entries = vec![0; 4];
-        build(2, 2, &list, &mut entries).unwrap();
+        ample::build(2, 2, &list, &mut entries).unwrap();
         let list = list.to_vec();
         Frame {
             ports: 2,
@@ -191,7 +192,7 @@ fn a_bunched_frame_stands_too_deep() {
     let frame = Frame {
         ports: 1,
         slots: 16,
-        list: vec![1, 1, 8],
+        list: vec![1, 1, 8, 1],
         entries,
     };
     let class = Class::Input { port: 1 };

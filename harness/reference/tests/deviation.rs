@@ -1,7 +1,9 @@
 //! The sharp bound of demand 3, held to its definition.
 
+mod ample;
+
 use reference::wire::{demanded, deviation, Course, Frame, Slot};
-use reference::{build, Class};
+use reference::Class;
 
 #[test]
 fn first_deviations() {
@@ -55,10 +57,10 @@ fn the_furthest_of_all_loads_of_one_input() {
         let slots = 1_u16 << k;
         let loads = (0..=slots).flat_map(|one| (0..=slots - one).map(move |other| [one, other]));
         let furthest = loads.map(|[one, other]| {
-            let list = vec![1, 1, one, 1, 2, other];
+            let list = vec![1, 1, one, 1, 1, 2, other, 1];
             let mut entries = vec![0; 2 * usize::from(slots)];
             let slots = u64::from(slots);
-            build(2, slots, &list, &mut entries).unwrap();
+            ample::build(2, slots, &list, &mut entries).unwrap();
             let class = Class::Flow { number: 2 };
             let ports = 2;
             let frame = Frame {

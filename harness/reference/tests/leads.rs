@@ -6,7 +6,7 @@ use reference::{service_count, Class};
 const HEADER: &str = include_str!("../../../include/frame_builder.h");
 
 /// One flow, from input 1 to output 1, whose entries count for it wherever they stand.
-const LIST: [u16; 3] = [1, 1, 1];
+const LIST: [u16; 4] = [1, 1, 1, 1];
 
 const FLOW: Class = Class::Flow { number: 1 };
 const INPUT: Class = Class::Input { port: 1 };

@@ -69,7 +69,7 @@ fn at_the_head_no_more_than_the_sharp_bound_allows() {
 /// The seam of two slots, entry by entry: slots 2 and 3 of the four have no cell of the flow.
 #[test]
 fn the_seam_of_two_slots() {
-    let frame = |entries: [u16; 4], list: [u16; 6]| Frame {
+    let frame = |entries: [u16; 4], list: [u16; 8]| Frame {
         ports: 2,
         slots: 2,
         list: list.to_vec(),

@@ -1,15 +1,17 @@
 //! All cells of a block together: spread to within one cell, and found where they are not.
 
+mod ample;
+
 use loads::{
     load, load_of_shape, unbalance_total, uneven, Block, Call, Flow, LoadKind, Random, Shape,
     Uneven,
 };
 use reference::wire::{deviation, Course, Frame, Whose};
-use reference::{build, inspect, Inspection};
+use reference::{inspect, Inspection};
 
 fn built(call: &Call) -> Vec<u16> {
     let mut frame = vec![0xa5a5; call.frame_length];
-    let answer = build(call.ports, call.slots, &call.list, &mut frame);
+    let answer = reference::build(call.ports, call.slots, &call.list, &call.limits, &mut frame);
     answer.expect("the load fits");
     frame
 }
@@ -47,6 +49,7 @@ fn diagonal_loads_in_1024_slots() {
                 input: port,
                 output: port,
                 cells: random.between(0, 1_024) as u16,
+                link: 0,
             });
             let flows: Vec<Flow> = flows.collect();
             let slots = 1_024;
@@ -79,9 +82,9 @@ fn the_total_strays_half_as_far_as_a_flow_can() {
     for k in 0..=6 {
         let slots = 1 << k;
         let frame = |cells: u16| {
-            let list = vec![1, 1, cells];
+            let list = vec![1, 1, cells, 1];
             let mut entries = vec![0; slots as usize];
-            build(1, slots, &list, &mut entries).unwrap();
+            ample::build(1, slots, &list, &mut entries).unwrap();
             let ports = 1;
             Frame {
                 ports,
@@ -124,7 +127,7 @@ fn every_block_size_unbalanced_in_its_total_alone() {
     }
 }
 
-/// The same by some flows, by an input or by an output alone.
+/// The same by some flows, by an input, by an output or by a link alone.
 #[test]
 fn every_block_size_unbalanced_in_one_class_alone() {
     let mut random = Random::new(5);
@@ -153,7 +156,7 @@ fn every_block_size_unbalanced_in_one_class_alone() {
 /// Four cells in one slot and none in the other.
 #[test]
 fn a_block_of_two_slots() {
-    let list = [1, 1, 1, 2, 2, 1, 3, 3, 1, 4, 4, 1];
+    let list = [1, 1, 1, 1, 2, 2, 1, 1, 3, 3, 1, 1, 4, 4, 1, 1];
     let fault = Inspection::UnbalancedBlock { slot: 1, size: 2 };
     assert_eq!(inspect(4, 2, &list, &[1, 2, 3, 4, 0, 0, 0, 0]), fault);
     assert_eq!(inspect(4, 2, &list, &[0, 0, 0, 0, 1, 2, 3, 4]), fault);

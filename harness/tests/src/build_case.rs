@@ -1,18 +1,19 @@
 //! Cases of Admit and Build.
 
-use std::collections::BTreeSet;
+use std::collections::{BTreeMap, BTreeSet};
 
 use calls::{Built, Calls, Inspection};
-use loads::{flows_of, load, Call, LoadKind, Random, MOST_FLOWS};
+use loads::{flows_of, load, Call, Flow, LoadKind, Random, LINKS, MOST_FLOWS};
 use reference::wire::{Course, Frame, Whose};
 use reference::work::bound_by_size;
 
 use crate::hits::{
-    Hits, IN_MATRIX_ORDER, MOST, NONE_SETTLED, NO_FLOWS, ODD_SETTLED, SAME_FRAME,
-    SEVERAL_ON_A_PAIR, WITHOUT_CELLS,
+    Hits, AT_LIMIT, FOUR_SINGLES, IN_MATRIX_ORDER, MOST, NONE_SETTLED, NO_FLOWS, ODD_SETTLED,
+    SAME_FRAME, SAME_OVER_LINKS, SEVERAL_LINKS, SEVERAL_ON_A_PAIR, SINGLES, THREE_SINGLES,
+    WITHOUT_CELLS,
 };
 use crate::lent::Lent;
-use crate::share_case::{check_share, expect_chain, random_class};
+use crate::share_case::{check_share, expect_chain, random_link, random_whose};
 use crate::verdict::{expect, expect_equal, outcome, Verdict};
 
 /// Holds Admit's answer against the reference's.
@@ -34,8 +35,14 @@ pub fn admit_and_compare(
 ) -> Verdict {
     let list = lend(&call.list, random);
     let before = list.clone();
-    let answer = candidate.admit(call.ports, call.slots, list.part());
-    let right = reference::admit(call.ports, call.slots, &call.list);
+    let Call {
+        ports,
+        slots,
+        limits,
+        ..
+    } = call;
+    let answer = candidate.admit(*ports, *slots, list.part(), limits);
+    let right = reference::admit(*ports, *slots, &call.list, limits);
     hits.add(outcome("admit", &right));
     expect_equal("admit", &answer, &right)?;
     list.expect_same("list after admit", &before)
@@ -64,8 +71,9 @@ pub fn check_build(
     expect_equal("inspect after build", &inspection, &Inspection::Clean)?;
     let chain = vec![wire_frame(&call, buffer.part()); 2];
     expect_chain(&chain)?;
-    let classes = [(); 3].map(|()| Whose::Class(random_class(call.ports, call.flows(), random)));
-    for whose in classes.into_iter().chain([Whose::Total]) {
+    let any = [(); 3].map(|()| random_whose(call.ports, call.flows(), random));
+    let link = random_link(call.ports, random);
+    for whose in any.into_iter().chain([link, Whose::Total]) {
         check_share(&Course::of(&chain, whose), whose, random, hits)?;
     }
     Ok(())
@@ -78,6 +86,11 @@ fn sorts_of_list(call: &Call) -> Vec<&'static str> {
     let pairs: Vec<_> = pairs.collect();
     let different: BTreeSet<_> = pairs.iter().collect();
     let every_pair = different.len() as u64 == call.ports * call.ports;
+    let singles = if call.slots > 1 {
+        most_singles(&flows)
+    } else {
+        0
+    };
     let sorts = [
         (flows.is_empty(), NO_FLOWS),
         (flows.len() == MOST_FLOWS, MOST),
@@ -87,9 +100,59 @@ fn sorts_of_list(call: &Call) -> Vec<&'static str> {
             every_pair && pairs.is_sorted_by(|one, other| one < other),
             IN_MATRIX_ORDER,
         ),
+        (has_several_links(&flows), SEVERAL_LINKS),
+        (singles >= 2, SINGLES),
+        (singles == 3, THREE_SINGLES),
+        (singles == 4, FOUR_SINGLES),
+        (has_link_at_limit(call, &flows), AT_LIMIT),
     ];
     let held = sorts.into_iter().filter(|(holds, _)| *holds);
     held.map(|(_, name)| name).collect()
+}
+
+/// The cells of each link that has flows with cells, by output and link.
+fn loads_of_links(flows: &[Flow]) -> BTreeMap<(usize, usize), u16> {
+    let mut loads = BTreeMap::new();
+    for flow in flows.iter().filter(|flow| flow.cells > 0) {
+        *loads.entry((flow.output, flow.link)).or_default() += flow.cells;
+    }
+    loads
+}
+
+/// Whether some output has cells on several links.
+pub fn has_several_links(flows: &[Flow]) -> bool {
+    let loads = loads_of_links(flows);
+    let outputs: BTreeSet<_> = loads.keys().map(|(output, _)| output).collect();
+    outputs.len() < loads.len()
+}
+
+/// The most single ones that the links of an output leave in the block that is the whole frame.
+fn most_singles(flows: &[Flow]) -> usize {
+    let mut odd = [[false; LINKS]; 16];
+    for flow in flows.iter().filter(|flow| flow.cells % 2 == 1) {
+        odd[flow.output][flow.link] ^= true;
+    }
+    let singles = odd.map(|links| links.into_iter().filter(|&odd| odd).count());
+    singles.into_iter().max().unwrap_or_default()
+}
+
+/// Whether some link has as many cells as its limit, and that is below the slots.
+fn has_link_at_limit(call: &Call, flows: &[Flow]) -> bool {
+    let loads = loads_of_links(flows).into_iter();
+    let mut limits = loads.map(|((output, link), load)| (load, call.limits[output * LINKS + link]));
+    limits.any(|(load, limit)| load == limit && u64::from(limit) < call.slots)
+}
+
+/// The call with its flows over several links, five times in six where all are on link 1, and then now and then with limits that are
+/// exact.
+pub fn over_links(mut call: Call, random: &mut Random) -> Call {
+    if call.is_on_link_1() && !random.one_in(6) {
+        call.spread(random);
+        if random.one_in(3) {
+            call.limit_exactly();
+        }
+    }
+    call
 }
 
 /// Builds with the candidate and the reference from the same entries and compares all of them, and the odd counts settled.
@@ -103,13 +166,22 @@ pub fn build_and_compare(
     let list = lend(&call.list, random);
     let before = list.clone();
     let mut expected = buffer.clone();
-    let right = reference::build(call.ports, call.slots, &call.list, expected.part_mut());
-    let answer = candidate.build(call.ports, call.slots, list.part(), buffer.part_mut());
+    let Call {
+        ports,
+        slots,
+        limits,
+        ..
+    } = call;
+    let right = reference::build(*ports, *slots, &call.list, limits, expected.part_mut());
+    let answer = candidate.build(*ports, *slots, list.part(), limits, buffer.part_mut());
     expect_equal("build", &answer, &right)?;
     buffer.expect_same("buffer after build", &expected)?;
     list.expect_same("list after build", &before)?;
     if let Ok(settled) = answer {
         hits.add(SAME_FRAME);
+        if has_several_links(&flows_of(&call.list)) {
+            hits.add(SAME_OVER_LINKS);
+        }
         check_settled(call, settled, hits)?;
     }
     Ok(answer)

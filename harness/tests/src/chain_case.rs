@@ -2,21 +2,21 @@
 
 use calls::Calls;
 use loads::{
-    load_of_shape, random_shape, Call, Company, Followed, LoadKind, Random, Seam, Shape,
+    flows_of, load_of_shape, random_shape, Call, Company, Followed, LoadKind, Random, Seam, Shape,
     FLOW_NUMBERS,
 };
 use reference::wire::{Course, Frame, Whose};
 
-use crate::build_case::{build_and_compare, lend, wire_frame};
-use crate::hits::{Hits, CHAIN_CHANGED};
+use crate::build_case::{build_and_compare, has_several_links, lend, over_links, wire_frame};
+use crate::hits::{Hits, CHAIN_CHANGED, CHAIN_OVER_LINKS};
 use crate::queue_case::check_queue;
 use crate::share_case::{
-    check_share, class_of, every_class, expect_chain, expect_share, random_class,
+    check_share, class_of, every_class, every_link, expect_chain, expect_share, random_whose,
 };
 use crate::verdict::Verdict;
 use crate::wait_case::{check_first_waits, check_waits};
 
-/// The flows, inputs and outputs whose queues and other runs are looked at on a chain, besides those of the total.
+/// The flows, inputs, outputs and links whose queues and other runs are looked at on a chain, besides those of the total.
 const CLASSES: usize = 8;
 
 loads::kinds! {
@@ -39,6 +39,10 @@ pub fn check_chain(
     let flow = flow_on_chain(shape, random);
     let chain = carry(candidate, kind, shape, flow, random, hits)?;
     expect_chain(&chain)?;
+    let mut lists = chain.iter().map(|frame| flows_of(&frame.list));
+    if lists.any(|flows| has_several_links(&flows)) {
+        hits.add(CHAIN_OVER_LINKS);
+    }
     let flows = most_flows(&chain);
     check_every_class(&chain, shape.ports as u64, flows, hits)?;
     for whose in counted_on_chain(shape, flows, flow, random) {
@@ -103,19 +107,22 @@ fn call_on_chain(
     later: u64,
     random: &mut Random,
 ) -> Call {
-    match flow {
+    let call = match flow {
         Some(flow) if later < 2 => last_load(flow, later, shape, random),
         _ => next_call(kind, shape, flow, random),
-    }
+    };
+    over_links(call, random)
 }
 
-/// Holds every flow, input and output of a chain to the bounds on the run that strays furthest, and the first in its queue to the
-/// longest wait.
+/// Holds every flow, input, output and link of a chain to the bounds on the run that strays furthest, and the first in its queue to
+/// the longest wait.
 fn check_every_class(chain: &[Frame], ports: u64, flows: usize, hits: &mut Hits) -> Verdict {
-    every_class(ports, flows).try_for_each(|class| {
-        let course = Course::of(chain, class);
-        expect_share(&course, class.into(), course.furthest_run())?;
-        check_first_waits(&course, class.into(), hits)
+    let classes = every_class(ports, flows).map(Whose::Class);
+    let mut all = classes.chain(every_link(ports));
+    all.try_for_each(|whose| {
+        let course = Course::of(chain, whose);
+        expect_share(&course, whose, course.furthest_run())?;
+        check_first_waits(&course, whose, hits)
     })
 }
 
@@ -145,18 +152,17 @@ fn last_load(flow: Followed, later: u64, shape: Shape, random: &mut Random) -> C
     flow.load(company, shape, random)
 }
 
-/// The total, and any classes, with the flow of the seam where there is one.
+/// The total, and any classes and links, with the flow of the seam where there is one.
 fn counted_on_chain(
     shape: Shape,
     flows: usize,
     flow: Option<Followed>,
     random: &mut Random,
 ) -> Vec<Whose> {
-    let straying = flow.map(class_of);
-    let any = std::iter::repeat_with(|| random_class(shape.ports as u64, flows, random));
-    let classes = straying.into_iter().chain(any).take(CLASSES);
-    let classes = classes.map(Whose::Class);
-    [Whose::Total].into_iter().chain(classes).collect()
+    let straying = flow.map(class_of).map(Whose::Class);
+    let any = std::iter::repeat_with(|| random_whose(shape.ports as u64, flows, random));
+    let counted = straying.into_iter().chain(any).take(CLASSES);
+    [Whose::Total].into_iter().chain(counted).collect()
 }
 
 /// The one shape of all the frames a chain carries.
@@ -174,6 +180,7 @@ fn next_call(kind: ChainKind, shape: Shape, flow: Option<Followed>, random: &mut
         return straying_load(flow, shape, random);
     }
     match random.below(10) {
+        0 if random.one_in(3) => load_of_shape(LoadKind::LinkOverByOne, shape, random),
         0 => load_of_shape(random.pick(&LoadKind::OVERLOADED), shape, random),
         1 => load_of_shape(random.pick(&LoadKind::ILL_FORMED), shape, random),
         2 => load_of_shape(LoadKind::Junk, shape, random),

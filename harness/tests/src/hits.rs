@@ -9,6 +9,9 @@ use crate::kind::Kind;
 pub const SAME_FRAME: &str =
     "frame compared with the reference's, entry by entry and in its odd counts settled";
 
+/// The same of a list that has cells on several links of some output.
+pub const SAME_OVER_LINKS: &str = "frame of a list over several links compared in the same way";
+
 /// A frame that was built was damaged, or its list was, and then inspected.
 pub const DAMAGED: &str = "frame built, damaged and inspected";
 
@@ -23,8 +26,22 @@ pub const WITHOUT_CELLS: &str = "build of a flow without cells";
 /// A list with one flow for each pair in matrix order was built.
 pub const IN_MATRIX_ORDER: &str = "build of one flow for each pair in matrix order";
 
+/// A list with cells on several links of some output was built.
+pub const SEVERAL_LINKS: &str = "build of a list over several links";
+/// Two links or more of some output each left one of the whole frame's odd counts single, to be partnered by link.
+pub const SINGLES: &str = "build in which single ones of links are partnered";
+/// Three links of some output did so.
+pub const THREE_SINGLES: &str = "build with three single ones at an output";
+/// All four did.
+pub const FOUR_SINGLES: &str = "build with four single ones at an output";
+/// A link had as many cells as its limit, which was below the slots.
+pub const AT_LIMIT: &str = "build of a link with as many cells as its limit";
+
 /// Two frames followed on each other that were built from different lists.
 pub const CHAIN_CHANGED: &str = "chain frame of another list than the one before";
+
+/// Some frame of a chain was of a list that has cells on several links of some output.
+pub const CHAIN_OVER_LINKS: &str = "chain with frames of lists over several links";
 
 /// Some block of a built frame had an odd count.
 pub const ODD_SETTLED: &str = "build with odd counts settled";
@@ -53,6 +70,8 @@ pub const FLOW_UNBALANCED: &str = "block of 2^k slots unbalanced in some flows a
 pub const INPUT_UNBALANCED: &str = "block of 2^k slots unbalanced in an input alone";
 /// The same in the cells of an output alone.
 pub const OUTPUT_UNBALANCED: &str = "block of 2^k slots unbalanced in an output alone";
+/// The same in the cells of a link alone.
+pub const LINK_UNBALANCED: &str = "block of 2^k slots unbalanced in a link alone";
 
 /// The longest run of a chain with fewer than so many cells was held to both bounds.
 pub const WAIT_COMPARED: &str = "longest wait compared";
@@ -69,10 +88,11 @@ pub const PACED_COMPARED: &str = "longest wait of a paced queue compared";
 pub const PACED_REACHED: &str = "longest wait of a paced queue as long as is allowed";
 
 /// What is counted for each k from 1 to 10; with k = 0 nothing strays.
-pub const FOR_EACH_K: [&str; 15] = [
+pub const FOR_EACH_K: [&str; 16] = [
     FLOW_UNBALANCED,
     INPUT_UNBALANCED,
     OUTPUT_UNBALANCED,
+    LINK_UNBALANCED,
     TOTAL_UNBALANCED,
     RUN_REACHED,
     TOTAL_REACHED,
@@ -244,7 +264,7 @@ impl Hits {
         names.extend((0..=10).map(|k| format!("build with {} slots", 1 << k)));
         names.extend(CHAIN_EVENTS.map(str::to_string));
         names.extend((0..=10).map(|k| format!("leads of a frame of {} slots", 1 << k)));
-        for name in [FLOW_UNBALANCED, INPUT_UNBALANCED, OUTPUT_UNBALANCED] {
+        for name in CLASSES_UNBALANCED {
             names.extend((2..=10).map(|k| name_at(name, k)));
         }
         names.extend((1..=10).map(|k| name_at(TOTAL_UNBALANCED, k)));
@@ -281,11 +301,17 @@ pub fn outcomes() -> Vec<String> {
         names.push(format!("inspect {fault}"));
     }
     names.extend((1..=10).map(|k| format!("inspect unbalanced block of {}", 1 << k)));
-    names.extend(refusal_names("admit", &[1, 2, 3, 21, 22, 5, 6]));
-    names.extend(refusal_names("build", &[1, 2, 3, 21, 22, 4, 5, 6]));
-    names.extend(refusal_names("inspect", &[1, 2, 3, 21, 22, 4]));
+    let of_list = [1, 2, 3, 21, 22, 23];
+    for (call, others) in [
+        ("admit", &[5, 6, 24][..]),
+        ("build", &[4, 5, 6, 24]),
+        ("inspect", &[4]),
+        ("count", &[4, 11, 12, 13]),
+    ] {
+        names.extend(refusal_names(call, &of_list));
+        names.extend(refusal_names(call, others));
+    }
     names.extend(refusal_names("view", &[1, 2, 4, 11]));
-    names.extend(refusal_names("count", &[1, 2, 3, 21, 22, 4, 11, 12, 13]));
     names.extend(["flow", "input", "output"].map(|class| format!("count of {class}")));
     names.extend(["above 0", "0", "below 0"].map(|lead| format!("count with lead {lead}")));
     names
@@ -307,18 +333,32 @@ pub const FLOW_LINES: [&str; 4] = [
     "sheet of 513 flow lines or more",
 ];
 
+/// What one class alone was unbalanced in, in blocks of four slots and more.
+const CLASSES_UNBALANCED: [&str; 4] = [
+    FLOW_UNBALANCED,
+    INPUT_UNBALANCED,
+    OUTPUT_UNBALANCED,
+    LINK_UNBALANCED,
+];
+
 /// What the lists that are built must have been like.
-const SORTS_OF_LIST: [&str; 5] = [
+const SORTS_OF_LIST: [&str; 10] = [
     NO_FLOWS,
     MOST,
     SEVERAL_ON_A_PAIR,
     WITHOUT_CELLS,
     IN_MATRIX_ORDER,
+    SEVERAL_LINKS,
+    SINGLES,
+    THREE_SINGLES,
+    FOUR_SINGLES,
+    AT_LIMIT,
 ];
 
 /// What the chains of calls must have come upon.
-const CHAIN_EVENTS: [&str; 7] = [
+const CHAIN_EVENTS: [&str; 8] = [
     CHAIN_CHANGED,
+    CHAIN_OVER_LINKS,
     "chain call accepted",
     "chain call refused",
     "chain call refused before any accepted",

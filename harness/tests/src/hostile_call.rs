@@ -1,13 +1,15 @@
-//! Hostile calls: any number in any place, slices of any length.
+//! Hostile calls: any number in any place, slices of any length, any limits.
 
 use std::fmt::{self, Display, Formatter};
 
 use calls::Class;
 use loads::{
-    damage, hostile_length, hostile_number, hostile_port, load_of_shape, random_shape, Call,
-    Damage, LengthKind, LoadKind, Random, Shape, FLOW_NUMBERS, HOSTILE, MOST_FLOWS,
+    damage, hostile_length, hostile_limit, hostile_link, hostile_number, hostile_port,
+    load_of_shape, random_shape, Call, Damage, LengthKind, LimitKind, Limits, LoadKind, Random,
+    Shape, FLOW_NUMBERS, HOSTILE, LINKS, MOST_FLOWS,
 };
 
+use crate::build_case::over_links;
 use crate::hits::Hits;
 use crate::query_case::any_entries;
 use crate::share_case::random_class;
@@ -39,6 +41,11 @@ impl HostileKind {
                 "ports", "slots", "start", "length", "flow", "input", "output",
             ],
         }
+    }
+
+    /// Whether the call takes limits.
+    pub fn has_limits(self) -> bool {
+        matches!(self, HostileKind::Admit | HostileKind::Build)
     }
 
     /// The places for a slice.
@@ -99,9 +106,10 @@ fn good_call(kind: HostileKind, random: &mut Random) -> Given {
     let shape = random_shape(random);
     let loads = match kind {
         HostileKind::Inspect => &LoadKind::FITTING,
-        _ => &LoadKind::ALL[..LoadKind::ALL.len() - 4],
+        _ => &LoadKind::ALL[..LoadKind::ALL.len() - LoadKind::ILL_FORMED.len() - 1],
     };
-    let mut call = load_of_shape(random.pick(loads), shape, random);
+    let call = load_of_shape(random.pick(loads), shape, random);
+    let mut call = over_links(call, random);
     let frame = match kind {
         HostileKind::Admit => Vec::new(),
         HostileKind::Build => random.entries(call.frame_length),
@@ -138,6 +146,9 @@ impl Spoiler<'_> {
         given.call.ports = self.number("ports", given.call.ports);
         given.call.slots = self.number("slots", given.call.slots);
         self.spoil_slices(given);
+        if self.kind.has_limits() {
+            self.spoil_limits(given.call.slots, &mut given.call.limits);
+        }
         if self.kind == HostileKind::View {
             given.slot = self.number("slot", given.slot);
         }
@@ -161,20 +172,41 @@ impl Spoiler<'_> {
         }
     }
 
-    /// A list of another length, whose further numbers are ports of the switch or any, and now and then a flow with another port.
+    /// A list of another length, whose further numbers are ports of the switch, ports that are links too, or any, and now and then a
+    /// flow with another port or another link.
     fn spoil_list(&mut self, list: &mut Vec<u16>, ports: u64) {
         let good = list.len();
         let length = self.length("list", good as u64, good, MOST_NUMBERS);
-        let most = if self.random.one_in(2) {
-            ports.clamp(1, 16)
-        } else {
-            u16::MAX.into()
-        };
+        let ports = ports.clamp(1, 16);
+        let most = [ports, ports.min(LINKS as u64), u16::MAX.into()];
+        let most = self.random.pick(&most);
         list.resize_with(length, || self.random.between(1, most) as u16);
         if list.len() >= FLOW_NUMBERS && self.is_hostile() && self.random.one_in(2) {
             let flow = self.random.place(list.len() / FLOW_NUMBERS);
-            let place = flow * FLOW_NUMBERS + self.random.place(2);
-            list[place] = hostile_port(list[place], self.random);
+            let place = self.random.pick(&[0, 1, 3]);
+            let hostile = if place == 3 {
+                hostile_link
+            } else {
+                hostile_port
+            };
+            let number = &mut list[flow * FLOW_NUMBERS + place];
+            *number = hostile(*number, self.random);
+        }
+    }
+
+    /// One limit in the place of all, or of some.
+    fn spoil_limits(&mut self, slots: u64, limits: &mut Limits) {
+        let kind = if self.is_hostile() {
+            self.random.pick(LimitKind::ALL)
+        } else {
+            LimitKind::Good
+        };
+        self.hits.add(name_of(self.kind, "limit", kind.name()));
+        let all = self.random.one_in(2);
+        for limit in limits {
+            if all || self.random.one_in(16) {
+                *limit = hostile_limit(kind, *limit, slots);
+            }
         }
     }
 

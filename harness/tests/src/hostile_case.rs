@@ -1,7 +1,7 @@
 //! Hostile cases: one call, made by each way there is to make it.
 
 use calls::Calls;
-use loads::{LengthKind, Random, HOSTILE};
+use loads::{LengthKind, LimitKind, Random, HOSTILE};
 
 use crate::build_case::{admit_and_compare, build_and_compare, lend};
 use crate::hits::{outcomes, Hits};
@@ -27,7 +27,7 @@ pub fn run_hostile(faces: &[Face], settings: &Settings) -> Report {
     run_cases(&kinds.collect::<Vec<_>>(), required(faces), settings)
 }
 
-/// Every answer by every face, and every hostile number and every kind of length in every place for one.
+/// Every answer by every face, every hostile number and every kind of length in every place for one, and every kind of limit.
 fn required(faces: &[Face]) -> Vec<String> {
     let mut names = Vec::new();
     for face in faces {
@@ -41,6 +41,10 @@ fn required(faces: &[Face]) -> Vec<String> {
         for place in kind.slices() {
             let lengths = LengthKind::ALL.iter();
             names.extend(lengths.map(|length| name_of(kind, place, length.name())));
+        }
+        if kind.has_limits() {
+            let limits = LimitKind::ALL.iter();
+            names.extend(limits.map(|limit| name_of(kind, "limit", limit.name())));
         }
     }
     names

@@ -4,18 +4,19 @@ use calls::{Calls, Inspection};
 use loads::{damage, load_of_shape, random_shape, unbalance_total, uneven};
 use loads::{Block, Call, Damage, LoadKind, Random, Shape, Uneven};
 
-use crate::build_case::lend;
+use crate::build_case::{lend, over_links};
 use crate::hits::{Hits, DAMAGED, FLOW_UNBALANCED, INPUT_UNBALANCED};
-use crate::hits::{OUTPUT_UNBALANCED, TOTAL_UNBALANCED};
+use crate::hits::{LINK_UNBALANCED, OUTPUT_UNBALANCED, TOTAL_UNBALANCED};
 use crate::lent::Lent;
 use crate::verdict::{expect_equal, Verdict};
 
 /// Loads that fit and are dense enough for damage to show.
-const DENSE: [LoadKind; 11] = [
+const DENSE: [LoadKind; 12] = [
     LoadKind::Full,
     LoadKind::Scattered,
     LoadKind::MostFlows,
     LoadKind::ManyOdd,
+    LoadKind::OddLinks,
     LoadKind::OnePair,
     LoadKind::Permutation,
     LoadKind::Apart,
@@ -33,7 +34,8 @@ pub fn check_inspection(
     hits: &mut Hits,
 ) -> Verdict {
     let shape = random_shape(random);
-    let mut call = load_of_shape(random.pick(&DENSE), shape, random);
+    let call = load_of_shape(random.pick(&DENSE), shape, random);
+    let mut call = over_links(call, random);
     let mut frame = built(&call);
     damage(kind, shape, &mut call, &mut frame, random);
     if kind != Damage::Whole {
@@ -53,7 +55,7 @@ pub fn check_total(candidate: &dyn Calls, random: &mut Random, hits: &mut Hits) 
     Ok(())
 }
 
-/// The same in some flows, in an input or in an output alone.
+/// The same in some flows, in an input, in an output or in a link alone.
 pub fn check_uneven(
     candidate: &dyn Calls,
     by: Uneven,
@@ -67,6 +69,7 @@ pub fn check_uneven(
         Uneven::Flow => FLOW_UNBALANCED,
         Uneven::Input => INPUT_UNBALANCED,
         Uneven::Output => OUTPUT_UNBALANCED,
+        Uneven::Link => LINK_UNBALANCED,
     };
     hits.add_at(name, block.size.trailing_zeros());
     Ok(())
@@ -102,7 +105,14 @@ fn expect_block(
 /// The reference's frame of a load that fits.
 fn built(call: &Call) -> Vec<u16> {
     let mut frame = vec![0; call.frame_length];
-    let answer = reference::build(call.ports, call.slots, &call.list, &mut frame);
+    let Call {
+        ports,
+        slots,
+        list,
+        limits,
+        ..
+    } = call;
+    let answer = reference::build(*ports, *slots, list, limits, &mut frame);
     answer.expect("the load fits");
     frame
 }

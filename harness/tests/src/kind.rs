@@ -13,6 +13,19 @@ use crate::row_case::check_row;
 use crate::sheet_case::check_sheet;
 use crate::verdict::Verdict;
 
+/// Of the loads that fit, those that Admit is given: it looks at the loads of ports and links only, and not at how they are laid out.
+const ADMITTED: [LoadKind; 5] = [
+    LoadKind::NoFlows,
+    LoadKind::Full,
+    LoadKind::MostFlows,
+    LoadKind::SpreadLinks,
+    LoadKind::ExactLimits,
+];
+
+/// Loads that Build is given in chains, rows and leads only: `scattered` and `apart` show what they show.
+const SHOWN_BY_OTHERS: [LoadKind; 3] =
+    [LoadKind::Sparse, LoadKind::OwnNumber, LoadKind::Permutation];
+
 /// A call and what it is given.
 #[derive(Clone, Copy, Debug, PartialEq, Eq)]
 pub enum Kind {
@@ -32,8 +45,12 @@ pub enum Kind {
 impl Kind {
     pub fn all() -> Vec<Kind> {
         let mut kinds = Vec::new();
-        kinds.extend(LoadKind::ALL.iter().copied().map(Kind::Admit));
-        kinds.extend(LoadKind::ALL.iter().copied().map(Kind::Build));
+        let loads = LoadKind::ALL.iter().copied();
+        let is_admitted =
+            |kind: &LoadKind| ADMITTED.contains(kind) || !LoadKind::FITTING.contains(kind);
+        kinds.extend(loads.clone().filter(is_admitted).map(Kind::Admit));
+        let is_built = |kind: &LoadKind| !SHOWN_BY_OTHERS.contains(kind);
+        kinds.extend(loads.filter(is_built).map(Kind::Build));
         kinds.extend(Damage::ALL.iter().copied().map(Kind::Inspect));
         kinds.extend(Uneven::ALL.iter().copied().map(Kind::InspectUneven));
         kinds.push(Kind::InspectTotal);

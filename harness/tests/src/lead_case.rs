@@ -10,7 +10,7 @@ use crate::build_case::{lend, wire_frame};
 use crate::chain_case::straying_load;
 use crate::hits::{Hits, LEAD_REACHED};
 use crate::lent::Lent;
-use crate::share_case::{class_of, every_class};
+use crate::share_case::{class_of, every_class, every_link, expect_share};
 use crate::verdict::{expect, expect_equal, Verdict};
 
 /// The slots that a case looks at, all its classes together.
@@ -26,7 +26,7 @@ struct Built<'b> {
     frame: &'b Lent,
 }
 
-/// Builds a load that fits, and counts the flows, inputs and outputs of its frame, and all cells of it.
+/// Builds a load that fits, and counts the flows, inputs, outputs and links of its frame, and all cells of it.
 pub fn check_leads(candidate: &dyn Calls, random: &mut Random, hits: &mut Hits) -> Verdict {
     let shape = random_shape(random);
     let flow = straying_flow(shape, random);
@@ -35,7 +35,14 @@ pub fn check_leads(candidate: &dyn Calls, random: &mut Random, hits: &mut Hits) 
         None => load_of_shape(random.pick(&LoadKind::FITTING), shape, random),
     };
     let mut frame = lend(&random.entries(call.frame_length), random);
-    let answer = candidate.build(call.ports, call.slots, &call.list, frame.part_mut());
+    let Call {
+        ports,
+        slots,
+        list,
+        limits,
+        ..
+    } = &call;
+    let answer = candidate.build(*ports, *slots, list, limits, frame.part_mut());
     expect(answer.is_ok(), || format!("build: {answer:?}"))?;
     hits.add(format!("leads of a frame of {} slots", call.slots));
     let before = frame.clone();
@@ -47,6 +54,9 @@ pub fn check_leads(candidate: &dyn Calls, random: &mut Random, hits: &mut Hits) 
     let turns = vec![wire_frame(&call, frame.part()); 2];
     for class in classes_of(&call, flow, random) {
         built.check(class, &Course::of(&turns, class), random, hits)?;
+    }
+    for link in links_of(&call, random) {
+        check_link(&Course::of(&turns, link), link, random, hits)?;
     }
     built.check_total(&Course::of(&turns, Whose::Total), random, hits)?;
     frame.expect_same("frame after counts", &before)
@@ -65,6 +75,24 @@ fn classes_of(call: &Call, flow: Option<Followed>, random: &mut Random) -> Vec<C
     let straying = flow.map(class_of).into_iter();
     let number = (SLOTS / call.slots as usize).min(CLASSES);
     straying.chain(classes).take(number).collect()
+}
+
+/// The links of every output in random order; fewer where the frame is long.
+fn links_of(call: &Call, random: &mut Random) -> Vec<Whose> {
+    let mut links: Vec<Whose> = every_link(call.ports).collect();
+    random.shuffle(&mut links);
+    links.truncate(SLOTS / call.slots as usize);
+    links
+}
+
+/// Holds a link, for which Service count is not asked, to the bounds on the runs on which it gets furthest ahead and falls furthest
+/// behind.
+fn check_link(course: &Course, link: Whose, random: &mut Random, hits: &mut Hits) -> Verdict {
+    for run in [course.furthest_ahead(), course.furthest_behind()] {
+        expect_share(course, link, run)?;
+        hits.stray(course.k(), course.lead(run).abs());
+    }
+    check_queue(course, link, random)
 }
 
 impl Built<'_> {

@@ -139,7 +139,7 @@ fn any_frame(junk: bool, random: &mut Random) -> (Call, Lent) {
     let shape = random_shape(random);
     let kinds = [
         LoadKind::Scattered,
-        LoadKind::Scattered,
+        LoadKind::SpreadLinks,
         LoadKind::Sparse,
         LoadKind::MostFlows,
         LoadKind::NoFlows,
@@ -165,6 +165,7 @@ pub fn any_entries(call: &Call, random: &mut Random) -> Vec<u16> {
             call.ports,
             call.slots,
             &call.list,
+            &call.limits,
             &mut entries,
         )),
         2 => {

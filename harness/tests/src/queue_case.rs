@@ -1,4 +1,4 @@
-//! How deep the queue of a flow, or of all cells together, stands on a chain.
+//! How deep the queue of a flow, of a port, of a link, or of all cells together, stands on a chain.
 
 use loads::Random;
 use reference::queue::{pass, Source};

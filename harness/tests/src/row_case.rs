@@ -5,7 +5,7 @@ use loads::{load_of_total, Call, Company, Followed, Random, Seam, Shape};
 use reference::queue::{ahead_behind_a_switch, pass_row, Switch};
 use reference::wire::{Course, Frame, Whose};
 
-use crate::build_case::{build_and_compare, lend, wire_frame};
+use crate::build_case::{build_and_compare, lend, over_links, wire_frame};
 use crate::hits::Hits;
 use crate::queue_case::random_bursts;
 use crate::share_case::class_of;
@@ -137,7 +137,7 @@ impl Row {
         let mut buffer = lend(&random.entries(shape.frame_length()), random);
         let mut chain = Vec::new();
         while chain.len() < self.frames {
-            let call = counted.load(shape, self.cells, random);
+            let call = over_links(counted.load(shape, self.cells, random), random);
             let answer = build_and_compare(candidate, &call, &mut buffer, random, hits)?;
             expect(answer.is_ok(), || format!("{call:?} refused"))?;
             let times = random.between(1, 3) as usize;

@@ -1,8 +1,9 @@
-//! How far classes and the total stray from their share on a chain.
+//! How far classes, links and the total stray from their share on a chain.
 
 use calls::Class;
 use loads::{Followed, Random};
 use reference::wire::{self, deviation, Course, Frame, Run, Whose};
+use reference::LINKS;
 
 use crate::hits::{Hits, RUN_REACHED, TOTAL_REACHED};
 use crate::verdict::{expect, Verdict};
@@ -49,6 +50,28 @@ pub fn every_class(ports: u64, flows: usize) -> impl Iterator<Item = Class> {
     let inputs = (1..=ports).map(|port| Class::Input { port });
     let outputs = (1..=ports).map(|port| Class::Output { port });
     flows.chain(inputs).chain(outputs)
+}
+
+/// Every link of the outputs of a switch with so many ports.
+pub fn every_link(ports: u64) -> impl Iterator<Item = Whose> {
+    let links = (1..=ports).flat_map(|output| (1..=LINKS).map(move |link| (output, link)));
+    links.map(|(output, link)| Whose::Link { output, link })
+}
+
+/// One of them.
+pub fn random_link(ports: u64, random: &mut Random) -> Whose {
+    Whose::Link {
+        output: random.between(1, ports),
+        link: random.between(1, LINKS),
+    }
+}
+
+/// A flow of so many, or an input, an output or a link of a switch with so many ports.
+pub fn random_whose(ports: u64, flows: usize, random: &mut Random) -> Whose {
+    match random.below(4) {
+        0 => random_link(ports, random),
+        _ => random_class(ports, flows, random).into(),
+    }
 }
 
 /// A flow of so many, or an input or an output of a switch with so many ports.

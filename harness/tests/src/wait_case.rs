@@ -11,7 +11,7 @@ use crate::hits::{
 use crate::queue_case::{random_bursts, random_source};
 use crate::verdict::{expect, Verdict};
 
-/// Holds the longest waits of a class, or of all cells, to what is allowed, wherever the frames of a chain have so many of its
+/// Holds the longest waits of a class, of a link, or of all cells, to what is allowed, wherever the frames of a chain have so many of its
 /// cells, one or more: those of the first three places, of the one that comes nearest to it, and of a larger one.
 pub fn check_waits(
     course: &Course,

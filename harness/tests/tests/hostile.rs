@@ -43,7 +43,7 @@ fn numbers_cut_to_32_bits() {
     sent_back!(inspect: cut_slots, "hostile/inspect", 4_000);
     sent_back!(slot_view: cut_view, "hostile/view", 4_000);
     sent_back!(service_count: cut_run, "hostile/count", 4_000);
-    sent_back!(service_count: cut_flow, "hostile/count", 4_000);
+    sent_back!(service_count: cut_flow, "hostile/count", 12_000);
     sent_back!(service_count: cut_lead, "hostile/count", 4_000);
 }
 
@@ -71,13 +71,28 @@ fn lengths_not_looked_at() {
 
 #[test]
 fn ports_not_looked_at() {
-    sent_back!(admit: eight_bit_ports, "hostile/admit");
+    sent_back!(admit: eight_bit_ports, "hostile/admit", 4_000);
+}
+
+#[test]
+fn links_not_looked_at() {
+    sent_back!(admit: link_0_accepted, "hostile/admit");
+    sent_back!(build: links_not_first, "hostile/build");
+}
+
+#[test]
+fn other_limits_looked_at() {
+    sent_back!(admit: limits_of_next_output, "hostile/admit");
+    sent_back!(admit: first_limits_only, "hostile/admit");
+    sent_back!(admit: highest_link, "hostile/admit", 4_000);
+    sent_back!(admit: links_before_outputs, "hostile/admit");
 }
 
 #[test]
 fn entries_not_looked_at() {
     sent_back!(inspect: other_inputs_let_through, "hostile/inspect");
     sent_back!(inspect: above_is_idle, "hostile/inspect");
+    sent_back!(inspect: no_links, "hostile/inspect", 4_000);
     sent_back!(service_count: output_by_place, "hostile/count");
     sent_back!(service_count: flow_by_place, "hostile/count");
     sent_back!(service_count: flows_of_input_only, "hostile/count");

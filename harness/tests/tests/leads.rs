@@ -21,7 +21,7 @@ struct Asked {
 impl Asked {
     fn random(random: &mut Random) -> Asked {
         let shape = random_shape(random);
-        let call = load_of_shape(LoadKind::Scattered, shape, random);
+        let call = load_of_shape(LoadKind::SpreadLinks, shape, random);
         let (ports, slots) = (call.ports, call.slots);
         let [input, output] = [ports; 2].map(|most| number_to(most, random));
         let flow = number_to((call.flows() as u64).max(1), random);

@@ -1,30 +1,48 @@
 //! Builders that would be sent back are sent back.
 
-use calls::{Calls, Class, Inspection, Reference, Refusal};
-use loads::{flows_of_matrix, list_of, load_beside, Random, MOST_FLOWS};
+use calls::{Answer, Calls, Class, Inspection, Reference, Refusal};
+use loads::{flows_of_matrix, list_of, load_beside, Random, FLOW_NUMBERS, MOST_FLOWS};
 use reference::queue::{ahead_behind_a_switch, pass_row, Depth, Switch};
+use reference::slots_each;
 use reference::wait::{stretches, Allowed, Stretch};
 use reference::wire::{Course, Frame, Run, Whose};
 use tests::broken::{self, Broken, BuildCall};
 use tests::{check_each_cell, check_paced, check_waits, run, Hits, Settings};
 
-/// The number of cases of the named kinds that a builder fails.
-fn failures(builder: &(impl Calls + calls::SheetProgram + Sync), kind: &str) -> usize {
+/// The cases of each kind that are enough to find most faults.
+const COUNT: u64 = 12;
+
+/// The number of cases of the named kinds that a builder fails, of so many of each.
+fn failures_of(
+    builder: &(impl Calls + calls::SheetProgram + Sync),
+    kind: &str,
+    count: u64,
+) -> usize {
     let settings = Settings {
         seed: 5,
         first: 0,
-        count: 12,
+        count,
         kind: kind.into(),
     };
     run(builder, &settings).failures.len()
 }
 
+/// The same of a few.
+fn failures(builder: &(impl Calls + calls::SheetProgram + Sync), kind: &str) -> usize {
+    failures_of(builder, kind, COUNT)
+}
+
 /// The frame a broken builder hands back for a load it accepts.
 fn frame_of(builder: &Broken, ports: u64, slots: u64, list: &[u16]) -> Vec<u16> {
     let mut frame = vec![0xa5a5; (ports * slots) as usize];
-    let answer = builder.build(ports, slots, list, &mut frame);
+    let answer = builder.build(ports, slots, list, &slots_each(slots), &mut frame);
     assert!(answer.is_ok(), "{answer:?}");
     frame
+}
+
+/// What it answers where each link may have as many cells as there are slots.
+fn admitted(builder: &impl Calls, ports: u64, slots: u64, list: &[u16]) -> Answer {
+    builder.admit(ports, slots, list, &slots_each(slots))
 }
 
 /// The same as the wire carries it.
@@ -50,12 +68,15 @@ fn every_pair(ports: usize, matrix: &[u16]) -> Vec<u16> {
 
 /// A builder with this one call replaced, once the runner has sent it back.
 macro_rules! sent_back {
-    ($call:ident: $function:ident, $kind:expr) => {{
+    ($call:ident: $function:ident, $kind:expr) => {
+        sent_back!($call: $function, $kind, COUNT)
+    };
+    ($call:ident: $function:ident, $kind:expr, $count:expr) => {{
         let builder = Broken {
             $call: broken::$function,
             ..Broken::default()
         };
-        assert!(failures(&builder, $kind) > 0);
+        assert!(failures_of(&builder, $kind, $count) > 0);
         builder
     }};
 }
@@ -89,7 +110,7 @@ fn walk_in_one_direction_only() {
 }
 
 /// One cell from each port to its own number.
-const OWN_NUMBERS: [u16; 12] = [1, 1, 1, 2, 2, 1, 3, 3, 1, 4, 4, 1];
+const OWN_NUMBERS: [u16; 16] = [1, 1, 1, 1, 2, 2, 1, 1, 3, 3, 1, 1, 4, 4, 1, 1];
 
 #[test]
 fn groups_by_another_walk_are_not_sent_back() {
@@ -124,7 +145,7 @@ fn larger_share_always_to_the_first_half() {
 #[test]
 fn even_groups_counted_in_the_turn() {
     let builder = sent_back!(build: even_groups_in_turn, "build/");
-    let list = [1, 1, 1, 2, 2, 1, 2, 3, 1, 3, 4, 1];
+    let list = [1, 1, 1, 1, 2, 2, 1, 1, 2, 3, 1, 1, 3, 4, 1, 1];
     let fault = Inspection::UnbalancedBlock { slot: 1, size: 2 };
     assert_eq!(inspected(&builder, 4, 2, &list), fault);
 }
@@ -154,14 +175,14 @@ fn first_count_takes_the_turn_of_its_group() {
 #[test]
 fn the_other_tie() {
     let builder = sent_back!(build: other_tie, "build/");
-    assert_eq!(inspected(&builder, 1, 4, &[1, 1, 3]), Inspection::Clean);
+    assert_eq!(inspected(&builder, 1, 4, &[1, 1, 3, 1]), Inspection::Clean);
 }
 
 /// Both lists have one cell of two flows on one pair: only the frame shows the fault.
 #[test]
 fn flows_of_one_pair_swapped() {
     let builder = sent_back!(build: flows_of_pair_swapped, "build/");
-    let list = [1, 1, 1, 1, 1, 1];
+    let list = [1, 1, 1, 1, 1, 1, 1, 1];
     assert_eq!(inspected(&builder, 1, 2, &list), Inspection::Clean);
     assert_eq!(frame_of(&Broken::default(), 1, 2, &list), [1, 2]);
     assert_eq!(frame_of(&builder, 1, 2, &list), [2, 1]);
@@ -171,19 +192,84 @@ fn flows_of_one_pair_swapped() {
 #[test]
 fn counts_by_rising_pair() {
     let builder = sent_back!(build: pairs_before_numbers, "build/");
-    let list = [2, 1, 1, 1, 1, 1];
+    let list = [2, 1, 1, 1, 1, 1, 1, 1];
     assert_eq!(inspected(&builder, 2, 2, &list), Inspection::Clean);
     assert_eq!(frame_of(&Broken::default(), 2, 2, &list), [0, 1, 2, 0]);
     assert_eq!(frame_of(&builder, 2, 2, &list), [2, 0, 0, 1]);
+}
+
+/// A flow of one cell to output 1 from each of as many inputs as there are links, each on its link.
+fn by_links(links: &[u16]) -> Vec<u16> {
+    let flows = (1..)
+        .zip(links)
+        .flat_map(|(input, &link)| [input, 1, 1, link]);
+    flows.collect()
+}
+
+/// The flow in each of four slots, 0 for none, that a builder makes of it.
+fn slots_by_links(builder: &Broken, links: &[u16]) -> Vec<u16> {
+    let ports = links.len();
+    let frame = frame_of(builder, ports as u64, 4, &by_links(links));
+    frame.chunks(ports).map(|slot| slot.iter().sum()).collect()
+}
+
+/// Flows 1 and 2, of the two lowest links, are partners, and flow 3 is single: only the frame shows the fault.
+#[test]
+fn single_ones_by_falling_link() {
+    let builder = sent_back!(build: singles_by_falling_link, "build/odd-links", 60);
+    sent_back!(build: singles_by_falling_link, "chain/");
+    let links = [1, 2, 3];
+    assert_eq!(slots_by_links(&Broken::default(), &links), [1, 3, 2, 0]);
+    assert_eq!(slots_by_links(&builder, &links), [1, 2, 3, 0]);
+    assert_eq!(
+        inspected(&builder, 3, 4, &by_links(&links)),
+        Inspection::Clean
+    );
+}
+
+/// Flows 2 and 3, of the two lowest links, are partners: only the frame shows the fault.
+#[test]
+fn single_ones_by_rising_number() {
+    let builder = sent_back!(build: singles_by_number, "build/odd-links", 60);
+    let links = [3, 1, 2];
+    assert_eq!(slots_by_links(&Broken::default(), &links), [1, 2, 3, 0]);
+    assert_eq!(slots_by_links(&builder, &links), [1, 3, 2, 0]);
+    assert_eq!(
+        inspected(&builder, 3, 4, &by_links(&links)),
+        Inspection::Clean
+    );
+}
+
+/// Flows 1 and 4 are of one link. By number alone both are in the first half.
+#[test]
+fn links_not_partnered_first() {
+    let builder = sent_back!(build: links_not_first, "build/spread-links");
+    sent_back!(build: links_not_first, "chain/");
+    let links = [1, 2, 1, 2];
+    assert_eq!(slots_by_links(&Broken::default(), &links), [1, 2, 3, 4]);
+    assert_eq!(slots_by_links(&builder, &links), [1, 3, 2, 4]);
+    let fault = Inspection::UnbalancedBlock { slot: 1, size: 4 };
+    assert_eq!(inspected(&builder, 4, 4, &by_links(&links)), fault);
+    assert_eq!(slots_by_links(&builder, &[1; 4]), [1, 3, 2, 4]);
+}
+
+/// Three flows of three links, which are three groups: 1 and 3 are in the first half by their turn, and both in its first slot.
+#[test]
+fn single_ones_not_partnered() {
+    let builder = sent_back!(build: singles_left, "build/spread-links");
+    sent_back!(build: singles_left, "row/");
+    let list = [1, 1, 1, 1, 2, 2, 1, 1, 3, 1, 1, 2];
+    let fault = Inspection::OutputTwice { slot: 1, output: 1 };
+    assert_eq!(inspected(&builder, 3, 2, &list), fault);
 }
 
 #[test]
 fn entries_that_are_not_the_flow() {
     let builder = sent_back!(build: outputs_for_flows, "build/");
     let fault = Inspection::WrongEntry { slot: 1, input: 1 };
-    assert_eq!(inspected(&builder, 2, 2, &[1, 2, 2]), fault);
+    assert_eq!(inspected(&builder, 2, 2, &[1, 2, 2, 1]), fault);
     let builder = sent_back!(build: eight_bit_entries, "build/");
-    let list = [[1, 1, 0].repeat(256), vec![1, 1, 1]].concat();
+    let list = [[1, 1, 0, 1].repeat(256), vec![1, 1, 1, 1]].concat();
     assert_eq!(frame_of(&Broken::default(), 1, 1, &list), [257]);
     assert_eq!(frame_of(&builder, 1, 1, &list), [1]);
 }
@@ -194,17 +280,95 @@ fn lists_that_are_too_long() {
     sent_back!(build: first_flows_built, "build/too-many-flows");
     sent_back!(admit: overlong_list, "admit/too-many-flows");
     sent_back!(admit: rest_left_out, "admit/not-whole");
-    let too_many = [1, 1, 0].repeat(MOST_FLOWS + 1);
+    let too_many = [1, 1, 0, 1].repeat(MOST_FLOWS + 1);
     let builder = sent_back!(admit: a_flow_more, "admit/too-many-flows");
-    assert_eq!(builder.admit(1, 1, &too_many), Ok(()));
+    assert_eq!(admitted(&builder, 1, 1, &too_many), Ok(()));
     let mut outside = too_many;
-    outside[3 * MOST_FLOWS] = 17;
+    outside[FLOW_NUMBERS * MOST_FLOWS] = 17;
     let builder = sent_back!(admit: ports_before_number, "admit/too-many-flows");
-    assert_eq!(builder.admit(1, 1, &outside), Err(Refusal::FlowPort));
+    assert_eq!(admitted(&builder, 1, 1, &outside), Err(Refusal::FlowPort));
     outside.push(0);
     let builder = sent_back!(admit: number_before_length, "admit/not-whole");
-    assert_eq!(builder.admit(1, 1, &outside), Err(Refusal::TooManyFlows));
-    assert_eq!(Reference.admit(1, 1, &outside), Err(Refusal::ListLength));
+    assert_eq!(
+        admitted(&builder, 1, 1, &outside),
+        Err(Refusal::TooManyFlows)
+    );
+    assert_eq!(
+        admitted(&Reference, 1, 1, &outside),
+        Err(Refusal::ListLength)
+    );
+}
+
+/// Flow 1 on link 0, and then at output 0 besides.
+#[test]
+fn links_outside_1_to_4() {
+    let builder = sent_back!(admit: link_0_accepted, "admit/link-outside");
+    let mut list = [1, 1, 1, 0];
+    assert_eq!(admitted(&builder, 1, 1, &list), Ok(()));
+    assert_eq!(admitted(&Reference, 1, 1, &list), Err(Refusal::FlowLink));
+    list[1] = 0;
+    let builder = sent_back!(admit: links_before_ports, "admit/port-outside");
+    assert_eq!(admitted(&builder, 1, 1, &list), Err(Refusal::FlowLink));
+    assert_eq!(admitted(&Reference, 1, 1, &list), Err(Refusal::FlowPort));
+}
+
+/// 24 of these numbers.
+fn over(output: u64, link: u64, cells: u64) -> Answer {
+    Err(Refusal::LinkLoad {
+        output,
+        link,
+        cells,
+    })
+}
+
+/// Output 1 is asked for nine cells of eight slots, all on link 2.
+#[test]
+fn links_looked_at_before_outputs() {
+    let builder = sent_back!(admit: links_before_outputs, "admit/output-over-by-one");
+    let list = [1, 1, 8, 2, 2, 1, 1, 2];
+    let refusal = Refusal::OutputLoad { port: 1, cells: 9 };
+    assert_eq!(admitted(&Reference, 2, 8, &list), Err(refusal));
+    assert_eq!(admitted(&builder, 2, 8, &list), over(1, 2, 9));
+}
+
+/// Links 2 and 4 of output 1 and link 1 of output 2 have limits of 0.
+#[test]
+fn another_link_reported() {
+    let list = [1, 1, 1, 4, 1, 1, 2, 2, 2, 2, 3, 1];
+    let answer = |builder: &Broken| builder.admit(2, 8, &list, &[0; 64]);
+    assert_eq!(answer(&Broken::default()), over(1, 2, 2));
+    let builder = sent_back!(admit: highest_link, "admit/link-over-by-one");
+    assert_eq!(answer(&builder), over(1, 4, 1));
+    let builder = sent_back!(admit: highest_output, "admit/link-over-by-one");
+    assert_eq!(answer(&builder), over(2, 1, 3));
+}
+
+/// Two ports; link 1 of output 1 has two cells and link 3 of output 2 one.
+#[test]
+fn other_limits_looked_at() {
+    let list = [1, 1, 2, 1, 2, 2, 1, 3];
+    let mut limits = [0; 64];
+    limits[0] = 2;
+    limits[6] = 1;
+    let answer = |builder: &Broken| builder.admit(2, 8, &list, &limits);
+    assert_eq!(answer(&Broken::default()), Ok(()));
+    let builder = sent_back!(admit: limits_of_next_output, "admit/exact-limits");
+    assert_eq!(answer(&builder), over(1, 1, 2));
+    let builder = sent_back!(admit: limit_not_reached, "admit/exact-limits");
+    assert_eq!(answer(&builder), over(1, 1, 2));
+    let builder = sent_back!(admit: first_limits_only, "admit/link-over-by-one");
+    limits[6] = 0;
+    assert_eq!(builder.admit(2, 8, &list, &limits), Ok(()));
+    assert_eq!(Reference.admit(2, 8, &list, &limits), over(2, 3, 1));
+}
+
+#[test]
+fn limits_not_looked_at() {
+    let builder = sent_back!(build: no_limits, "build/link-over-by-one");
+    sent_back!(build: no_limits, "chain/", 60);
+    let answer = |builder: &Broken| builder.build(1, 1, &[1, 1, 1, 4], &[0; 64], &mut [0]);
+    assert_eq!(answer(&builder), Ok(0));
+    assert_eq!(answer(&Broken::default()).map(|_| ()), over(1, 4, 1));
 }
 
 #[test]
@@ -217,41 +381,42 @@ fn lists_that_are_misread() {
 fn idle_frame() {
     let builder = sent_back!(build: idle_frame, "build/");
     let fault = Inspection::FlowCount { flow: 2 };
-    assert_eq!(inspected(&builder, 2, 4, &[1, 1, 0, 1, 2, 3]), fault);
+    assert_eq!(inspected(&builder, 2, 4, &[1, 1, 0, 1, 1, 2, 3, 1]), fault);
 }
 
 #[test]
 fn fixed_frame() {
     let builder = sent_back!(build: fixed_frame, "build/");
     let fault = Inspection::FlowCount { flow: 1 };
-    assert_eq!(inspected(&builder, 1, 4, &[1, 1, 3]), fault);
+    assert_eq!(inspected(&builder, 1, 4, &[1, 1, 3, 1]), fault);
 }
 
 #[test]
 fn buffer_left_as_found() {
     let builder = sent_back!(build: as_found, "build/");
     let fault = Inspection::WrongEntry { slot: 1, input: 1 };
-    assert_eq!(inspected(&builder, 2, 4, &[1, 2, 3]), fault);
+    assert_eq!(inspected(&builder, 2, 4, &[1, 2, 3, 1]), fault);
 }
 
 #[test]
 fn all_loads_turned_away() {
     let builder = sent_back!(build: refuse_all, "build/");
-    assert!(builder.build(1, 1, &[1, 1, 1], &mut [0]).is_err());
+    let answer = builder.build(1, 1, &[1, 1, 1, 1], &[1; 64], &mut [0]);
+    assert!(answer.is_err());
 }
 
 #[test]
 fn first_slots_copied_on() {
     let builder = sent_back!(build: copied_on, "build/");
     let fault = Inspection::FlowCount { flow: 1 };
-    assert_eq!(inspected(&builder, 1, 4, &[1, 1, 3]), fault);
+    assert_eq!(inspected(&builder, 1, 4, &[1, 1, 3, 1]), fault);
 }
 
 #[test]
 fn legal_but_bunched() {
     let builder = sent_back!(build: bunched, "build/");
     let fault = Inspection::UnbalancedBlock { slot: 1, size: 16 };
-    assert_eq!(inspected(&builder, 1, 16, &[1, 1, 8]), fault);
+    assert_eq!(inspected(&builder, 1, 16, &[1, 1, 8, 1]), fault);
 
     let course = half_load(&builder, 16, 1);
     assert!(!course.has_its_share(course.furthest_run()));
@@ -260,7 +425,7 @@ fn legal_but_bunched() {
 
 /// What one input is given that sends in half of the slots, its frame carried so many times.
 fn half_load(builder: &Broken, slots: u64, times: usize) -> Course {
-    let frame = carried(builder, 1, slots, &[1, 1, slots as u16 / 2]);
+    let frame = carried(builder, 1, slots, &[1, 1, slots as u16 / 2, 1]);
     Course::of(&vec![frame; times], Class::Input { port: 1 })
 }
 
@@ -303,14 +468,14 @@ fn first_flow(build: BuildCall, cells: u16) -> [Frame; 2] {
         build,
         ..Broken::default()
     };
-    let loads = [[1, 1, cells, 1, 2, 0], load_beside(16, 16 - cells)];
+    let loads = [[1, 1, cells, 1, 1, 2, 0, 1], load_beside(16, 16 - cells)];
     loads.map(|load| carried(&builder, 2, 16, &load))
 }
 
 #[test]
 fn a_bunched_flow_waits_too_long() {
     for cells in 2..15 {
-        let even = first_flow(reference::build, cells);
+        let even = first_flow(broken::right_build, cells);
         assert_eq!(waits(&even, FIRST_FLOW), Ok(()));
         let bunched = first_flow(broken::bunched, cells);
         let complaint = waits(&bunched, FIRST_FLOW).unwrap_err();
@@ -346,7 +511,10 @@ fn queues_too_slow(chain: &[Frame], check: QueueCheck) -> usize {
 #[test]
 fn cells_of_a_bunched_flow_wait_too_long() {
     for check in [check_each_cell, check_paced] {
-        assert_eq!(queues_too_slow(&first_flow(reference::build, 8), check), 0);
+        assert_eq!(
+            queues_too_slow(&first_flow(broken::right_build, 8), check),
+            0
+        );
         assert!(queues_too_slow(&first_flow(broken::bunched, 8), check) > 10);
     }
 }
@@ -361,7 +529,7 @@ fn a_total_waits_too_long() {
         };
         vec![carried(&builder, 4, 4, &OWN_NUMBERS); 2]
     };
-    assert_eq!(waits(&chain(reference::build), Whose::Total), Ok(()));
+    assert_eq!(waits(&chain(broken::right_build), Whose::Total), Ok(()));
     for build in [
         broken::first_count_to_first_half,
         broken::larger_share_to_first_half,
@@ -392,16 +560,16 @@ fn an_idle_frame_is_asked_for_nothing() {
 fn loads_added_in_16_bits() {
     let builder = sent_back!(build: sixteen_bit_loads, "build/");
     let list = every_pair(2, &[65_535, 1, 1, 65_535]);
-    assert!(builder.build(2, 4, &list, &mut [0; 8]).is_ok());
-    assert!(builder.admit(2, 4, &list).is_err());
+    assert!(builder.build(2, 4, &list, &[4; 64], &mut [0; 8]).is_ok());
+    assert!(admitted(&builder, 2, 4, &list).is_err());
     let builder = sent_back!(admit: sixteen_bit_admit, "admit/");
-    assert_eq!(builder.admit(2, 4, &list), Ok(()));
+    assert_eq!(admitted(&builder, 2, 4, &list), Ok(()));
 }
 
 /// Three cells in four slots, which have odd counts in the whole block and in its second half.
 #[test]
 fn odd_counts_miscounted() {
-    let settled = |builder: Broken| builder.build(1, 4, &[1, 1, 3], &mut [0; 4]);
+    let settled = |builder: Broken| builder.build(1, 4, &[1, 1, 3, 1], &[4; 64], &mut [0; 4]);
     assert_eq!(settled(Broken::default()), Ok(2));
     let builder = sent_back!(build: one_slot_counted, "build/");
     assert_eq!(settled(builder), Ok(5));
@@ -454,7 +622,7 @@ fn halves_by_another_count_are_not_sent_back() {
 /// Flow 1 from input 1 and flow 2 from input 2, both to output 1; the entries of both in the place of the other's.
 #[test]
 fn inspectors_that_do_not_look_at_the_list() {
-    let list = [1, 1, 1, 2, 1, 1];
+    let list = [1, 1, 1, 1, 2, 1, 1, 1];
     let builder = sent_back!(inspect: other_inputs_let_through, "inspect/");
     let swapped = [2, 0, 0, 1];
     assert_eq!(builder.inspect(2, 2, &list, &swapped), Inspection::Clean);
@@ -462,18 +630,29 @@ fn inspectors_that_do_not_look_at_the_list() {
     let above = [1, 3, 0, 2];
     assert_eq!(builder.inspect(2, 2, &list, &above), Inspection::Clean);
     let builder = sent_back!(inspect: flows_of_pair_added, "inspect/flows-swapped");
-    let list = [1, 1, 1, 1, 1, 1];
+    let list = [1, 1, 1, 1, 1, 1, 1, 1];
     assert_eq!(builder.inspect(1, 2, &list, &[1, 1]), Inspection::Clean);
 }
 
 #[test]
 fn inspectors_that_leave_out_a_class() {
     let builder = sent_back!(inspect: no_flows, "inspect/flow");
-    let list = [1, 1, 2, 1, 1, 2];
+    let list = [1, 1, 2, 1, 1, 1, 2, 1];
     let found = builder.inspect(1, 4, &list, &[1, 1, 2, 2]);
     assert_eq!(found, Inspection::Clean);
     sent_back!(inspect: no_inputs, "inspect/input");
     sent_back!(inspect: no_outputs, "inspect/output");
+}
+
+/// Flows 1 and 2, both of link 1, are in the first half, and flow 3, of link 2, in the second.
+#[test]
+fn inspectors_that_leave_out_the_links() {
+    let builder = sent_back!(inspect: no_links, "inspect/link");
+    let list = [1, 1, 1, 1, 1, 1, 1, 1, 1, 1, 1, 2];
+    let found = builder.inspect(1, 4, &list, &[1, 2, 3, 0]);
+    assert_eq!(found, Inspection::Clean);
+    let fault = Inspection::UnbalancedBlock { slot: 1, size: 4 };
+    assert_eq!(reference::inspect(1, 4, &list, &[1, 2, 3, 0]), fault);
 }
 
 #[test]
@@ -505,7 +684,7 @@ fn counts_out_of_the_air() {
 /// The entry of flow 1 stands at input 2 too, and one at input 1 is no flow.
 #[test]
 fn counts_of_other_entries() {
-    let (list, frame) = ([1, 1, 1], [1, 1, 9, 0]);
+    let (list, frame) = ([1, 1, 1, 1], [1, 1, 9, 0]);
     let cells = |builder: &Broken, class| {
         let count = builder.service_count(2, 2, &list, &frame, class, (1, 2));
         count.map(|count| count.cells)
@@ -515,13 +694,13 @@ fn counts_of_other_entries() {
     let right = Broken::default();
     let rights = [flow, input, output].map(|class| cells(&right, class));
     assert_eq!(rights, [Ok(2), Ok(2), Ok(2)]);
-    let builder = sent_back!(service_count: output_by_place, "count/");
+    let builder = sent_back!(service_count: output_by_place, "count/", 60);
     assert_eq!(cells(&builder, output), Ok(1));
-    let builder = sent_back!(service_count: flow_by_place, "count/");
+    let builder = sent_back!(service_count: flow_by_place, "count/", 60);
     assert_eq!(cells(&builder, flow), Ok(1));
-    let builder = sent_back!(service_count: flows_of_input_only, "count/");
+    let builder = sent_back!(service_count: flows_of_input_only, "count/", 60);
     assert_eq!(cells(&builder, input), Ok(1));
-    let builder = sent_back!(service_count: unknown_flow_is_idle, "count/");
+    let builder = sent_back!(service_count: unknown_flow_is_idle, "count/junk", 400);
     assert_eq!(cells(&builder, other), Ok(0));
     assert_eq!(cells(&right, other), Err(Refusal::FlowOrPort));
 }
@@ -567,7 +746,7 @@ fn sheets_with_too_many_flows() {
 
 /// Flow 2 has eight cells in 16 slots, then flow 1 alone is in the list.
 fn shortened() -> [Frame; 2] {
-    let lists = [vec![1, 1, 8, 1, 1, 8], vec![1, 1, 16]];
+    let lists = [vec![1, 1, 8, 1, 1, 1, 8, 1], vec![1, 1, 16, 1]];
     lists.map(|list| carried(&Broken::default(), 1, 16, &list))
 }
 

@@ -3,13 +3,15 @@
 use calls::{Calls, Class, Library};
 use loads::{Seam, SEAMS};
 use reference::queue::{ahead_behind_a_switch, pass, pass_row, Source, Switch};
+use reference::slots_each;
 use reference::wire::{deviation, Course, Frame, Run};
 
 const FLOW: Class = Class::Flow { number: 2 };
 
-fn built(seam: Seam, list: [u16; 6]) -> Frame {
+fn built(seam: Seam, list: [u16; 8]) -> Frame {
     let mut entries = vec![0xa5a5; 2 * seam.slots as usize];
-    let answer = Library::default().build(2, seam.slots, &list, &mut entries);
+    let limits = slots_each(seam.slots);
+    let answer = Library::default().build(2, seam.slots, &list, &limits, &mut entries);
     assert!(answer.is_ok(), "{answer:?}");
     Frame {
         ports: 2,

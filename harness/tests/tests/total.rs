@@ -8,7 +8,8 @@ use tests::broken;
 /// The frame that a builder makes of a load that fits.
 fn built(calls: &dyn Calls, call: &Call) -> Vec<u16> {
     let mut frame = vec![0xa5a5; call.frame_length];
-    let answer = calls.build(call.ports, call.slots, &call.list, &mut frame);
+    let (list, limits) = (&call.list, &call.limits);
+    let answer = calls.build(call.ports, call.slots, list, limits, &mut frame);
     answer.expect("the load fits");
     frame
 }
@@ -46,7 +47,7 @@ fn unbalanced(block: Block) -> Inspection {
     }
 }
 
-/// Has frames inspected of which one block is unbalanced in some flows, in an input or in an output alone.
+/// Has frames inspected of which one block is unbalanced in some flows, in an input, in an output or in a link alone.
 fn finds_the_class(calls: &dyn Calls) {
     let mut random = Random::new(2_029);
     let without = [
@@ -56,6 +57,7 @@ fn finds_the_class(calls: &dyn Calls) {
         ),
         (Uneven::Input, broken::no_inputs),
         (Uneven::Output, broken::no_outputs),
+        (Uneven::Link, broken::no_links),
     ];
     for (by, without) in without {
         for size in (2..=10).map(|k| 1 << k) {

@@ -5,6 +5,7 @@ use std::slice;
 use calls::{Calls, Class, Library};
 use loads::{load_alone, load_beside, SEAMS};
 use reference::queue::Source;
+use reference::slots_each;
 use reference::wait::{by_blocks, paced, pass_each, stretches, Allowed};
 use reference::wire::{Course, Frame, Run};
 
@@ -12,10 +13,11 @@ const FLOW: Class = Class::Flow { number: 2 };
 
 const PARTNER: Class = Class::Flow { number: 1 };
 
-fn built(k: u32, list: [u16; 6]) -> Frame {
+fn built(k: u32, list: [u16; 8]) -> Frame {
     let slots = 1 << k;
     let mut entries = vec![0xa5a5; 2 << k];
-    let answer = Library::default().build(2, slots, &list, &mut entries);
+    let limits = slots_each(slots);
+    let answer = Library::default().build(2, slots, &list, &limits, &mut entries);
     assert!(answer.is_ok(), "{answer:?}");
     Frame {
         ports: 2,
@@ -136,8 +138,8 @@ fn the_longest_wait_by_blocks_of_every_place() {
 /// Every frame of two ports whose first input has two flows of any cells, to an output each.
 fn frames_of_one_input(k: u32) -> Vec<Frame> {
     let slots = 1_u16 << k;
-    let lists =
-        (0..=slots).flat_map(|one| (0..=slots - one).map(move |other| [1, 1, one, 1, 2, other]));
+    let lists = (0..=slots)
+        .flat_map(|one| (0..=slots - one).map(move |other| [1, 1, one, 1, 1, 2, other, 1]));
     lists.map(|list| built(k, list)).collect()
 }
 

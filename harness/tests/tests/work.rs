@@ -1,7 +1,7 @@
 //! The most odd counts that lists have, reached through C and through Rust.
 
 use calls::{Calls, InC, Library, Reference};
-use loads::{Flow, Shape, MOST_FLOWS};
+use loads::{Flow, Shape, LINKS, MOST_FLOWS};
 use reference::work::{bound, bound_by_size};
 
 /// The odd counts of a flow with so many cells in a block of 2^k slots and in all blocks within it: the halves of a count differ
@@ -54,13 +54,15 @@ fn best_row(flows: usize, k: u32) -> Row {
     row
 }
 
-/// The list in which every input has this row, each a port further along, so that every output has the same counts too.
+/// The list in which every input has this row, each a port further along, so that every output has the same counts too, over all its
+/// links.
 fn turned(ports: usize, row: &[usize]) -> Vec<Flow> {
     let flows = (0..ports).flat_map(|input| {
         row.iter().enumerate().map(move |(place, &count)| Flow {
             input,
             output: (input + place) % ports,
             cells: count as u16,
+            link: place % LINKS,
         })
     });
     flows.collect()
@@ -73,7 +75,8 @@ fn expect_settled(ports: usize, k: u32, flows: &[Flow], settled: u64) {
     let (in_c, library) = (InC::default(), Library::default());
     for calls in [&Reference as &dyn Calls, &library, &in_c] {
         let mut frame = vec![0xa5a5; call.frame_length];
-        let answer = calls.build(call.ports, call.slots, &call.list, &mut frame);
+        let (list, limits) = (&call.list, &call.limits);
+        let answer = calls.build(call.ports, call.slots, list, limits, &mut frame);
         assert_eq!(answer, Ok(settled), "{ports} ports, k = {k}");
     }
 }

@@ -6,8 +6,10 @@
 use std::hint::black_box;
 use std::process::ExitCode;
 
-use frame_builder::Flow;
-use loads::{full_load, full_load_of_flows, Call, Random, Shape, FLOW_NUMBERS, MOST_FLOWS};
+use bench::flows_of;
+use frame_builder::slots_each;
+use loads::{full_load, full_load_of_flows, Call, Random, Shape, LINKS, MOST_FLOWS};
+use plain::Loads;
 
 const SLOTS: usize = 1_024;
 
@@ -16,7 +18,7 @@ const LOADS: usize = 100;
 
 /// One pass over the list, a function of its own so that its instructions are counted by themselves.
 #[inline(never)]
-fn plain_loads(list: &[u16]) -> ([usize; 16], [usize; 16]) {
+fn plain_loads(list: &[u16]) -> Loads {
     plain::loads_of(list)
 }
 
@@ -33,15 +35,17 @@ fn read_size(words: &[String]) -> Option<(usize, usize)> {
 /// Admits the load and adds it up.
 fn admit_and_add(call: &Call) {
     let ports = call.ports as usize;
-    let flows = call.list.chunks_exact(FLOW_NUMBERS);
-    let flows: Vec<Flow> = flows
-        .map(|flow| Flow::new(flow[0], flow[1], flow[2]))
-        .collect();
-    let answer = frame_builder::admit(ports, SLOTS, &flows);
+    let flows = flows_of(&call.list);
+    let answer = frame_builder::admit(ports, SLOTS, &flows, slots_each(SLOTS));
     assert!(answer.is_ok(), "a full load fits");
-    let (inputs, outputs) = black_box(plain_loads(&call.list));
+    let loads = black_box(plain_loads(&call.list));
     let full = |loads: &[usize]| loads[..ports].iter().all(|&load| load == SLOTS);
-    assert!(full(&inputs) && full(&outputs), "every port is full");
+    assert!(
+        full(&loads.inputs) && full(&loads.outputs),
+        "every port is full"
+    );
+    let on_link_1: usize = loads.links.iter().step_by(LINKS).sum();
+    assert_eq!(on_link_1, ports * SLOTS, "every flow is on link 1");
 }
 
 fn main() -> ExitCode {

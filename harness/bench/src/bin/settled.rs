@@ -1,5 +1,6 @@
-//! Builds the benchmark's loads FIRST to LAST of PORTS × 2^K, every port loaded with CELLS, with one flow for each pair or with as many
-//! as there may be, and prints the odd counts that each settled, a line each, for a count of instructions.
+//! Builds the benchmark's loads FIRST to LAST of PORTS × 2^K, every port loaded with CELLS, with one flow for each pair, with as many as
+//! there may be, or with one for each pair over four links, and prints the odd counts that each settled, a line each, for a count of
+//! instructions.
 
 #![forbid(unsafe_code)]
 
@@ -8,7 +9,8 @@ use std::process::ExitCode;
 use bench::{loads_of, Flows, Load, LOADS};
 use loads::Shape;
 
-const USAGE: &str = "settled PORTS K CELLS each|most FIRST LAST, with PORTS from 1 to 16, K to 10, CELLS to 2^K, and FIRST and LAST from 1 to 16";
+const USAGE: &str = "settled PORTS K CELLS each|most|links FIRST LAST, with PORTS from 1 to 16, \
+    K to 10, CELLS to 2^K, and FIRST and LAST from 1 to 16";
 
 /// The loads that the words on the command line ask for.
 fn read_loads(words: &[String]) -> Option<Vec<Load>> {
@@ -18,6 +20,7 @@ fn read_loads(words: &[String]) -> Option<Vec<Load>> {
     let flows = match flows.as_str() {
         "each" => Flows::EachPair,
         "most" => Flows::Most,
+        "links" => Flows::FourLinks,
         _ => return None,
     };
     let numbers = [ports, k, cells, first, last].map(|word| word.parse().ok());
@@ -45,7 +48,7 @@ fn main() -> ExitCode {
     for load in loads {
         let Shape { ports, slots } = load.shape;
         let mut frame = vec![0; load.shape.frame_length()];
-        let answer = frame_builder::build(ports, slots, &load.list, &mut frame);
+        let answer = frame_builder::build(ports, slots, &load.list, load.limits, &mut frame);
         println!("{}", answer.expect("the load fits"));
     }
     ExitCode::SUCCESS

@@ -1,7 +1,7 @@
 //! Inspectors that do not see some fault.
 
 use calls::Inspection;
-use loads::{flows_of, Flow, FLOW_NUMBERS};
+use loads::{flows_of, Flow, FLOW_NUMBERS, LINKS};
 
 use crate::broken::cut;
 
@@ -85,6 +85,7 @@ struct Looked {
     flows: bool,
     inputs: bool,
     outputs: bool,
+    links: bool,
     total: bool,
 }
 
@@ -92,6 +93,7 @@ const ALL: Looked = Looked {
     flows: true,
     inputs: true,
     outputs: true,
+    links: true,
     total: true,
 };
 
@@ -117,6 +119,15 @@ pub fn no_inputs(ports: u64, slots: u64, list: &[u16], frame: &[u16]) -> Inspect
 pub fn no_outputs(ports: u64, slots: u64, list: &[u16], frame: &[u16]) -> Inspection {
     let looked = Looked {
         outputs: false,
+        ..ALL
+    };
+    inspect_by(looked, ports, slots, list, frame)
+}
+
+/// Leaves out the links.
+pub fn no_links(ports: u64, slots: u64, list: &[u16], frame: &[u16]) -> Inspection {
+    let looked = Looked {
+        links: false,
         ..ALL
     };
     inspect_by(looked, ports, slots, list, frame)
@@ -162,19 +173,23 @@ fn inspect_by(looked: Looked, ports: u64, slots: u64, list: &[u16], frame: &[u16
 fn has_even_halves(looked: Looked, ports: usize, flows: &[Flow], block: &[u16]) -> bool {
     let mut by_flow = vec![0_i32; flows.len()];
     let [mut by_input, mut by_output] = [vec![0; ports], vec![0; ports]];
+    let mut by_link = vec![0; ports * LINKS];
     let mut total = [0];
     for (place, &entry) in block.iter().enumerate().filter(|(_, &entry)| entry > 0) {
         let number = usize::from(entry) - 1;
         let one = if place < block.len() / 2 { 1 } else { -1 };
+        let flow = &flows[number];
         by_flow[number] += one;
         by_input[place % ports] += one;
-        by_output[flows[number].output] += one;
+        by_output[flow.output] += one;
+        by_link[flow.output * LINKS + flow.link] += one;
         total[0] += one;
     }
     let is_even = |looked: bool, more: &[i32]| !looked || more.iter().all(|more| more.abs() <= 1);
     is_even(looked.flows, &by_flow)
         && is_even(looked.inputs, &by_input)
         && is_even(looked.outputs, &by_output)
+        && is_even(looked.links, &by_link)
         && is_even(looked.total, &total)
 }
 

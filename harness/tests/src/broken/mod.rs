@@ -16,13 +16,62 @@ pub use sheets::*;
 pub use splits::*;
 pub use views::*;
 
-use calls::{Answer, Built, Calls, Class, Inspection, Service, SheetProgram};
+use calls::{Answer, Built, Calls, Class, Inspection, Limits, Service, SheetProgram};
 
-type AdmitCall = fn(u64, u64, &[u16]) -> Answer;
-pub type BuildCall = fn(u64, u64, &[u16], &mut [u16]) -> Built;
+/// What Admit and Build are asked for.
+#[derive(Clone, Copy)]
+pub struct Asked<'a> {
+    pub ports: u64,
+    pub slots: u64,
+    pub list: &'a [u16],
+    pub limits: &'a Limits,
+}
+
+impl Asked<'_> {
+    /// What the reference's Admit answers.
+    fn admit(self) -> Answer {
+        reference::admit(self.ports, self.slots, self.list, self.limits)
+    }
+
+    /// What the reference's Build does.
+    fn build(self, frame: &mut [u16]) -> Built {
+        reference::build(self.ports, self.slots, self.list, self.limits, frame)
+    }
+}
+
+/// What Service count is asked for.
+#[derive(Clone, Copy)]
+pub struct AskedCount<'a> {
+    pub ports: u64,
+    pub slots: u64,
+    pub list: &'a [u16],
+    pub frame: &'a [u16],
+    pub class: Class,
+    pub start: u64,
+    pub length: u64,
+}
+
+impl AskedCount<'_> {
+    /// What the reference answers.
+    fn count(self) -> Service {
+        let AskedCount {
+            ports,
+            slots,
+            list,
+            frame,
+            class,
+            start,
+            length,
+        } = self;
+        reference::service_count(ports, slots, list, frame, class, start, length)
+    }
+}
+
+type AdmitCall = fn(Asked) -> Answer;
+pub type BuildCall = fn(Asked, &mut [u16]) -> Built;
 type InspectCall = fn(u64, u64, &[u16], &[u16]) -> Inspection;
 type ViewCall = for<'f> fn(u64, u64, &'f [u16], u64, &mut u64) -> &'f [u16];
-type CountCall = fn(u64, u64, &[u16], &[u16], Class, u64, u64) -> Service;
+type CountCall = fn(AskedCount) -> Service;
 
 /// A builder made up of calls from different hands.
 pub struct Broken {
@@ -38,23 +87,41 @@ impl Default for Broken {
     /// The reference's own calls, to replace some of.
     fn default() -> Broken {
         Broken {
-            admit: reference::admit,
-            build: reference::build,
+            admit: |asked| asked.admit(),
+            build: right_build,
             inspect: reference::inspect,
             slot_view: right_view,
-            service_count: reference::service_count,
+            service_count: |asked| asked.count(),
             respond: reference::respond,
         }
     }
 }
 
 impl Calls for Broken {
-    fn admit(&self, ports: u64, slots: u64, list: &[u16]) -> Answer {
-        (self.admit)(ports, slots, list)
+    fn admit(&self, ports: u64, slots: u64, list: &[u16], limits: &Limits) -> Answer {
+        (self.admit)(Asked {
+            ports,
+            slots,
+            list,
+            limits,
+        })
     }
 
-    fn build(&self, ports: u64, slots: u64, list: &[u16], frame: &mut [u16]) -> Built {
-        (self.build)(ports, slots, list, frame)
+    fn build(
+        &self,
+        ports: u64,
+        slots: u64,
+        list: &[u16],
+        limits: &Limits,
+        frame: &mut [u16],
+    ) -> Built {
+        let asked = Asked {
+            ports,
+            slots,
+            list,
+            limits,
+        };
+        (self.build)(asked, frame)
     }
 
     fn inspect(&self, ports: u64, slots: u64, list: &[u16], frame: &[u16]) -> Inspection {
@@ -81,7 +148,15 @@ impl Calls for Broken {
         class: Class,
         (start, length): (u64, u64),
     ) -> Service {
-        (self.service_count)(ports, slots, list, frame, class, start, length)
+        (self.service_count)(AskedCount {
+            ports,
+            slots,
+            list,
+            frame,
+            class,
+            start,
+            length,
+        })
     }
 }
 
