@@ -78,6 +78,26 @@ pub fn pass(course: &Course, arrivals: &[u64]) -> Passed {
     passed
 }
 
+/// Runs the buffer at the card of a link: all that is scheduled comes, and the line takes `most` cells a frame, evenly, from a phase
+/// of 1/2^k parts of a cell on. Such a line is behind by less than a cell.
+pub fn pass_card(course: &Course, most: u64, phase: u64) -> Depth {
+    let taken_before = |slot: u64| (slot * most + phase) / course.slots;
+    let allowed = i128::from(course.slots - 1) + 2 * deviation(course.k());
+    let parts = |cells: u64| i128::from(course.slots) * i128::from(cells);
+    let mut depth = Depth {
+        after: -allowed,
+        before: -allowed,
+    };
+    let mut queue = 0;
+    for (slot, given) in (0..).zip(&course.given) {
+        queue += given.cells;
+        depth.before = depth.before.max(parts(queue) - i128::from(most) - allowed);
+        queue -= queue.min(taken_before(slot + 1) - taken_before(slot));
+        depth.after = depth.after.max(parts(queue) - allowed);
+    }
+    depth
+}
+
 /// How far ahead of its share a switch can send a flow, in parts of 1/2^k of a cell.
 pub fn ahead_behind_a_switch(k: u32) -> u64 {
     2 * deviation(k) as u64

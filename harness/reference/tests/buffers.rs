@@ -6,7 +6,7 @@ mod page;
 
 use loads::{load_alone, load_beside};
 use page::grouped;
-use reference::queue::{pass, Depth, Source};
+use reference::queue::{pass, pass_card, Depth, Source};
 use reference::wire::{demanded, deviation, Course, Frame};
 use reference::Class;
 
@@ -161,6 +161,43 @@ fn sound_and_picture() {
     }
 }
 
+/// Four links of 188 cells in 1,024 slots, each with a line that sends evenly.
+#[test]
+fn the_card_of_a_link() {
+    let [slots, limit] = [1_024, 188];
+    let [held, waiting] = [limit, 0].map(|m| sharp_cells(10, slots - 1, m));
+    let parts = slots - 1 + 2 * deviation(10) as u64 + limit;
+    let lines: Vec<&str> = TEXT.lines().collect();
+    let text = lines.join(" ");
+    for sentence in [
+        format!(
+            "need (1,023 + 7,054 + {limit})/1,024 = {:.2}",
+            parts as f64 / slots as f64
+        ),
+        format!("so **{held} cells** each; after a slot at most {waiting} wait"),
+        format!("{} cells are fewer than the 1,024", 4 * limit),
+    ] {
+        assert!(text.contains(&sentence), "missing: {sentence}");
+    }
+}
+
+/// A frame of 16 slots with eight cells of one flow in its first eight.
+fn bunched() -> Frame {
+    Frame {
+        ports: 1,
+        slots: 16,
+        list: vec![1, 1, 8, 1],
+        entries: [[1; 8], [0; 8]].concat(),
+    }
+}
+
+#[test]
+fn a_bunched_frame_stands_too_deep_at_the_card() {
+    let course = Course::of(&[bunched()], Class::Flow { number: 1 });
+    let depth = pass_card(&course, 8, 0);
+    assert!(depth.after > 0 && depth.before > 0, "{depth:?}");
+}
+
 /// The depth of a flow's queue on a chain, fed as fast as it may be.
 fn depth_on(chain: &[Frame], class: Class, source: Source) -> Depth {
     let course = Course::of(chain, class);
@@ -188,15 +225,8 @@ fn seam() {
 
 #[test]
 fn a_bunched_frame_stands_too_deep() {
-    let entries = [[1; 8], [0; 8]].concat();
-    let frame = Frame {
-        ports: 1,
-        slots: 16,
-        list: vec![1, 1, 8, 1],
-        entries,
-    };
     let class = Class::Input { port: 1 };
-    let depth = depth_on(&[frame], class, Source { from: 8, ahead: 16 });
+    let depth = depth_on(&[bunched()], class, Source { from: 8, ahead: 16 });
     assert!(depth.after > 0 && depth.before > 0, "{depth:?}");
 }
 

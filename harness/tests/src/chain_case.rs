@@ -9,7 +9,7 @@ use reference::wire::{Course, Frame, Whose};
 
 use crate::build_case::{build_and_compare, has_several_links, lend, over_links, wire_frame};
 use crate::hits::{Hits, CHAIN_CHANGED, CHAIN_OVER_LINKS};
-use crate::queue_case::check_queue;
+use crate::queue_case::{check_card, check_queue};
 use crate::share_case::{
     check_share, class_of, every_class, every_link, expect_chain, expect_share, random_whose,
 };
@@ -114,14 +114,17 @@ fn call_on_chain(
     over_links(call, random)
 }
 
-/// Holds every flow, input, output and link of a chain to the bounds on the run that strays furthest, and the first in its queue to
-/// the longest wait.
+/// Holds every flow, input, output and link of a chain to the bounds on the run that strays furthest, the first in its queue to the
+/// longest wait, and every link to what its card needs.
 fn check_every_class(chain: &[Frame], ports: u64, flows: usize, hits: &mut Hits) -> Verdict {
     let classes = every_class(ports, flows).map(Whose::Class);
     let mut all = classes.chain(every_link(ports));
     all.try_for_each(|whose| {
         let course = Course::of(chain, whose);
         expect_share(&course, whose, course.furthest_run())?;
+        if let Whose::Link { .. } = whose {
+            check_card(&course, whose)?;
+        }
         check_first_waits(&course, whose, hits)
     })
 }

@@ -1,7 +1,7 @@
 //! How deep the queue of a flow, of a port, of a link, or of all cells together, stands on a chain.
 
 use loads::Random;
-use reference::queue::{pass, Source};
+use reference::queue::{pass, pass_card, Source};
 use reference::wire::{deviation, Course, Run, Whose};
 
 use crate::hits::{Hits, QUEUE_REACHED_AFTER, QUEUE_REACHED_BEFORE};
@@ -32,6 +32,18 @@ pub fn check_queue(course: &Course, whose: Whose, random: &mut Random, hits: &mu
     }
     expect(depth.after <= 0 && depth.before <= 0, || {
         format!("the queue of {whose:?}, fed by {source:?}, stands too deep: {depth:?}")
+    })
+}
+
+/// Runs the buffer at the card of a link whose line takes as many cells a frame as the link has in any, and holds it to what its card needs.
+pub fn check_card(course: &Course, whose: Whose) -> Verdict {
+    let loads = course.given.iter().map(|slot| slot.load);
+    let most = loads.max().unwrap_or_default();
+    [0, course.slots - 1].into_iter().try_for_each(|phase| {
+        let depth = pass_card(course, most, phase);
+        expect(depth.after <= 0 && depth.before <= 0, || {
+            format!("at the card of {whose:?}, whose line takes {most} from {phase} on, too many wait: {depth:?}")
+        })
     })
 }
 
