@@ -7,12 +7,12 @@ use native.Mathlib.Omega.{arith}
 use lib.ListN.{length, getD}
 use Rattle.model.specs.Words.{Every}
 use Rattle.model.specs.Flows.{link, load}
-use Rattle.model.specs.Wire.{Carried, none, chain, cellsAt, share, Shape, deviation}
+use Rattle.model.specs.Wire.{Carried, none, chain, cellsAt, Shape, deviation}
 use Rattle.model.specs.Queue.{waiting, arrived, Paced}
 use Rattle.model.specs.Row.{sent}
-use Rattle.model.specs.Line.{Takes, HeldAtLink, LinkBuffers}
+use Rattle.model.specs.Line.{Takes, LinkBuffers}
 use Rattle.model.proofs.Demand3.{Allowed, chain-allowed}
-use Rattle.model.proofs.Queues.{Since, since, arrived-more, share-most}
+use Rattle.model.proofs.Queues.{since, arrived-more, share-most}
 use Rattle.model.proofs.Rows.{sends}
 
 -- ---- a queue that is filled ahead of m cells a frame by at most a, and emptied behind it by at most b

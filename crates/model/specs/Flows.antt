@@ -23,14 +23,16 @@ pub data Side : Type 0 where
   inputs : Side
   links : Side
 
+-- The output that drives a link.
 abbrev pub outputOf : ℕ → ℕ
 outputOf x = x / 4
 
--- The place of a flow's port on each side; and the flow's input, and its link by output and link.
+-- Where a flow's port on each side stands among its numbers: its input, its output.
 abbrev pub placeOf : Side → ℕ
 placeOf inputs = 0
 placeOf links = 1
 
+-- A flow's input, and its link; the list numbers ports from 1, and links from 1 at each output.
 unfoldable pub portOf : List ℕ → Side → ℕ → ℕ
 portOf list inputs f = numberOf (placeOf inputs) list f - 1
 portOf list links f = (numberOf (placeOf links) list f - 1) * 4 + (numberOf 3 list f - 1)

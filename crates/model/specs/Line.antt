@@ -1,10 +1,9 @@
 -- The line of a link, slower than the switch, and how deep the buffer at its card has to be.
 use Prim.Native.Nat.{ℕ, suc, _+_, _*_, _^_, _≤_, _<_}
-use mathlib.Core.List.{List}
 use lib.ListN.{length, getD}
 use Rattle.model.specs.Words.{Every}
 use Rattle.model.specs.Flows.{link}
-use Rattle.model.specs.Wire.{Carried, cellsAt, EveryChain, deviation}
+use Rattle.model.specs.Wire.{cellsAt, EveryChain, deviation}
 use Rattle.model.specs.Queue.{waiting, arrived}
 use Rattle.model.specs.Row.{sent}
 

@@ -22,7 +22,7 @@ pub data Partners : List ℕ → ℕ → ℕ → Type 0 where
   these : {p q : ℕ} {l : List ℕ} → Partners (p ∷ q ∷ l) p q
   later : {x y p q : ℕ} {l : List ℕ} → Partners l p q → Partners (x ∷ y ∷ l) p q
 
--- That one.
+-- The last one, where it stays single.
 abbrev pub single : List ℕ → List ℕ
 single [] = []
 single (p ∷ []) = p ∷ []

@@ -1,5 +1,5 @@
 -- One more single one of an output: it is the partner of the one that waits there, or waits itself; and so the partners at all outputs.
-use Prim.Native.Nat.{ℕ, suc, zero, _+_, _*_, _%_, _≤_, _<_}
+use Prim.Native.Nat.{ℕ, suc, zero, _+_, _*_, _≤_, _<_}
 use mathlib.Core.Path.{_≡_, refl, sym, ap, ap₂, _∙_, subst}
 use mathlib.Core.Logic.{_≢_, _⊎_, inl, inr, ⊎-elim}
 use mathlib.Core.List.{List, [], _∷_, _++_, append-nil, append-assoc}
@@ -17,7 +17,7 @@ use Rattle.model.proofs.Cases.{byBool, byEq, byLt}
 use Rattle.model.proofs.Kept.{keep-keep}
 use Rattle.model.proofs.Partners.{every-map, in-none, Apart, odd-lt}
 use Rattle.model.proofs.Singles.{every-both, Single, singles-every, singles-apart, output-linked, output-single, one-link}
-use Rattle.split.specs.Steps.{lookup, Shared, Mates, portIn, thoseAt, mateAmong, Waits, Waiting, Held, Linked, heldAt, heldFrom, LinkedBoth, Joins, OddsOf, LinkedOut}
+use Rattle.split.specs.Steps.{lookup, Shared, Mates, portIn, thoseAt, Waits, Waiting, Held, Linked, heldAt, heldFrom, LinkedBoth, Joins, OddsOf, LinkedOut}
 use Rattle.split.proofs.Lists.{every-snoc, every-kept}
 use Rattle.split.proofs.Linked.{Mated, even-in, odd-in, odd-held, odd-new, single-has, set-low, choice-low, waits-next}
 
