@@ -1,21 +1,25 @@
 -- The input and the link of one more flow in the tables, and what the tables of a list have.
 use Prim.Native.Nat.{ℕ, _+_, _-_, _%_, _≤_, _<_}
-use mathlib.Core.Path.{_≡_, sym, _∙_}
-use mathlib.Core.Logic.{_≢_}
+use mathlib.Core.Path.{_≡_, refl, sym, _∙_}
 use mathlib.Core.List.{List}
 use native.Mathlib.Omega.{arith}
+use lib.Dec.{eqb}
 use lib.ListN.{set, length, length-set}
 use lib.Seq.{getD-set-same, getD-set-other}
-use borrow.Author.Tests.{eq-eqb, ne-eqb}
+use borrow.Author.Tests.{ne-eqb}
+use Rattle.model.specs.Words.{if}
 use Rattle.model.specs.Flows.{Side, inputs, links, flows, outputOf, numberOf, portOf}
 use Rattle.model.proofs.Cases.{byEq, Within}
 use Rattle.model.proofs.Reports.{Ported, Linked}
 use Rattle.admission.specs.Lists.{Taken}
-use Rattle.split.specs.Steps.{Wide, lookup, tabled, Sides, Shared}
-use Rattle.schedule.specs.Steps.{Tables, sharedTo, Tabled}
+use Rattle.planes.specs.Digits.{digit}
+use Rattle.planes.specs.Steps.{PutAt}
+use Rattle.planes.proofs.Digits.{digit-none, if-same, if-other}
+use Rattle.split.specs.Steps.{Wide, lookup, tabled, Sides, Outputs, Shared}
+use Rattle.schedule.specs.Steps.{Tables, Tabled}
 
 -- ---- one more flow
-pub record Tabling (list : List ℕ) (n f outputs : ℕ) (ins outs : List ℕ) : Type 0 where
+pub record Tabling (list : List ℕ) (n f shared : ℕ) (ins outs : List ℕ) : Type 0 where
   pub all : n ≡ flows list
   pub few : flows list ≤ 512
   pub ported : Ported 16 list
@@ -24,7 +28,7 @@ pub record Tabling (list : List ℕ) (n f outputs : ℕ) (ins outs : List ℕ) :
   pub in-len : Wide ins
   pub out-len : Wide outs
   pub has : (s : Side) (q : ℕ) → q < f → tabled ins outs s q ≡ portOf list s q
-  pub shared : Shared f outputs outs
+  pub outputs : Shared f shared outs
 
 pub tabling-start : {list ins outs : List ℕ} {n : ℕ} → n ≡ flows list → Taken 16 list → Wide ins → Wide outs → Tabling list n 0 0 ins outs
 tabling-start e t a b =
@@ -37,37 +41,37 @@ tabling-start e t a b =
       in-len = a;
       out-len = b;
       has = λ s q h. absurd (omega arith);
-      shared = record { most = omega arith; low = λ p h. absurd (omega arith); others = λ p h. absurd (omega arith) };
+      outputs = record { few = λ o a. absurd (omega (arith, digit-none o)); low = λ p h. absurd (omega arith); others = λ p h. absurd (omega arith) };
     }
 
 one-more : (f : ℕ → ℕ) (l : List ℕ) (p x : ℕ) → p < length l → x ≡ f p → ((q : ℕ) → q < p → lookup l q ≡ f q) → (q : ℕ) → q < p + 1
     → lookup (set l p x) q ≡ f q
 one-more f l p x h e g q k = byEq q p (λ d. rw d (getD-set-same l p x 0 h ∙ e)) (λ d. getD-set-other l p q x 0 d ∙ g q (omega arith))
 
--- as far as some output, and as far as that of one link more
-shared-more : (n outputs x : ℕ) (outs : List ℕ) → n < length outs → x < 64 → Shared n outputs outs → Shared (n + 1) (sharedTo outputs x) (set outs n x)
-shared-more n outputs x outs h low s = record { most = most; low = each; others = others }
+-- the digit of the output of one link more, unless it is the first
+shared-more : (n shared x d r : ℕ) (outs : List ℕ) → n < length outs → x < 64 → d ≡ if (eqb (x % 4) 0) 0 1 → PutAt shared (outputOf x) d r → Shared n shared outs
+    → Shared (n + 1) r (set outs n x)
+shared-more n shared x d r outs h low ed u s = record { few = few; low = each; others = others }
   where
-    most : sharedTo outputs x ≤ 16
-    most = byEq (x % 4) 0 (λ e. rw (eq-eqb (x % 4) 0 e) (s .most)) (λ e. rw (ne-eqb (x % 4) 0 e) (omega (arith, s .most)))
-
-    up : outputs ≤ sharedTo outputs x
-    up = byEq (x % 4) 0 (λ e. rw (eq-eqb (x % 4) 0 e) (omega arith)) (λ e. rw (ne-eqb (x % 4) 0 e) (omega arith))
+    few : Outputs r
+    few o a = byEq o (outputOf x) (λ e. omega arith) (λ e. s .few o (omega (arith, u .put o, if-other o (outputOf x) d e)))
 
     each : (p : ℕ) → p < n + 1 → lookup (set outs n x) p < 64
     each p k =
-        byEq p n (λ d. rw d (omega (arith, getD-set-same outs n x 0 h)))
-        (λ d. omega (arith, getD-set-other outs n p x 0 d, s .low p (omega arith)))
+        byEq p n (λ e. rw e (omega (arith, getD-set-same outs n x 0 h)))
+        (λ e. omega (arith, getD-set-other outs n p x 0 e, s .low p (omega arith)))
 
-    others : (p : ℕ) → p < n + 1 → sharedTo outputs x ≤ outputOf (lookup (set outs n x) p) → lookup (set outs n x) p % 4 ≡ 0
+    others : (p : ℕ) → p < n + 1 → digit r (outputOf (lookup (set outs n x) p)) ≡ 0 → lookup (set outs n x) p % 4 ≡ 0
     others p k =
-        byEq p n (λ d. rw (d, getD-set-same outs n x 0 h) own)
-        (λ d. rw (getD-set-other outs n p x 0 d) (λ l. s .others p (omega arith) (omega (arith, up))))
+        byEq p n (λ e. rw (e, getD-set-same outs n x 0 h) own)
+        (λ e. rw (getD-set-other outs n p x 0 e) (λ l. s .others p (omega arith) (omega (arith, u .put (outputOf (lookup outs p))))))
       where
-        own : sharedTo outputs x ≤ outputOf x → x % 4 ≡ 0
-        own l = byEq (x % 4) 0 (λ e. e) (λ e. let m = rw (ne-eqb (x % 4) 0 e) at l in absurd (omega arith))
+        own : digit r (outputOf x) ≡ 0 → x % 4 ≡ 0
+        own l =
+            byEq (x % 4) 0 (λ e. e)
+            (λ e. let one : d ≡ 1 = rw (ne-eqb (x % 4) 0 e) at ed in absurd (omega (arith, u .put (outputOf x), if-same (outputOf x) (outputOf x) d refl)))
 
-module _ {list ins outs : List ℕ} {n f outputs : ℕ} (t : Tabling list n f outputs ins outs) (h : f < n) where
+module _ {list ins outs : List ℕ} {n f shared : ℕ} (t : Tabling list n f shared ins outs) (h : f < n) where
   pub tabling-in : f < flows list
   tabling-in = omega (arith, t .all)
 
@@ -84,10 +88,10 @@ module _ {list ins outs : List ℕ} {n f outputs : ℕ} (t : Tabling list n f ou
   pub link-in : Within 1 4 (numberOf 3 list f)
   link-in = t .linked f tabling-in
 
-  pub tabling-on : {x y r : ℕ} → x ≡ numberOf 0 list f → y ≡ portOf list links f → y < 64 → r ≡ sharedTo outputs y
+  pub tabling-on : {x y d r : ℕ} → x ≡ numberOf 0 list f → y ≡ portOf list links f → y < 64 → d ≡ if (eqb (y % 4) 0) 0 1 → PutAt shared (outputOf y) d r
       → Tabling list n (f + 1) r (set ins f (x - 1)) (set outs f y)
   unfolding portOf
-  tabling-on {x} {y} ex ey low er =
+  tabling-on {x} {y} {d} {r} ex ey low ed put =
       record {
         all = t .all;
         few = t .few;
@@ -97,22 +101,22 @@ module _ {list ins outs : List ℕ} {n f outputs : ℕ} (t : Tabling list n f ou
         in-len = length-set ins f (x - 1) ∙ t .in-len;
         out-len = length-set outs f y ∙ t .out-len;
         has = has;
-        shared = rw er (shared-more f outputs y outs (omega (arith, t .out-len, tabling-low)) low (t .shared));
+        outputs = shared-more f shared y d r outs (omega (arith, t .out-len, tabling-low)) low ed put (t .outputs);
       }
     where
       has : (s : Side) (q : ℕ) → q < f + 1 → tabled (set ins f (x - 1)) (set outs f y) s q ≡ portOf list s q
       has inputs = one-more (portOf list inputs) ins f (x - 1) (omega (arith, t .in-len, tabling-low)) (omega arith) (t .has inputs)
       has links = one-more (portOf list links) outs f y (omega (arith, t .out-len, tabling-low)) ey (t .has links)
 
-module _ {list ins outs : List ℕ} {n f outputs : ℕ} (t : Tabling list n f outputs ins outs) (h : n ≤ f) where
+module _ {list ins outs : List ℕ} {n f shared : ℕ} (t : Tabling list n f shared ins outs) (h : n ≤ f) where
   all-tabled : f ≡ flows list
   all-tabled = omega (arith, t .all, t .most)
 
   pub tabling-end : Tabled list ins outs
   tabling-end = record { has = λ s q k. t .has s q (omega (arith, all-tabled)) }
 
-  pub shared-end : Shared (flows list) outputs outs
-  shared-end = rw (sym all-tabled) (t .shared)
+  pub shared-end : Shared (flows list) shared outs
+  shared-end = rw (sym all-tabled) (t .outputs)
 
 -- ---- the tables of a list
 module _ {ports : ℕ} {list ins outs : List ℕ} (t : Taken ports list) (h : Tabled list ins outs) where
@@ -120,7 +124,7 @@ module _ {ports : ℕ} {list ins outs : List ℕ} (t : Taken ports list) (h : Ta
   unfolding portOf
   low f l = let p = t .ported inputs f l in omega (arith, h .has inputs f l)
 
-  pub tables-of : {n outputs : ℕ} → Shared (flows list) outputs outs → n ≡ flows list → Tables ports n outputs ins outs
+  pub tables-of : {n shared : ℕ} → Shared (flows list) shared outs → n ≡ flows list → Tables ports n shared ins outs
   tables-of s e =
       record {
         few = t .most;
@@ -138,20 +142,9 @@ taken-most t =
       linked = t .linked;
     }
 
-pub sides-of : {ports n outputs : ℕ} {ins outs : List ℕ} → Tables ports n outputs ins outs → Sides n ins outs
-sides-of {ports} {n} {outputs} {ins} {outs} t = record { most = t .at-inputs .most; low = low64 }
+pub sides-of : {ports n shared : ℕ} {ins outs : List ℕ} → Tables ports n shared ins outs → Sides n ins outs
+sides-of {ports} {n} {shared} {ins} {outs} t = record { most = t .at-inputs .most; low = low64 }
   where
     low64 : (s : Side) (p : ℕ) → p < n → tabled ins outs s p < 64
     low64 inputs p h = omega (arith, t .at-inputs .low p h, t .few)
     low64 links p h = t .at-outputs .low p h
-
--- ---- one link more
-module _ (outputs x : ℕ) where
-  pub first-shared : x % 4 ≡ 0 → outputs ≡ sharedTo outputs x
-  first-shared e = rw (eq-eqb (x % 4) 0 e)
-
-  pub still-shared : x % 4 ≢ 0 → outputOf x < outputs → outputs ≡ sharedTo outputs x
-  still-shared e h = rw (ne-eqb (x % 4) 0 e) (omega arith)
-
-  pub next-shared : x % 4 ≢ 0 → outputs ≤ outputOf x → outputOf x + 1 ≡ sharedTo outputs x
-  next-shared e h = rw (ne-eqb (x % 4) 0 e) (omega arith)

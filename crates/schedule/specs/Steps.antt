@@ -1,11 +1,10 @@
 -- The steps of a frame, as functions of the lists that they are lent.
-use Prim.Native.Nat.{ℕ, suc, _*_, _%_, _≤_, _<_, max}
+use Prim.Native.Nat.{ℕ, _*_, _≤_, _<_}
 use mathlib.Core.Path.{_≡_}
 use mathlib.Core.List.{List, _++_}
-use lib.Dec.{eqb}
 use lib.ListN.{length}
-use Rattle.model.specs.Words.{if, Every}
-use Rattle.model.specs.Flows.{Side, flows, outputOf, portOf, countsOf, Fits}
+use Rattle.model.specs.Words.{Every}
+use Rattle.model.specs.Flows.{Side, flows, portOf, countsOf, Fits}
 use Rattle.model.specs.Schedule.{put, slotOf}
 use Rattle.model.proofs.Demand2.{WellFormed}
 use Rattle.planes.specs.Planes.{halves}
@@ -25,14 +24,10 @@ pub record Table (ports n : ℕ) (table : List ℕ) : Type 0 where
   pub most : n ≤ 528
   pub low : (p : ℕ) → p < n → lookup table p < ports
 
-pub record Tables (ports n outputs : ℕ) (ins outs : List ℕ) : Type 0 where
+pub record Tables (ports n shared : ℕ) (ins outs : List ℕ) : Type 0 where
   pub few : ports ≤ 16
   pub at-inputs : Table ports n ins
-  pub at-outputs : Shared n outputs outs
-
--- The outputs up to the last that has more than its first link, where those so far go to some output, and one more link is x.
-abbrev pub sharedTo : ℕ → ℕ → ℕ
-sharedTo outputs x = if (eqb (x % 4) 0) outputs (max outputs (suc (outputOf x)))
+  pub at-outputs : Shared n shared outs
 
 -- Two tables have the input and the link of every flow of a list.
 pub record Tabled (list ins outs : List ℕ) : Type 0 where

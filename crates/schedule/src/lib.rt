@@ -35,14 +35,14 @@ fn block(
     ports: usize,
     ins: &[u8; 528],
     outs: &[u8; 528],
-    outputs: usize,
+    shared: u64,
     odds: &mut [u16; 528],
     in_mates: &mut [u16; 528],
     out_mates: &mut [u16; 528],
     group: &mut [u16; 528],
     frame: &mut [u16],
 ) -> usize
-    requires { ⌜ (1 ≤ m) × (m ≤ 10) × Tables ports n outputs (now ins) (now outs) × Block m n (now planes)
+    requires { ⌜ (1 ≤ m) × (m ≤ 10) × Tables ports n shared (now ins) (now outs) × Block m n (now planes)
         × Scratch (now odds) (now «in_mates») (now «out_mates») (now group) × (length (now frame) ≡ 2 ^ m * ports) ⌝ }
     ensures { λ r. ⌜ (r ≡ settled m (counts (suc m) (now (planes .entry)) n))
         × (now (frame .exit) ≡ frameOf ports (tabled (now (ins .entry)) (now (outs .entry))) m (counts (suc m) (now (planes .entry)) n))
@@ -54,7 +54,7 @@ fn block(
         n,
         ins,
         outs,
-        outputs,
+        shared,
         odds,
         in_mates,
         out_mates,
@@ -75,7 +75,7 @@ fn block(
             ports,
             ins,
             outs,
-            outputs,
+            shared,
             odds,
             in_mates,
             out_mates,
@@ -91,7 +91,7 @@ fn block(
             ports,
             ins,
             outs,
-            outputs,
+            shared,
             odds,
             in_mates,
             out_mates,
@@ -114,7 +114,7 @@ fn fill(ports: usize, slots: usize, list: &[u16], frame: &mut [u16]) -> usize
     let mut ins = [0u8; 528];
     let mut outs = [0u8; 528];
     load(list, m + 1, &mut planes);
-    let outputs = positions::tabulate(list, &mut ins, &mut outs);
+    let shared = positions::tabulate(list, &mut ins, &mut outs);
     if m == 0 {
         slots::write(&planes, n, ports, &ins, frame);
         return 0;
@@ -130,7 +130,7 @@ fn fill(ports: usize, slots: usize, list: &[u16], frame: &mut [u16]) -> usize
         ports,
         &ins,
         &outs,
-        outputs,
+        shared,
         &mut odds,
         &mut in_mates,
         &mut out_mates,

@@ -57,8 +57,8 @@ either f m n planes ins outs p h e =
       off = λ d. e ∙ law .evens p (sym o ∙ ap (λ (x : ℕ). eqb x 1) d);
     }
 
-module _ {n k outputs : ℕ} {planes ins outs odds i o c mask : List ℕ} (s : Sides n ins outs) (sh : Shared n outputs outs) (g : Gathered n planes odds k)
-    (li : Linked ins odds k i) (lo : LinkedOut outputs outs odds k o) (st : SettledBy i o odds k (replicate 528 0) c) (mk : Marked n planes c mask) where
+module _ {n k shared : ℕ} {planes ins outs odds i o c mask : List ℕ} (s : Sides n ins outs) (sh : Shared n shared outs) (g : Gathered n planes odds k)
+    (li : Linked ins odds k i) (lo : LinkedOut shared outs odds k o) (st : SettledBy i o odds k (replicate 528 0) c) (mk : Marked n planes c mask) where
   favoured-at : (m p : ℕ) → p < n → getD c p 0 ≡ getD (favours (tabled ins outs) (counts (suc m) planes n)) p 0
   favoured-at m p h =
       sym (getD-take n c p 0 h)

@@ -1,5 +1,5 @@
 -- One more single one of an output: it is the partner of the one that waits there, or waits itself; and so the partners at all outputs.
-use Prim.Native.Nat.{ℕ, suc, zero, _+_, _*_, _≤_, _<_}
+use Prim.Native.Nat.{ℕ, suc, zero, _+_, _*_, _%_, _^_, _≤_, _<_}
 use mathlib.Core.Path.{_≡_, refl, sym, ap, ap₂, _∙_, subst}
 use mathlib.Core.Logic.{_≢_, _⊎_, inl, inr, ⊎-elim}
 use mathlib.Core.List.{List, [], _∷_, _++_, append-nil, append-assoc}
@@ -7,17 +7,21 @@ use mathlib.Core.Bool.{Bool, true, false, not}
 use native.Mathlib.Omega.{arith}
 use native.Mathlib.Numerals.{add-one}
 use lib.Dec.{eqb}
+use lib.Count.{trailingZeros}
 use lib.ListN.{length, getD, set, take, length-set}
 use lib.Seq.{getD-set-same, getD-set-other}
 use Rattle.model.specs.Words.{if, upFrom, keep, Every}
 use Rattle.model.specs.Flows.{outputOf}
 use Rattle.model.specs.Rules.{odd, oddsAt, single, singlesOf}
 use Rattle.model.specs.Schedule.{partnerIn, partner, outputPartner}
-use Rattle.model.proofs.Cases.{byBool, byEq, byLt}
+use Rattle.model.proofs.Cases.{byBool, byEq}
 use Rattle.model.proofs.Kept.{keep-keep}
 use Rattle.model.proofs.Partners.{every-map, in-none, Apart, odd-lt}
 use Rattle.model.proofs.Singles.{every-both, Single, singles-every, singles-apart, output-linked, output-single, one-link}
-use Rattle.split.specs.Steps.{lookup, Shared, Mates, portIn, thoseAt, Waits, Waiting, Held, Linked, heldAt, heldFrom, LinkedBoth, Joins, OddsOf, LinkedOut}
+use Rattle.planes.specs.Digits.{digit}
+use Rattle.planes.proofs.Digits.{digit-most, digit-none, if-same, if-other}
+use Rattle.planes.proofs.Lowest.{rest, next-zeros, next-digit, next-fits}
+use Rattle.split.specs.Steps.{lookup, Outputs, Shared, Mates, portIn, thoseAt, Waits, Waiting, Held, Linked, heldAt, heldFrom, LinkedBoth, Joins, OddsOf, LinkedOut}
 use Rattle.split.proofs.Lists.{every-snoc, every-kept}
 use Rattle.split.proofs.Linked.{Mated, even-in, odd-in, odd-held, odd-new, single-has, set-low, choice-low, waits-next}
 
@@ -178,14 +182,25 @@ module _ (table odds held : List ℕ) (k : ℕ) (waits : List Bool) (h : Held ta
 abbrev singlesAt : List ℕ → List ℕ → ℕ → List ℕ
 singlesAt table m o = singlesOf (portIn table) m (o * 4) 4
 
--- those of the first outputs have been linked
-pub record Outputs (table odds : List ℕ) (k o : ℕ) (before mates : List ℕ) : Type 0 where
+-- those of the outputs of a word have been linked, but for those that are left
+pub record Linking (table odds : List ℕ) (k shared left : ℕ) (before mates : List ℕ) : Type 0 where
   pub mates-low : Mates mates
-  pub linked : (m : List ℕ) → OddsOf odds k m → (x : ℕ) → x < o → Every (λ r. lookup mates r ≡ partnerIn (singlesAt table m x) r) (singlesAt table m x)
-  pub kept : (m : List ℕ) → OddsOf odds k m → (r : ℕ) → ((x : ℕ) → x < o → Every (λ p. p ≢ r) (singlesAt table m x)) → lookup mates r ≡ lookup before r
+  pub fits : left < 2 ^ 64
+  pub within : (x : ℕ) → digit left x ≤ digit shared x
+  pub linked : (m : List ℕ) → OddsOf odds k m → (x : ℕ) → digit shared x ≡ 1 → digit left x ≡ 0
+      → Every (λ r. lookup mates r ≡ partnerIn (singlesAt table m x) r) (singlesAt table m x)
+  pub kept : (m : List ℕ) → OddsOf odds k m → (r : ℕ) → ((x : ℕ) → digit shared x ≡ 1 → Every (λ p. p ≢ r) (singlesAt table m x))
+      → lookup mates r ≡ lookup before r
 
-pub outputs-start : {table odds : List ℕ} {k : ℕ} {mates : List ℕ} → Mates mates → Outputs table odds k 0 mates mates
-outputs-start m = record { mates-low = m; linked = λ m e x h. absurd (omega arith); kept = λ m e r al. refl }
+pub linking-start : {table odds : List ℕ} {k shared : ℕ} {mates : List ℕ} → shared < 2 ^ 64 → Mates mates → Linking table odds k shared shared mates mates
+linking-start f l =
+    record {
+      mates-low = l;
+      fits = f;
+      within = λ x. omega arith;
+      linked = λ m e x a b. absurd (omega arith);
+      kept = λ m e r al. refl;
+    }
 
 -- a count of another output is none of them
 elsewhere : (table m : List ℕ) (x r : ℕ) → outputOf (portIn table r) ≢ x → Every (λ p. p ≢ r) (singlesAt table m x)
@@ -193,32 +208,48 @@ elsewhere table m x r n =
     every-map (Single (portIn table) m (x * 4) 4) (λ p. p ≢ r)
     (λ p s d. let at = ap (portIn table) d in absurd (n (omega (arith, s .low, s .high)))) (singlesAt table m x) (singles-every (portIn table) m (x * 4) 4)
 
-pub outputs-on : {table odds : List ℕ} {k o outputs : ℕ} {before mates held : List ℕ} {waits : List Bool} {new : List ℕ}
-    → Outputs table odds k o before mates → Held table odds k held waits → o < outputs → outputs ≤ 16 → Joins (heldFrom held waits (o * 4) 4) mates new
-    → Outputs table odds k (o + 1) before new
-outputs-on {table} {odds} {k} {o} {outputs} {before} {mates} {held} {waits} {new} s h low most j =
-    record { mates-low = j .mates-low; linked = linked; kept = kept }
-  where
-    joins : (m : List ℕ) → OddsOf odds k m → Joins (singlesAt table m o) mates new
-    joins m e = rw (sym (held-singles table odds held k waits h m e (o * 4) 4 (omega arith))) j
+module _ {table odds : List ℕ} {k shared left : ℕ} {before mates : List ℕ} (s : Linking table odds k shared left before mates) (some : left ≢ 0) where
+  abbrev next : ℕ
+  next = trailingZeros 64 left
 
-    linked : (m : List ℕ) → OddsOf odds k m → (x : ℕ) → x < o + 1 → Every (λ r. lookup new r ≡ partnerIn (singlesAt table m x) r) (singlesAt table m x)
-    linked m e x l =
-        let apart = singles-apart (portIn table) m (o * 4) 4 in
-        byEq x o (λ d. rw d (joins m e .mated apart))
-        (λ n. every-both (Single (portIn table) m (x * 4) 4) (λ r. lookup mates r ≡ partnerIn (singlesAt table m x) r) (λ r. lookup new r ≡ partnerIn (singlesAt table m x) r)
-        (λ r a b. joins m e .kept apart r (elsewhere table m o r (omega (arith, a .low, a .high))) ∙ b)
-        (singlesAt table m x) (singles-every (portIn table) m (x * 4) 4) (s .linked m e x (omega arith)))
+  next-shared : digit shared next ≡ 1
+  next-shared = omega (arith, next-digit (s .fits) some next, if-same next next 1 refl, s .within next, digit-most shared next)
 
-    kept : (m : List ℕ) → OddsOf odds k m → (r : ℕ) → ((x : ℕ) → x < o + 1 → Every (λ p. p ≢ r) (singlesAt table m x)) → lookup new r ≡ lookup before r
-    kept m e r al = joins m e .kept (singles-apart (portIn table) m (o * 4) 4) r (al o (omega arith)) ∙ s .kept m e r (λ x l. al x (omega arith))
+  pub linking-zeros : next < 64
+  linking-zeros = next-zeros (s .fits) some
+
+  pub linking-low : Outputs shared → next < 16
+  linking-low few = few next next-shared
+
+  pub linking-on : {held : List ℕ} {waits : List Bool} {new : List ℕ} → Held table odds k held waits → Outputs shared → Joins (heldFrom held waits (next * 4) 4) mates new
+      → Linking table odds k shared (rest left) before new
+  linking-on {held} {waits} {new} h few j =
+      record {
+        mates-low = j .mates-low;
+        fits = next-fits (s .fits) some;
+        within = λ x. omega (arith, next-digit (s .fits) some x, s .within x);
+        linked = linked;
+        kept = λ m e r al. joins m e .kept (singles-apart (portIn table) m (next * 4) 4) r (al next next-shared) ∙ s .kept m e r al;
+      }
+    where
+      joins : (m : List ℕ) → OddsOf odds k m → Joins (singlesAt table m next) mates new
+      joins m e = rw (sym (held-singles table odds held k waits h m e (next * 4) 4 (omega (arith, linking-low few)))) j
+
+      linked : (m : List ℕ) → OddsOf odds k m → (x : ℕ) → digit shared x ≡ 1 → digit (rest left) x ≡ 0
+          → Every (λ r. lookup new r ≡ partnerIn (singlesAt table m x) r) (singlesAt table m x)
+      linked m e x a b =
+          let apart = singles-apart (portIn table) m (next * 4) 4 in
+          byEq x next (λ d. rw d (joins m e .mated apart))
+          (λ n. every-both (Single (portIn table) m (x * 4) 4) (λ r. lookup mates r ≡ partnerIn (singlesAt table m x) r) (λ r. lookup new r ≡ partnerIn (singlesAt table m x) r)
+          (λ r c d. joins m e .kept apart r (elsewhere table m next r (omega (arith, c .low, c .high))) ∙ d)
+          (singlesAt table m x) (singles-every (portIn table) m (x * 4) 4) (s .linked m e x a (omega (arith, next-digit (s .fits) some x, if-other x next 1 n))))
 
 -- a number is one of a list of which P holds, or none of it
 every-or : (P : ℕ → Type 0) (l : List ℕ) (r : ℕ) → Every P l → P r ⊎ Every (λ p. p ≢ r) l
 every-or P [] r al = inr tt
 every-or P (x ∷ l) r al = byEq x r (λ e. inl (subst P e (al .0))) (λ n. ⊎-elim (λ a. inl a) (λ a. inr (n, a)) (every-or P l r (al .1)))
 
-module _ (table odds : List ℕ) (k outputs : ℕ) (before mates : List ℕ) (s : Outputs table odds k outputs before mates) (li : Linked table odds k before)
+module _ (table odds : List ℕ) (k shared : ℕ) (before mates : List ℕ) (s : Linking table odds k shared 0 before mates) (li : Linked table odds k before)
     (m : List ℕ) (e : OddsOf odds k m) (p : ℕ) (od : odd m p ≡ true) where
   abbrev own : ℕ
   own = outputOf (portIn table p)
@@ -231,17 +262,17 @@ module _ (table odds : List ℕ) (k outputs : ℕ) (before mates : List ℕ) (s 
       ∙ ap (λ (l : List ℕ). partnerIn l p) (those-are table m (portIn table p))
 
   -- one that is no single one of an output that was looked at has kept it
-  at-kept : ((x : ℕ) → x < outputs → Every (λ q. q ≢ p) (singlesAt table m x)) → lookup mates p ≡ partner (portIn table) m p
+  at-kept : ((x : ℕ) → digit shared x ≡ 1 → Every (λ q. q ≢ p) (singlesAt table m x)) → lookup mates p ≡ partner (portIn table) m p
   at-kept al = s .kept m e p al ∙ at-link
 
   -- of an output that was looked at: it is one of its single ones, or none
-  looked : own < outputs → lookup mates p ≡ outputPartner (portIn table) m p
+  looked : digit shared own ≡ 1 → lookup mates p ≡ outputPartner (portIn table) m p
   looked h =
       ⊎-elim (λ a. a .0 ∙ sym (output-single (portIn table) m p (a .1))) none
       (every-or (λ r. (lookup mates r ≡ partnerIn (singlesAt table m own) r) × (partner (portIn table) m r ≡ r)) (singlesAt table m own) p
       (every-both (Single (portIn table) m (own * 4) 4) (λ r. lookup mates r ≡ partnerIn (singlesAt table m own) r)
       (λ r. (lookup mates r ≡ partnerIn (singlesAt table m own) r) × (partner (portIn table) m r ≡ r)) (λ r a b. (b, a .alone))
-      (singlesAt table m own) (singles-every (portIn table) m (own * 4) 4) (s .linked m e own h)))
+      (singlesAt table m own) (singles-every (portIn table) m (own * 4) 4) (s .linked m e own h (digit-none own))))
     where
       none : Every (λ q. q ≢ p) (singlesAt table m own) → lookup mates p ≡ outputPartner (portIn table) m p
       none al =
@@ -251,20 +282,27 @@ module _ (table odds : List ℕ) (k outputs : ℕ) (before mates : List ℕ) (s 
           (λ d. kept ∙ sym (output-linked (portIn table) m p d))
 
   -- of another, whose counts are all on its first link
-  others : Shared (length m) outputs table → outputs ≤ own → lookup mates p ≡ outputPartner (portIn table) m p
+  others : Shared (length m) shared table → digit shared own ≡ 0 → lookup mates p ≡ outputPartner (portIn table) m p
   others sh h =
-      at-kept (λ x l. elsewhere table m x p (omega arith))
-      ∙ sym (one-link (portIn table) m own (λ q l at. let low = sh .low q l in let first = sh .others q l (omega arith) in omega arith) p refl)
+      at-kept (λ x l. elsewhere table m x p (λ d. let same = ap (digit shared) d in absurd (omega arith)))
+      ∙ sym (one-link (portIn table) m own first p refl)
+    where
+      first : (q : ℕ) → q < length m → outputOf (portIn table q) ≡ own → portIn table q % 4 ≡ 0
+      first q l at =
+          let low = sh .low q l in
+          let is : lookup table q ≡ portIn table q = omega arith in
+          let none : digit shared (outputOf (lookup table q)) ≡ 0 = ap (λ (x : ℕ). digit shared (outputOf x)) is ∙ ap (digit shared) at ∙ h in
+          omega (arith, sh .others q l none)
 
-pub outputs-end : {table odds : List ℕ} {k o outputs : ℕ} {before mates : List ℕ}
-    → Outputs table odds k o before mates → Linked table odds k before → o ≤ outputs → outputs ≤ o → LinkedOut outputs table odds k mates
-outputs-end {table} {odds} {k} {o} {outputs} {before} {mates} s li low high =
-    let e : o ≡ outputs = omega arith in
-    let t = subst (λ (n : ℕ). Outputs table odds k n before mates) e s in
+pub linking-end : {table odds : List ℕ} {k shared left : ℕ} {before mates : List ℕ}
+    → Linking table odds k shared left before mates → Linked table odds k before → left ≡ 0 → LinkedOut shared table odds k mates
+linking-end {table} {odds} {k} {shared} {left} {before} {mates} s li e =
+    let t = subst (λ (n : ℕ). Linking table odds k shared n before mates) e s in
     record {
       mates-low = s .mates-low;
       same = λ m is sh p od.
-          byLt (outputOf (portIn table p)) outputs
-          (λ h. looked table odds k outputs before mates t li m is p od h)
-          (λ h. others table odds k outputs before mates t li m is p od sh h);
+          let own = outputOf (portIn table p) in
+          byEq (digit shared own) 1
+          (λ h. looked table odds k shared before mates t li m is p od h)
+          (λ h. others table odds k shared before mates t li m is p od sh (omega (arith, digit-most shared own)));
     }

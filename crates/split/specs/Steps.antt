@@ -11,6 +11,7 @@ use Rattle.model.specs.Flows.{Side, inputs, links, outputOf}
 use Rattle.model.specs.Rules.{odd, single}
 use Rattle.model.specs.Schedule.{partnerIn, outputPartner, walk, favouring, level, favours}
 use Rattle.model.proofs.Partners.{Rising, Apart}
+use Rattle.planes.specs.Digits.{digit}
 use Rattle.planes.specs.Planes.{digitAt, counts, Mask}
 
 -- ---- positions
@@ -32,11 +33,15 @@ pub record Sides (n : ℕ) (ins outs : List ℕ) : Type 0 where
   pub most : n ≤ 528
   pub low : (s : Side) (p : ℕ) → p < n → tabled ins outs s p < 64
 
--- From so many outputs on, each has positions on its first link alone.
-pub record Shared (n outputs : ℕ) (outs : List ℕ) : Type 0 where
-  pub most : outputs ≤ 16
+-- A word has a digit for each of 16 outputs, and none else.
+abbrev pub Outputs : ℕ → Type 0
+Outputs shared = (o : ℕ) → digit shared o ≡ 1 → o < 16
+
+-- An output without its digit in the word has positions on its first link alone.
+pub record Shared (n shared : ℕ) (outs : List ℕ) : Type 0 where
+  pub few : Outputs shared
   pub low : (p : ℕ) → p < n → lookup outs p < 64
-  pub others : (p : ℕ) → p < n → outputs ≤ outputOf (lookup outs p) → lookup outs p % 4 ≡ 0
+  pub others : (p : ℕ) → p < n → digit shared (outputOf (lookup outs p)) ≡ 0 → lookup outs p % 4 ≡ 0
 
 -- The first k of a list are positions; and they rise.
 pub record Positions (list : List ℕ) (k : ℕ) : Type 0 where
@@ -115,10 +120,10 @@ pub record Joins (l before mates : List ℕ) : Type 0 where
 abbrev pub OddsOf : List ℕ → ℕ → List ℕ → Type 0
 OddsOf odds k m = take k odds ≡ keep (odd m) (upFrom 0 (length m))
 
--- The mates have for each of them its partner at its output, where only the first outputs have positions on several links.
-pub record LinkedOut (outputs : ℕ) (table odds : List ℕ) (k : ℕ) (mates : List ℕ) : Type 0 where
+-- The mates have for each of them its partner at its output, where only the outputs of a word have positions on several links.
+pub record LinkedOut (shared : ℕ) (table odds : List ℕ) (k : ℕ) (mates : List ℕ) : Type 0 where
   pub mates-low : Mates mates
-  pub same : (m : List ℕ) → OddsOf odds k m → Shared (length m) outputs table → (p : ℕ) → odd m p ≡ true
+  pub same : (m : List ℕ) → OddsOf odds k m → Shared (length m) shared table → (p : ℕ) → odd m p ≡ true
       → lookup mates p ≡ outputPartner (portIn table) m p
 
 -- ---- groups

@@ -12,21 +12,22 @@ ghost use lib.ListN.{length};
 ghost use Rattle.planes.specs.Planes.{Ends, oddsIn};
 ghost use Rattle.split.specs.Steps.{Sides, Shared, Scratch, Favours};
 
-// The split knows of inputs and links by the tables alone, and of outputs that several links may share by their number. Its answer is how many counts were odd, and so settled; the mask has those that
-// favour the first half. The lists are lent, for clearing them in every block would take longer than filling them.
+// The split knows of inputs and links by the tables alone, and by a word which outputs have more than their first link. Its answer is
+// how many counts were odd, and so settled; the mask has those that favour the first half. The lists are lent, for clearing them in
+// every block would take longer than filling them.
 pub fn split(
     planes: &[u64; 99],
     n: usize,
     ins: &[u8; 528],
     outs: &[u8; 528],
-    outputs: usize,
+    shared: u64,
     odds: &mut [u16; 528],
     in_mates: &mut [u16; 528],
     out_mates: &mut [u16; 528],
     group: &mut [u16; 528],
     mask: &mut [u64; 9],
 ) -> usize
-    requires { ⌜ Ends n (now planes) × Sides n (now ins) (now outs) × Shared n outputs (now outs)
+    requires { ⌜ Ends n (now planes) × Sides n (now ins) (now outs) × Shared n shared (now outs)
         × (length (now mask) ≡ 9) × Scratch (now odds) (now «in_mates») (now «out_mates») (now group) ⌝ }
     ensures { λ r. ⌜ (r ≡ length (oddsIn n (now (planes .entry))))
         × Favours 1 n (now (planes .entry)) (now (ins .entry)) (now (outs .entry)) (now (mask .exit))
@@ -35,7 +36,7 @@ pub fn split(
     let mut favoured = [0u8; 528];
     let k = gather(planes, n, odds);
     link_inputs(odds, k, ins, in_mates);
-    link_outputs(odds, k, outs, outputs, out_mates);
+    link_outputs(odds, k, outs, shared, out_mates);
     settle(odds, k, in_mates, out_mates, group, &mut favoured);
     mark(planes, n, &favoured, mask);
     k

@@ -4,9 +4,9 @@ use widths::byte;
 use widths::number;
 ghost use mathlib.Core.Path.{_≡_};
 ghost use mathlib.Core.Bool.{not};
-ghost use Prim.Native.Nat.{_*_, _%_, _≤_, _<_};
+ghost use Prim.Native.Nat.{_*_, _%_, _<_};
 ghost use Rattle.model.specs.Words.{if};
-ghost use Rattle.split.specs.Steps.{Odds, Mates, Free, Held, Linked, heldFrom, Waiting, LinkedBoth, Joins, LinkedOut};
+ghost use Rattle.split.specs.Steps.{Outputs, Odds, Mates, Free, Held, Linked, heldFrom, Waiting, LinkedBoth, Joins, LinkedOut};
 
 // A port or a link is an index of 64 without a test.
 fn port_index(x: u8) -> usize
@@ -98,23 +98,24 @@ fn link_singles(held: &[u16; 64], waits: &[bool; 64], output: usize, mates: &mut
     }
 }
 
-// At each link, and then at each output that has others than its first.
+// At each link, and then at each output that has others than its first: digit o of the word is 1 for output o.
 pub(crate) fn link_outputs(
     odds: &[u16; 528],
     k: usize,
     outs: &[u8; 528],
-    outputs: usize,
+    shared: u64,
     mates: &mut [u16; 528],
 )
-    requires { ⌜ Odds (now odds) k × (outputs ≤ 16) × Mates (now mates) ⌝ }
-    ensures { λ _. ⌜ LinkedOut outputs (now (outs .entry)) (now (odds .entry)) k (now (mates .exit)) ⌝ }
+    requires { ⌜ Odds (now odds) k × Outputs shared × Mates (now mates) ⌝ }
+    ensures { λ _. ⌜ LinkedOut shared (now (outs .entry)) (now (odds .entry)) k (now (mates .exit)) ⌝ }
 {
     let mut held = [0u16; 64];
     let mut waits = [false; 64];
     link(odds, k, outs, mates, &mut held, &mut waits);
-    let mut o: usize = 0;
-    while o < outputs {
+    let mut rest = shared;
+    while rest != 0 {
+        let o = u64::trailing_zeros(rest) as usize;
         link_singles(&held, &waits, o, mates);
-        o += 1;
+        rest = rest & (rest - 1);
     }
 }

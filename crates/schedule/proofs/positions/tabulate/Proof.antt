@@ -6,10 +6,10 @@ use Rattle.schedule.proofs.positions.tabulate.Statement.{statement}
 use Rattle.schedule.proofs.positions.tabulate.Tie as tie
 
 abbrev Inv-loop : tie.InvT-loop
-Inv-loop list ins₀ outs₀ count outputs₀ f₀ ins outs outputs f = Tabling list count f outputs ins outs
+Inv-loop list ins₀ outs₀ count shared₀ f₀ ins outs shared f = Tabling list count f shared ins outs
 
 abbrev μ-loop : tie.MeasureT-loop
-μ-loop list ins₀ outs₀ count outputs₀ f₀ ins outs outputs f = count - f
+μ-loop list ins₀ outs₀ count shared₀ f₀ ins outs shared f = count - f
 
 pub tabulate-spec : {M : Type 1} → statement M
 tabulate-spec =
@@ -26,6 +26,7 @@ tabulate-spec =
     (λ c. search (needs, tabling-low))
     (λ c. search needs)
     (λ c. search (needs, tabling-low))
+    (λ c κs. search needs)
     (λ c κs. search needs)
     (λ c. search needs)
     (λ c. search needs)

@@ -1,16 +1,16 @@
-use Prim.Native.Nat.{_-_, _≤_}
 use borrow.Author.Needs.{needs}
 use native.Mathlib.Omega.{arith}
+use Rattle.planes.proofs.Lowest.{rest-less}
 use Rattle.split.proofs.Linked.{all-free}
-use Rattle.split.proofs.Joined.{Outputs, outputs-start, outputs-on, outputs-end}
+use Rattle.split.proofs.Joined.{Linking, linking-start, linking-zeros, linking-low, linking-on, linking-end}
 use Rattle.split.proofs.partners.link_outputs.Statement.{statement}
 use Rattle.split.proofs.partners.link_outputs.Tie as tie
 
 abbrev Inv-loop : tie.InvT-loop
-Inv-loop odds k outs outputs mates₀ held waits o₀ mates o = (o ≤ outputs) × Outputs outs odds k o mates₀ mates
+Inv-loop odds k outs shared mates₀ held waits rest₀ mates rest = Linking outs odds k shared rest mates₀ mates
 
 abbrev μ-loop : tie.MeasureT-loop
-μ-loop odds k outs outputs mates₀ held waits o₀ mates o = outputs - o
+μ-loop odds k outs shared mates₀ held waits rest₀ mates rest = rest
 
 pub link-outputs-spec : {M : Type 1} → statement M
 link-outputs-spec =
@@ -19,11 +19,10 @@ link-outputs-spec =
     Inv-loop
     μ-loop
     (λ c κs. (search needs, search needs, all-free))
-    (λ c. (omega arith, search (needs, outputs-start)))
-    (λ c κs. (search needs, search needs, search needs))
+    (λ c. search (needs, linking-start))
+    (λ c. omega (arith, linking-zeros (c .before .loop .inv) (c .loop-test .taken)))
+    (λ c κs. (search (needs, linking-low), search needs, search needs))
     (λ c. search needs)
-    (λ c. search needs)
-    (λ c.
-    let loop = c .before .before .before .before .before in
-    (omega arith, outputs-on (loop .loop .inv .1) (loop .before .link .ensures .1) (c .before .before .before .before .loop-test .taken) (loop .before .before .before .before .before .pre .1) (c .link-singles .ensures)))
-    (λ c. search (needs, outputs-end)))
+    (λ c. search (needs, rest-less))
+    (λ c. search (needs, linking-on))
+    (λ c. search (needs, linking-end)))
