@@ -18,6 +18,8 @@ pub enum Flows {
     Most,
     /// Those of `EachPair`, each put on any of the four links.
     FourLinks,
+    /// The same, but those to other outputs than the last on link 1.
+    LastOutput,
 }
 
 /// A load that fits, with its list as the crate takes it.
@@ -49,10 +51,13 @@ pub fn flows_of(list: &[u16]) -> Vec<Flow> {
     flows.collect()
 }
 
-/// Puts each flow on any link.
-fn over_links(mut call: Call, random: &mut Random) -> Call {
-    for link in call.list.iter_mut().skip(3).step_by(FLOW_NUMBERS) {
-        *link = random.between(1, LINKS as u64) as u16;
+/// Puts each flow to one of the last outputs on any link.
+fn over_links(outputs: usize, mut call: Call, random: &mut Random) -> Call {
+    let before = call.ports as usize - outputs;
+    for flow in call.list.chunks_exact_mut(FLOW_NUMBERS) {
+        if usize::from(flow[1]) > before {
+            flow[3] = random.between(1, LINKS as u64) as u16;
+        }
     }
     call
 }
@@ -63,7 +68,11 @@ pub fn loads_of(shape: Shape, cells: usize, flows: Flows) -> Vec<Load> {
     let mut load = || match flows {
         Flows::EachPair => full_load(shape, cells, &mut random),
         Flows::Most => full_load_of_flows(shape, cells, MOST_FLOWS, &mut random),
-        Flows::FourLinks => over_links(full_load(shape, cells, &mut random), &mut links),
+        Flows::FourLinks => {
+            let call = full_load(shape, cells, &mut random);
+            over_links(shape.ports, call, &mut links)
+        }
+        Flows::LastOutput => over_links(1, full_load(shape, cells, &mut random), &mut links),
     };
     (0..LOADS).map(|_| Load::of(shape, load())).collect()
 }

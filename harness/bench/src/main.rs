@@ -41,8 +41,8 @@ const fn size(ports: usize, slots: usize, cells: usize, flows: Flows, limit: Opt
     }
 }
 
-/// One flow for each pair, then as many flows as there may be, and then one for each pair over four links.
-const SIZES: [Size; 8] = [
+/// One flow for each pair, then as many flows as there may be, and then one for each pair over four links, of all outputs and of one.
+const SIZES: [Size; 10] = [
     size(16, 1_024, 1_024, Flows::EachPair, Some(0.40)),
     size(16, 1_024, 102, Flows::EachPair, Some(0.22)),
     size(4, 64, 64, Flows::EachPair, Some(0.45)),
@@ -51,6 +51,8 @@ const SIZES: [Size; 8] = [
     size(16, 1_024, 102, Flows::Most, None),
     size(16, 1_024, 1_024, Flows::FourLinks, None),
     size(16, 1_024, 102, Flows::FourLinks, None),
+    size(16, 1_024, 1_024, Flows::LastOutput, None),
+    size(16, 1_024, 102, Flows::LastOutput, None),
 ];
 
 impl Size {
@@ -60,6 +62,7 @@ impl Size {
             Flows::EachPair => "",
             Flows::Most => ", 512 flows",
             Flows::FourLinks => ", 4 links",
+            Flows::LastOutput => ", 4 links of one",
         };
         format!("{ports} x {slots}, {} a port{flows}", self.cells)
     }

@@ -28,10 +28,10 @@ impl Call {
         flows.all(|flow| flow[3] == 1) && self.limits == [self.slots as u16; 64]
     }
 
-    /// Puts each flow on any of two links or more.
+    /// Puts each flow on any of the four links, or now and then of two or three of them.
     pub fn spread(&mut self, random: &mut Random) {
         let mut links = random.permutation(LINKS);
-        links.truncate(random.pick(&[2, 3, LINKS, LINKS]));
+        links.truncate(random.pick(&[2, 3, LINKS, LINKS, LINKS, LINKS]));
         for flow in self.list.chunks_exact_mut(FLOW_NUMBERS) {
             flow[3] = random.pick(&links) as u16 + 1;
         }

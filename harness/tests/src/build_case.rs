@@ -9,8 +9,8 @@ use reference::work::bound_by_size;
 
 use crate::hits::{
     Hits, AT_LIMIT, FOUR_SINGLES, IN_MATRIX_ORDER, MOST, NONE_SETTLED, NO_FLOWS, ODD_SETTLED,
-    SAME_FRAME, SAME_OVER_LINKS, SEVERAL_LINKS, SEVERAL_ON_A_PAIR, SINGLES, THREE_SINGLES,
-    WITHOUT_CELLS,
+    SAME_FRAME, SAME_OVER_FOUR, SAME_OVER_LINKS, SEVERAL_LINKS, SEVERAL_ON_A_PAIR, SINGLES,
+    THREE_SINGLES, WITHOUT_CELLS,
 };
 use crate::lent::Lent;
 use crate::share_case::{check_share, expect_chain, random_link, random_whose};
@@ -126,6 +126,12 @@ pub fn has_several_links(flows: &[Flow]) -> bool {
     outputs.len() < loads.len()
 }
 
+/// Whether there are cells on all four links, of one output or of several.
+fn has_four_links(flows: &[Flow]) -> bool {
+    let links = loads_of_links(flows).into_keys().map(|(_, link)| link);
+    links.collect::<BTreeSet<_>>().len() == LINKS
+}
+
 /// The most single ones that the links of an output leave in the block that is the whole frame.
 fn most_singles(flows: &[Flow]) -> usize {
     let mut odd = [[false; LINKS]; 16];
@@ -179,8 +185,12 @@ pub fn build_and_compare(
     list.expect_same("list after build", &before)?;
     if let Ok(settled) = answer {
         hits.add(SAME_FRAME);
-        if has_several_links(&flows_of(&call.list)) {
+        let flows = flows_of(&call.list);
+        if has_several_links(&flows) {
             hits.add(SAME_OVER_LINKS);
+        }
+        if has_four_links(&flows) {
+            hits.add(SAME_OVER_FOUR);
         }
         check_settled(call, settled, hits)?;
     }

@@ -11,6 +11,8 @@ pub const SAME_FRAME: &str =
 
 /// The same of a list that has cells on several links of some output.
 pub const SAME_OVER_LINKS: &str = "frame of a list over several links compared in the same way";
+/// The same of a list that has cells on all four links, of one output or of several.
+pub const SAME_OVER_FOUR: &str = "frame of a list over all four links compared in the same way";
 
 /// A frame that was built was damaged, or its list was, and then inspected.
 pub const DAMAGED: &str = "frame built, damaged and inspected";
@@ -342,13 +344,14 @@ const CLASSES_UNBALANCED: [&str; 4] = [
 ];
 
 /// What the lists that are built must have been like.
-const SORTS_OF_LIST: [&str; 10] = [
+const SORTS_OF_LIST: [&str; 11] = [
     NO_FLOWS,
     MOST,
     SEVERAL_ON_A_PAIR,
     WITHOUT_CELLS,
     IN_MATRIX_ORDER,
     SEVERAL_LINKS,
+    SAME_OVER_FOUR,
     SINGLES,
     THREE_SINGLES,
     FOUR_SINGLES,

@@ -1,6 +1,6 @@
 //! Builds the benchmark's loads FIRST to LAST of PORTS × 2^K, every port loaded with CELLS, with one flow for each pair, with as many as
-//! there may be, or with one for each pair over four links, and prints the odd counts that each settled, a line each, for a count of
-//! instructions.
+//! there may be, or with one for each pair over four links, of every output or of the last alone, and prints the odd counts that each
+//! settled, a line each, for a count of instructions.
 
 #![forbid(unsafe_code)]
 
@@ -9,7 +9,8 @@ use std::process::ExitCode;
 use bench::{loads_of, Flows, Load, LOADS};
 use loads::Shape;
 
-const USAGE: &str = "settled PORTS K CELLS each|most|links FIRST LAST, with PORTS from 1 to 16, \
+const USAGE: &str =
+    "settled PORTS K CELLS each|most|links|last FIRST LAST, with PORTS from 1 to 16, \
     K to 10, CELLS to 2^K, and FIRST and LAST from 1 to 16";
 
 /// The loads that the words on the command line ask for.
@@ -21,6 +22,7 @@ fn read_loads(words: &[String]) -> Option<Vec<Load>> {
         "each" => Flows::EachPair,
         "most" => Flows::Most,
         "links" => Flows::FourLinks,
+        "last" => Flows::LastOutput,
         _ => return None,
     };
     let numbers = [ports, k, cells, first, last].map(|word| word.parse().ok());
