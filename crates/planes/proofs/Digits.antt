@@ -30,6 +30,12 @@ pub digit-none : (i : ℕ) → digit 0 i ≡ 0
 digit-none zero = digit-first 0
 digit-none (suc i) = sym (digit-half 0 i) ∙ digit-none i
 
+-- behind those that a number takes
+pub digit-past : (k x i : ℕ) → x < 2 ^ k → k ≤ i → digit x i ≡ 0
+digit-past zero x i h l = let z : x ≡ 0 = omega arith in ap (λ (y : ℕ). digit y i) z ∙ digit-none i
+digit-past (suc k) x zero h l = absurd (omega arith)
+digit-past (suc k) x (suc i) h l = sym (digit-half x i) ∙ digit-past k (x / 2) i (omega (arith, pow-suc 2 k)) (omega arith)
+
 -- ---- operations on words
 sum-first : (x y : ℕ) → bitXor x y % 2 + 2 * (bitAnd x y % 2) ≡ x % 2 + y % 2
 sum-first x y =

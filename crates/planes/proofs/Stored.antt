@@ -1,29 +1,33 @@
 -- One more digit of a count stored, and one more count.
-use Prim.Native.Nat.{ℕ, _+_, _*_, _/_, _%_, _^_, _≤_, _<_, max}
-use mathlib.Core.Path.{_≡_, refl, sym, ap, ap₂, _∙_}
+use Prim.Native.Nat.{ℕ, _+_, _-_, _*_, _/_, _%_, _^_, _≤_, _<_, max}
+use mathlib.Core.Path.{_≡_, refl, sym, ap, _∙_}
 use mathlib.Core.Logic.{_≢_}
 use mathlib.Core.List.{List}
 use native.Mathlib.Omega.{arith}
 use lib.Dec.{eqb}
+use lib.Count.{trailingZeros}
 use lib.ListN.{length, getD, set, length-set, replicate, length-replicate}
 use lib.Seq.{getD-set-same, getD-set-other}
 use borrow.Author.Tests.{eq-eqb, ne-eqb}
 use Rattle.model.specs.Words.{if}
 use Rattle.model.specs.Flows.{flows, numberOf, countsOf}
-use Rattle.model.proofs.Cases.{byEq}
+use Rattle.model.proofs.Cases.{byEq, byLt}
 use Rattle.model.proofs.Flows.{counts-length, counts-at}
 use Rattle.planes.specs.Digits.{digit}
 use Rattle.planes.specs.Planes.{digitIn, countAt, counts}
 use Rattle.planes.specs.Steps.{PutAt, Blank, Stored, Loaded}
 use Rattle.planes.proofs.Lists.{zeros-at}
-use Rattle.planes.proofs.Digits.{digit-none, if-same, if-other, binary-same, binary-none, binary-digits}
+use Rattle.planes.proofs.Digits.{digit-most, digit-none, digit-past, if-same, if-other, binary-same, binary-none, binary-digits}
+use Rattle.planes.proofs.Lowest.{rest, next-zeros, next-digit, next-fits}
 use Rattle.planes.proofs.Counts.{counts-are}
 
 -- ---- one digit
-pub record Storing (x b p : ℕ) (old planes : List ℕ) : Type 0 where
+-- the digits of x have been put, but for those that are left
+pub record Storing (x left p : ℕ) (old planes : List ℕ) : Type 0 where
   pub len : length planes ≡ 99
-  pub put : (q a : ℕ) → q < 576 → a < b → digitIn planes q a ≡ max (digitIn old q a) (if (eqb q p) (digit x a) 0)
-  pub rest : (q a : ℕ) → q < 576 → b ≤ a → digitIn planes q a ≡ digitIn old q a
+  pub fits : left < 2 ^ 64
+  pub within : (a : ℕ) → digit left a ≤ digit x a
+  pub put : (q a : ℕ) → q < 576 → a < 11 → digitIn planes q a ≡ max (digitIn old q a) (if (eqb q p) (digit x a - digit left a) 0)
 
 -- in one word the digit tells the position
 same-word : (q p d : ℕ) → q / 64 ≡ p / 64 → if (eqb (q % 64) (p % 64)) d 0 ≡ if (eqb q p) d 0
@@ -48,38 +52,82 @@ module _ (planes : List ℕ) (b p d v : ℕ) (l : length planes ≡ 99) (h : p <
       ∙ u .put (q % 64) ∙ ap (max (digit (getD planes (b * 9 + p / 64) 0) (q % 64))) (same-word q p d e)))
       (λ n. other q b (omega arith) ∙ omega (arith, if-other q p d (λ e. n (ap (λ (z : ℕ). z / 64) e))))
 
-pub storing-start : {x p : ℕ} {planes : List ℕ} → length planes ≡ 99 → Storing x 0 p planes planes
-storing-start l = record { len = l; put = λ q a g h. absurd (omega arith); rest = λ q a g h. refl }
-
-pub storing-on : {x b k p d v : ℕ} {old planes : List ℕ} → Storing x b p old planes → b < k → k ≤ 11 → p < 528 → d ≡ digit x b
-    → PutAt (getD planes (b * 9 + p / 64) 0) (p % 64) d v → Storing x (b + 1) p old (set planes (b * 9 + p / 64) v)
-storing-on {x} {b} {k} {p} {d} {v} {old} {planes} s g h o e u =
-    let l = s .len in
-    let t : b < 11 = omega arith in
+pub storing-start : {x p : ℕ} {planes : List ℕ} → x < 2 ^ 11 → length planes ≡ 99 → Storing x x p planes planes
+storing-start {x} {p} f l =
     record {
-      len = length-set planes (b * 9 + p / 64) v ∙ l;
-      put = λ q a z y.
-          byEq a b
-          (λ f. rw f (here planes b p d v l o t u q z ∙ ap₂ (λ (i j : ℕ). max i (if (eqb q p) j 0)) (s .rest q b z (omega arith)) e))
-          (λ n. other planes b p d v l o t u q a (omega arith) ∙ s .put q a z (omega arith));
-      rest = λ q a z y. other planes b p d v l o t u q a (omega arith) ∙ s .rest q a z (omega arith);
+      len = l;
+      fits = omega arith;
+      within = λ a. omega arith;
+      put = λ q a g h.
+          byEq q p (λ e. omega (arith, if-same q p (digit x a - digit x a) e)) (λ n. omega (arith, if-other q p (digit x a - digit x a) n));
     }
 
-pub storing-end : {x b k p : ℕ} {old planes : List ℕ} → Storing x b p old planes → b ≤ k → k ≤ b → Stored x k p old planes
-storing-end s g h = record { len = s .len; put = λ q a z y. s .put q a z (omega arith) }
+module _ {x left p : ℕ} {old planes : List ℕ} (s : Storing x left p old planes) (some : left ≢ 0) where
+  abbrev next : ℕ
+  next = trailingZeros 64 left
+
+  next-one : digit left next ≡ 1
+  next-one = omega (arith, next-digit (s .fits) some next, if-same next next 1 refl, digit-most left next)
+
+  pub storing-zeros : next < 64
+  storing-zeros = next-zeros (s .fits) some
+
+  -- a count below 2 ^ 11 has no digit that is 1 behind the eleventh
+  pub storing-low : x < 2 ^ 11 → next < 11
+  storing-low h = byLt next 11 (λ l. l) (λ l. absurd (omega (arith, next-one, s .within next, digit-past 11 x next h l)))
+
+  pub storing-on : {v : ℕ} → x < 2 ^ 11 → p < 528 → PutAt (getD planes (next * 9 + p / 64) 0) (p % 64) 1 v
+      → Storing x (rest left) p old (set planes (next * 9 + p / 64) v)
+  storing-on {v} h o u =
+      let l = s .len in
+      let t = storing-low h in
+      record {
+        len = length-set planes (next * 9 + p / 64) v ∙ l;
+        fits = next-fits (s .fits) some;
+        within = λ a. omega (arith, next-digit (s .fits) some a, s .within a);
+        put = λ q a z y.
+            byEq a next (λ e. rw e (now q z))
+            (λ n. other planes next p 1 v l o t u q a (omega arith) ∙ s .put q a z y
+            ∙ ap (λ (d : ℕ). max (digitIn old q a) (if (eqb q p) (digit x a - d) 0)) (omega (arith, next-digit (s .fits) some a, if-other a next 1 n)));
+      }
+    where
+      now : (q : ℕ) → q < 576 → digitIn (set planes (next * 9 + p / 64) v) q next
+          ≡ max (digitIn old q next) (if (eqb q p) (digit x next - digit (rest left) next) 0)
+      now q z =
+          let t = storing-low h in
+          let new = here planes next p 1 v (s .len) o t u q z in
+          let was = s .put q next z t in
+          let one = next-one in
+          let gone = next-digit (s .fits) some next in
+          let same = if-same next next 1 refl in
+          let most = digit-most x next in
+          let more = s .within next in
+          byEq q p
+          (λ e. omega (arith, if-same q p 1 e, if-same q p (digit x next - digit left next) e, if-same q p (digit x next - digit (rest left) next) e))
+          (λ n. omega (arith, if-other q p 1 n, if-other q p (digit x next - digit left next) n, if-other q p (digit x next - digit (rest left) next) n))
+
+pub storing-end : {x left p : ℕ} {old planes : List ℕ} → Storing x left p old planes → left ≡ 0 → Stored x p old planes
+storing-end {x} {left} {p} {old} s e =
+    record {
+      len = s .len;
+      put = λ q a z y.
+          let none : digit left a ≡ 0 = ap (λ (d : ℕ). digit d a) e ∙ digit-none a in
+          let all : digit x a - digit left a ≡ digit x a = omega arith in
+          s .put q a z y ∙ ap (λ (d : ℕ). max (digitIn old q a) (if (eqb q p) d 0)) all;
+    }
 
 -- ---- one count
-pub record Loading (list : List ℕ) (k n f : ℕ) (planes : List ℕ) : Type 0 where
+pub record Loading (list : List ℕ) (n f : ℕ) (planes : List ℕ) : Type 0 where
   pub all : n ≡ flows list
   pub most : f ≤ n
   pub len : length planes ≡ 99
-  pub has : (q b : ℕ) → q < f → q < 576 → b < k → digitIn planes q b ≡ digit (numberOf 2 list q) b
-  pub none : (q b : ℕ) → f ≤ q → q < 576 → b < k → digitIn planes q b ≡ 0
+  pub has : (q b : ℕ) → q < f → q < 576 → b < 11 → digitIn planes q b ≡ digit (numberOf 2 list q) b
+  pub none : (q b : ℕ) → f ≤ q → q < 576 → b < 11 → digitIn planes q b ≡ 0
 
 pub blank : Blank (replicate 99 0)
 blank = record { len = length-replicate {A = ℕ} 99 0; none = zeros-at 99 }
 
-pub loading-start : {list planes : List ℕ} {k n : ℕ} → n ≡ flows list → Blank planes → Loading list k n 0 planes
+pub loading-start : {list planes : List ℕ} {n : ℕ} → n ≡ flows list → Blank planes → Loading list n 0 planes
 unfolding digitIn
 loading-start e b =
     record {
@@ -90,14 +138,18 @@ loading-start e b =
       none = λ q a h g l. ap (λ (z : ℕ). digit z (q % 64)) (b .none (a * 9 + q / 64)) ∙ digit-none (q % 64);
     }
 
-pub loading-in : {list planes : List ℕ} {k n f : ℕ} → Loading list k n f planes → f < n → f < flows list
+pub loading-in : {list planes : List ℕ} {n f : ℕ} → Loading list n f planes → f < n → f < flows list
 loading-in g h = omega (arith, g .all)
 
-pub loading-low : {list planes : List ℕ} {k n f : ℕ} → Loading list k n f planes → flows list ≤ 528 → f < n → f < 528
+pub loading-low : {list planes : List ℕ} {n f : ℕ} → Loading list n f planes → flows list ≤ 528 → f < n → f < 528
 loading-low g l h = omega (arith, g .all)
 
-pub loading-on : {list old planes : List ℕ} {k n f x : ℕ} → Loading list k n f old → f < n → x ≡ numberOf 2 list f → Stored x k f old planes → Loading list k n (f + 1) planes
-loading-on {list} {old} {planes} {k} {n} {f} {x} g here is s =
+pub loading-few : {list planes : List ℕ} {n f x : ℕ} → Loading list n f planes → f < n → x ≡ numberOf 2 list f
+    → ((q : ℕ) → q < flows list → numberOf 2 list q < 2 ^ 11) → x < 2 ^ 11
+loading-few {f = f} g h e few = rw e (few f (loading-in g h))
+
+pub loading-on : {list old planes : List ℕ} {n f x : ℕ} → Loading list n f old → f < n → x ≡ numberOf 2 list f → Stored x f old planes → Loading list n (f + 1) planes
+loading-on {list} {old} {planes} {n} {f} {x} g here is s =
     record {
       all = g .all;
       most = omega arith;
@@ -109,16 +161,16 @@ loading-on {list} {old} {planes} {k} {n} {f} {x} g here is s =
       none = λ q b h z l. omega (arith, s .put q b z l, g .none q b (omega arith) z l, if-other q f (digit x b) (omega arith));
     }
 
-pub loading-end : {list planes : List ℕ} {k n f : ℕ} → Loading list k n f planes → n ≤ f → flows list ≤ 528
-    → ((q : ℕ) → q < flows list → numberOf 2 list q < 2 ^ k) → Loaded list k planes
+pub loading-end : {list planes : List ℕ} {n f : ℕ} → Loading list n f planes → n ≤ f → flows list ≤ 528 → Loaded list planes
 unfolding countAt
-loading-end {list} {planes} {k} {n} {f} g b c h =
+loading-end {list} {planes} {n} {f} g b c =
     let end : f ≡ flows list = omega (arith, g .all, g .most) in
     record {
       len = g .len;
-      same = ap (counts k planes) (sym (counts-length list)) ∙ counts-are k planes (countsOf list) (λ q z.
+      same = λ k l h.
+          ap (counts k planes) (sym (counts-length list)) ∙ counts-are k planes (countsOf list) (λ q z.
           let y : q < flows list = omega (arith, counts-length list) in
-          binary-same k (digitIn planes q) (digit (numberOf 2 list q)) (λ d w. g .has q d (omega arith) (omega arith) w)
+          binary-same k (digitIn planes q) (digit (numberOf 2 list q)) (λ d w. g .has q d (omega arith) (omega arith) (omega arith))
           ∙ binary-digits k (numberOf 2 list q) (h q y) ∙ sym (counts-at list q y));
-      past = λ q z y. binary-none k (digitIn planes q) (λ d x. g .none q d (omega arith) y x);
+      past = λ k q l z y. binary-none k (digitIn planes q) (λ d x. g .none q d (omega arith) y (omega arith));
     }

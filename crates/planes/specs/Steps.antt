@@ -6,7 +6,7 @@ use mathlib.Core.List.{List, _++_}
 use lib.Dec.{eqb}
 use lib.ListN.{length, getD, take}
 use Rattle.model.specs.Words.{if}
-use Rattle.model.specs.Flows.{flows, countsOf}
+use Rattle.model.specs.Flows.{flows, numberOf, countsOf}
 use Rattle.planes.specs.Digits.{digit, binary, places}
 use Rattle.planes.specs.Planes.{digitIn, digitAt, countAt, counts, oddsIn, spanOf}
 
@@ -21,16 +21,16 @@ pub record Blank (planes : List ℕ) : Type 0 where
   pub len : length planes ≡ 99
   pub none : (j : ℕ) → getD planes j 0 ≡ 0
 
--- Each of the first k planes has its digit of x put at position p.
-pub record Stored (x k p : ℕ) (old planes : List ℕ) : Type 0 where
+-- Each of the eleven planes has its digit of x put at position p.
+pub record Stored (x p : ℕ) (old planes : List ℕ) : Type 0 where
   pub len : length planes ≡ 99
-  pub put : (q b : ℕ) → q < 576 → b < k → digitIn planes q b ≡ max (digitIn old q b) (if (eqb q p) (digit x b) 0)
+  pub put : (q b : ℕ) → q < 576 → b < 11 → digitIn planes q b ≡ max (digitIn old q b) (if (eqb q p) (digit x b) 0)
 
--- The first k planes have the cells of every flow of a list, and nothing behind them.
-pub record Loaded (list : List ℕ) (k : ℕ) (planes : List ℕ) : Type 0 where
+-- The planes have the cells of every flow of a list, as many planes as their digits take, and nothing behind them.
+pub record Loaded (list planes : List ℕ) : Type 0 where
   pub len : length planes ≡ 99
-  pub same : counts k planes (flows list) ≡ countsOf list
-  pub past : (p : ℕ) → flows list ≤ p → p < 576 → countAt k planes p ≡ 0
+  pub same : (k : ℕ) → k ≤ 11 → ((f : ℕ) → f < flows list → numberOf 2 list f < 2 ^ k) → counts k planes (flows list) ≡ countsOf list
+  pub past : (k p : ℕ) → k ≤ 11 → flows list ≤ p → p < 576 → countAt k planes p ≡ 0
 
 -- ---- gather
 -- From place k on, a list has the places of the digits of a word, and before them what it had.

@@ -1,9 +1,8 @@
 -- The counts of a load that fits are those of a block, and what is made of them is made of the list.
-use Prim.Native.Nat.{ℕ, suc, _+_, _*_, _^_, _≤_, _<_}
+use Prim.Native.Nat.{ℕ, suc, _*_, _^_, _≤_, _<_}
 use mathlib.Core.Path.{_≡_, refl, sym, ap, ap₂, _∙_}
 use mathlib.Core.List.{List}
 use native.Mathlib.Omega.{arith}
-use native.Mathlib.Numerals.{add-one}
 use lib.ListN.{length, getD}
 use borrow.Author.Tests.{eq-eqb}
 use Rattle.model.specs.Flows.{flows, numberOf, inputs, portOf, countsOf, input}
@@ -34,12 +33,15 @@ module _ {ports slots : ℕ} {list buffer : List ℕ} (f : Fillable ports slots 
   pub levels-low : levels slots ≤ 10
   levels-low = omega (arith, power-level (f .well .power), f .well .power .most)
 
-  pub cells-room : (m : ℕ) → m ≡ levels slots → (q : ℕ) → q < flows list → numberOf 2 list q < 2 ^ (m + 1)
-  cells-room m e q h = omega (arith, cells-most q h, power, ap (λ (k : ℕ). 2 ^ k) e, pow-less m (m + 1) (omega arith))
+  pub cells-room : (q : ℕ) → q < flows list → numberOf 2 list q < 2 ^ 11
+  cells-room q h = omega (arith, cells-most q h, power, pow-less (levels slots) 11 (omega (arith, levels-low)))
 
-  pub loaded-block : {m n : ℕ} {planes : List ℕ} → m ≡ levels slots → n ≡ flows list → Loaded list (m + 1) planes → Block m n planes
+  loaded-counts : {m : ℕ} {planes : List ℕ} → m ≡ levels slots → Loaded list planes → counts (suc m) planes (flows list) ≡ countsOf list
+  loaded-counts {m} e g =
+      g .same (suc m) (omega (arith, levels-low)) (λ q h. omega (arith, cells-most q h, power, ap (λ (k : ℕ). 2 ^ k) e, pow-less m (suc m) (omega arith)))
+
+  pub loaded-block : {m n : ℕ} {planes : List ℕ} → m ≡ levels slots → n ≡ flows list → Loaded list planes → Block m n planes
   loaded-block {m} {n} {planes} e d g =
-      let l = rw add-one at g in
       let few = f .well .few in
       record {
         few = omega arith;
@@ -47,28 +49,28 @@ module _ {ports slots : ℕ} {list buffer : List ℕ} (f : Fillable ports slots 
             omega (
               arith,
               sym (in-planes.counts-at (suc m) planes (flows list) p (omega arith)),
-              ap (λ (c : List ℕ). getD c p 0) (l .same),
+              ap (λ (c : List ℕ). getD c p 0) (loaded-counts e g),
               counts-at list p (omega arith),
               cells-most p (omega arith),
               power,
               ap (λ (k : ℕ). 2 ^ k) e,
             );
-        past = λ p a h. l .past p (omega arith) (omega arith);
+        past = λ p a h. g .past (suc m) p (omega (arith, levels-low)) (omega arith) (omega arith);
       }
 
   pub frame-size : {m : ℕ} → m ≡ levels slots → length buffer ≡ 2 ^ m * ports
   frame-size e = f .size ∙ ap (λ (x : ℕ). x * ports) (power ∙ ap (λ (k : ℕ). 2 ^ k) (sym e))
 
--- what the planes and the tables give is what the list gives
-module _ (ports slots : ℕ) {m n : ℕ} {list planes : List ℕ} (e : m ≡ levels slots) (d : n ≡ flows list) (g : Loaded list (m + 1) planes) where
-  same-counts : counts (suc m) planes n ≡ countsOf list
-  same-counts = ap (counts (suc m) planes) d ∙ (rw add-one at g) .same
+  -- what the planes and the tables give is what the list gives
+  module _ {m n : ℕ} {planes : List ℕ} (e : m ≡ levels slots) (d : n ≡ flows list) (g : Loaded list planes) where
+    same-counts : counts (suc m) planes n ≡ countsOf list
+    same-counts = ap (counts (suc m) planes) d ∙ loaded-counts e g
 
-  pub all-settled : {r : ℕ} → r ≡ settled m (counts (suc m) planes n) → r ≡ settled (levels slots) (countsOf list)
-  all-settled f = f ∙ ap₂ settled e same-counts
+    pub all-settled : {r : ℕ} → r ≡ settled m (counts (suc m) planes n) → r ≡ settled (levels slots) (countsOf list)
+    all-settled f = f ∙ ap₂ settled e same-counts
 
-  pub all-filled : {ins outs entries : List ℕ} → Tabled list ins outs → entries ≡ frameOf ports (tabled ins outs) m (counts (suc m) planes n) → entries ≡ frameFor ports slots list
-  all-filled {ins} {outs} t f =
-      f
-      ∙ ap₂ (frameOf ports (tabled ins outs)) e same-counts
-      ∙ frame-same ports (tabled ins outs) (portOf list) (levels slots) (countsOf list) (λ s p h. t .has s p (omega (arith, counts-length list)))
+    pub all-filled : {ins outs entries : List ℕ} → Tabled list ins outs → entries ≡ frameOf ports (tabled ins outs) m (counts (suc m) planes n) → entries ≡ frameFor ports slots list
+    all-filled {ins} {outs} t f =
+        f
+        ∙ ap₂ (frameOf ports (tabled ins outs)) e same-counts
+        ∙ frame-same ports (tabled ins outs) (portOf list) (levels slots) (countsOf list) (λ s p h. t .has s p (omega (arith, counts-length list)))

@@ -113,7 +113,7 @@ fn fill(ports: usize, slots: usize, list: &[u16], frame: &mut [u16]) -> usize
     let mut planes = [0u64; 99];
     let mut ins = [0u8; 528];
     let mut outs = [0u8; 528];
-    load(list, m + 1, &mut planes);
+    load(list, &mut planes);
     let shared = positions::tabulate(list, &mut ins, &mut outs);
     if m == 0 {
         slots::write(&planes, n, ports, &ins, frame);

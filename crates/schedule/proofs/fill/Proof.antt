@@ -1,7 +1,6 @@
 use mathlib.Core.Path.{refl}
 use borrow.Author.Needs.{needs}
 use native.Mathlib.Omega.{arith}
-use Rattle.model.proofs.Levels.{levels-most}
 use Rattle.admission.proofs.Listed.{well-taken}
 use Rattle.planes.proofs.Counts.{block-ends}
 use Rattle.planes.proofs.Stored.{blank}
@@ -19,13 +18,10 @@ fill-spec =
     (tie.spec
     (λ c κs. search needs)
     (λ c κs. search needs)
-    (λ c. let top = levels-most (c .before .before .before .before .args .slots) in omega (arith, c .before .levels-of .ensures))
     (λ c κs.
-    let level = c .before .before .levels-of .ensures in
     let pre = c .before .before .before .before .before .pre in
-    let low = levels-low pre in
     let few = pre .well .few in
-    (omega arith, omega arith, blank, cells-room pre _ level))
+    (omega arith, blank, cells-room pre))
     (λ c κs.
     let pre = c .before .before .before .before .before .before .before .before .pre in
     (taken-most (well-taken (pre .well)), refl, refl))
@@ -51,8 +47,8 @@ fill-spec =
     let flows = load .before .before in
     let level = flows .before .levels-of .ensures in
     let start = flows .before .before .before .before in (
-      all-settled (start .args .ports) (start .args .slots) level (flows .flows-of .ensures) (load .load .ensures) (none-settled _ _ (one .if1 .taken)),
-      all-filled (start .args .ports) (start .args .slots) level (flows .flows-of .ensures) (load .load .ensures) (tabled .tabulate .ensures .0)
+      all-settled (start .pre) level (flows .flows-of .ensures) (load .load .ensures) (none-settled _ _ (one .if1 .taken)),
+      all-filled (start .pre) level (flows .flows-of .ensures) (load .load .ensures) (tabled .tabulate .ensures .0)
           (frame-one _ _ _ _ _ _ _ (one .if1 .taken) (write .write .ensures)),
     ))
     (λ c κs.
@@ -79,6 +75,6 @@ fill-spec =
     let flows = load .before .before in
     let level = flows .before .levels-of .ensures in
     let start = flows .before .before .before .before in (
-      all-settled (start .args .ports) (start .args .slots) level (flows .flows-of .ensures) (load .load .ensures) (block .block .ensures .0),
-      all-filled (start .args .ports) (start .args .slots) level (flows .flows-of .ensures) (load .load .ensures) (tabled .tabulate .ensures .0) (block .block .ensures .1),
+      all-settled (start .pre) level (flows .flows-of .ensures) (load .load .ensures) (block .block .ensures .0),
+      all-filled (start .pre) level (flows .flows-of .ensures) (load .load .ensures) (tabled .tabulate .ensures .0) (block .block .ensures .1),
     )))

@@ -1,14 +1,14 @@
 use Prim.Native.Nat.{_-_}
 use borrow.Author.Needs.{needs}
-use Rattle.planes.proofs.Stored.{Loading, loading-start, loading-in, loading-low, loading-on, loading-end}
+use Rattle.planes.proofs.Stored.{Loading, loading-start, loading-in, loading-low, loading-few, loading-on, loading-end}
 use Rattle.planes.proofs.load.load.Statement.{statement}
 use Rattle.planes.proofs.load.load.Tie as tie
 
 abbrev Inv-loop : tie.InvT-loop
-Inv-loop list k planes₀ count f₀ planes f = Loading list k count f planes
+Inv-loop list planes₀ count f₀ planes f = Loading list count f planes
 
 abbrev μ-loop : tie.MeasureT-loop
-μ-loop list k planes₀ count f₀ planes f = count - f
+μ-loop list planes₀ count f₀ planes f = count - f
 
 pub load-spec : {M : Type 1} → statement M
 load-spec =
@@ -19,7 +19,7 @@ load-spec =
     (λ c κs. search needs)
     (λ c. search (needs, loading-start))
     (λ c κs. search (needs, loading-in))
-    (λ c κs. (search needs, search (needs, loading-low), search needs))
+    (λ c κs. (search (needs, loading-few), search (needs, loading-low), search needs))
     (λ c. search needs)
     (λ c. search needs)
     (λ c. search (needs, loading-on))
