@@ -1,6 +1,6 @@
 -- One more digit of a count stored, and one more count.
-use Prim.Native.Nat.{ℕ, _+_, _-_, _*_, _/_, _%_, _^_, _≤_, _<_, max}
-use mathlib.Core.Path.{_≡_, refl, sym, ap, _∙_}
+use Prim.Native.Nat.{ℕ, suc, zero, _+_, _-_, _*_, _/_, _%_, _^_, _≤_, _<_, max}
+use mathlib.Core.Path.{_≡_, refl, sym, ap, ap₂, _∙_}
 use mathlib.Core.Logic.{_≢_}
 use mathlib.Core.List.{List}
 use native.Mathlib.Omega.{arith}
@@ -17,7 +17,7 @@ use Rattle.planes.specs.Digits.{digit}
 use Rattle.planes.specs.Planes.{digitIn, countAt, counts}
 use Rattle.planes.specs.Steps.{PutAt, Blank, Stored, Loaded}
 use Rattle.planes.proofs.Lists.{zeros-at}
-use Rattle.planes.proofs.Digits.{digit-most, digit-none, digit-past, if-same, if-other, binary-same, binary-none, binary-digits}
+use Rattle.planes.proofs.Digits.{digit-most, digit-first, digit-half, digit-none, digit-past, if-same, if-other, binary-same, binary-none, binary-digits}
 use Rattle.planes.proofs.Lowest.{rest, next-zeros, next-digit, next-fits}
 use Rattle.planes.proofs.Counts.{counts-are}
 
@@ -114,6 +114,82 @@ storing-end {x} {left} {p} {old} s e =
           let none : digit left a ≡ 0 = ap (λ (d : ℕ). digit d a) e ∙ digit-none a in
           let all : digit x a - digit left a ≡ digit x a = omega arith in
           s .put q a z y ∙ ap (λ (d : ℕ). max (digitIn old q a) (if (eqb q p) d 0)) all;
+    }
+
+-- ---- two digits, and then the others
+module _ (x p : ℕ) where
+  both-low : (b : ℕ) → 2 ≤ b → digit (x % 4) b ≡ 0
+  both-low b h = digit-past 2 (x % 4) b (omega arith) h
+
+  digit-second : (y : ℕ) → digit y 1 ≡ y / 2 % 2
+  digit-second y = sym (digit-half y 0) ∙ digit-first (y / 2)
+
+  -- each digit is one of the two lowest, or one of the others
+  apart : (b : ℕ) → digit (x % 4) b + digit (x / 4 * 4) b ≡ digit x b
+  apart zero = omega (arith, digit-first (x % 4), digit-first (x / 4 * 4), digit-first x)
+  apart (suc zero) = omega (arith, digit-second (x % 4), digit-second (x / 4 * 4), digit-second x)
+  apart (suc (suc i)) =
+      let same : x / 4 * 4 / 2 / 2 ≡ x / 2 / 2 = omega arith in
+      omega (
+        arith,
+        both-low (suc (suc i)) (omega arith),
+        digit-half (x / 4 * 4) (suc i),
+        digit-half (x / 4 * 4 / 2) i,
+        digit-half x (suc i),
+        digit-half (x / 2) i,
+        ap (λ (y : ℕ). digit y i) same,
+      )
+
+  pub both-stored : {old mid planes : List ℕ} → Stored (x % 4) p old mid → Stored (x / 4 * 4) p mid planes → Stored x p old planes
+  both-stored s t =
+      record {
+        len = t .len;
+        put = λ q b z y.
+            let first = s .put q b z y in
+            let second = t .put q b z y in
+            let sum = apart b in
+            let most = digit-most x b in
+            byEq q p
+            (λ e. omega (arith, if-same q p (digit (x % 4) b) e, if-same q p (digit (x / 4 * 4) b) e, if-same q p (digit x b) e))
+            (λ n. omega (arith, if-other q p (digit (x % 4) b) n, if-other q p (digit (x / 4 * 4) b) n, if-other q p (digit x b) n));
+      }
+
+  module _ (v u : ℕ) (old : List ℕ) (l : length old ≡ 99) (h : p < 528) (first : PutAt (getD old (0 * 9 + p / 64) 0) (p % 64) (x % 2) v)
+      (second : PutAt (getD (set old (0 * 9 + p / 64) v) (1 * 9 + p / 64) 0) (p % 64) (x / 2 % 2) u) where
+    abbrev mid : List ℕ
+    mid = set old (0 * 9 + p / 64) v
+
+    mid-len : length mid ≡ 99
+    mid-len = length-set old (0 * 9 + p / 64) v ∙ l
+
+    two-put : (q b : ℕ) → q < 576 → b < 11 → digitIn (set mid (1 * 9 + p / 64) u) q b ≡ max (digitIn old q b) (if (eqb q p) (digit (x % 4) b) 0)
+    two-put q zero z y =
+        other mid 1 p (x / 2 % 2) u mid-len h (omega arith) second q 0 (omega arith)
+        ∙ here old 0 p (x % 2) v l h (omega arith) first q z
+        ∙ ap (λ (d : ℕ). max (digitIn old q 0) (if (eqb q p) d 0)) (omega (arith, digit-first (x % 4)))
+    two-put q (suc zero) z y =
+        here mid 1 p (x / 2 % 2) u mid-len h (omega arith) second q z
+        ∙ ap₂ (λ (c d : ℕ). max c (if (eqb q p) d 0)) (other old 0 p (x % 2) v l h (omega arith) first q 1 (omega arith)) (omega (arith, digit-second (x % 4)))
+    two-put q (suc (suc b)) z y =
+        other mid 1 p (x / 2 % 2) u mid-len h (omega arith) second q (suc (suc b)) (omega arith)
+        ∙ other old 0 p (x % 2) v l h (omega arith) first q (suc (suc b)) (omega arith)
+        ∙ none
+      where
+        none : digitIn old q (suc (suc b)) ≡ max (digitIn old q (suc (suc b))) (if (eqb q p) (digit (x % 4) (suc (suc b))) 0)
+        none =
+            let zeros = both-low (suc (suc b)) (omega arith) in
+            byEq q p
+            (λ e. omega (arith, if-same q p (digit (x % 4) (suc (suc b))) e))
+            (λ n. omega (arith, if-other q p (digit (x % 4) (suc (suc b))) n))
+
+pub two-stored : (x p : ℕ) {w v u : ℕ} {old : List ℕ} → length old ≡ 99 → p < 528 → w ≡ p / 64 → PutAt (getD old w 0) (p % 64) (x % 2) v
+    → PutAt (getD (set old w v) (9 + w) 0) (p % 64) (x / 2 % 2) u → Stored (x % 4) p old (set (set old w v) (9 + w) u)
+two-stored x p {w} {v} {u} {old} l h e first second =
+    let at : w ≡ 0 * 9 + p / 64 = omega arith in
+    let next : 9 + w ≡ 1 * 9 + p / 64 = omega arith in
+    record {
+      len = length-set (set old w v) (9 + w) u ∙ length-set old w v ∙ l;
+      put = rw (next, at) (two-put x p v u old l h (rw at at first) (rw (next, at) at second));
     }
 
 -- ---- one count

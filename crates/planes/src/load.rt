@@ -2,26 +2,47 @@
 use crate::digit::put_digit;
 use flows::cells_of;
 use flows::flows_of;
-ghost use Prim.Native.Nat.{ℕ, _^_, _<_, _≤_};
+ghost use Prim.Native.Nat.{ℕ, _%_, _^_, _<_, _≤_};
 ghost use mathlib.Core.Path.{_≡_};
 ghost use lib.ListN.{length};
 ghost use Rattle.model.specs.Flows.{flows, numberOf};
 ghost use Rattle.planes.specs.Steps.{Blank, Stored, Loaded};
 
-// One count, by those of its digits that are 1: the planes of the others have nothing there.
-fn store(count: u16, p: usize, planes: &mut [u64; 99])
-    requires { ⌜ (count < 2 ^ 11) × (p < 528) × (length (now planes) ≡ 99) ⌝ }
-    ensures { λ _. ⌜ Stored count p (now (planes .entry)) (now (planes .exit)) ⌝ }
+// The two lowest digits of a count, whatever they are.
+fn store_two(x: u64, p: usize, planes: &mut [u64; 99])
+    requires { ⌜ (p < 528) × (length (now planes) ≡ 99) ⌝ }
+    ensures { λ _. ⌜ Stored (x % 4) p (now (planes .entry)) (now (planes .exit)) ⌝ }
 {
     let w = p / 64;
     let i = p % 64;
-    let mut rest = count as u64;
+    planes[w] = put_digit(planes[w], i, x % 2);
+    planes[9 + w] = put_digit(planes[9 + w], i, x / 2 % 2);
+}
+
+// Those digits of a number that are 1: the planes of the others have nothing there.
+fn store_ones(x: u64, p: usize, planes: &mut [u64; 99])
+    requires { ⌜ (x < 2 ^ 11) × (p < 528) × (length (now planes) ≡ 99) ⌝ }
+    ensures { λ _. ⌜ Stored x p (now (planes .entry)) (now (planes .exit)) ⌝ }
+{
+    let w = p / 64;
+    let i = p % 64;
+    let mut rest = x;
     while rest != 0 {
         let b = u64::trailing_zeros(rest) as usize;
         let at = b * 9 + w;
         planes[at] = put_digit(planes[at], i, 1);
         rest = rest & (rest - 1);
     }
+}
+
+// One count. In a small frame most counts have no more than two digits, and which of these are 1 cannot be guessed.
+fn store(count: u16, p: usize, planes: &mut [u64; 99])
+    requires { ⌜ (count < 2 ^ 11) × (p < 528) × (length (now planes) ≡ 99) ⌝ }
+    ensures { λ _. ⌜ Stored count p (now (planes .entry)) (now (planes .exit)) ⌝ }
+{
+    let x = count as u64;
+    store_two(x, p, planes);
+    store_ones(x / 4 * 4, p, planes);
 }
 
 // The cells of every flow, at the position of its place in the list.
