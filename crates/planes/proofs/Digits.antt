@@ -11,7 +11,7 @@ use lib.Pow.{shr-shr, shl-exact}
 use borrow.Author.Tests.{eq-eqb, ne-eqb}
 use Rattle.model.specs.Words.{if}
 use Rattle.planes.specs.Digits.{digit, binary}
-use Rattle.planes.specs.Steps.{PutAt}
+use Rattle.planes.specs.Steps.{PutAt, TurnedAt}
 
 -- ---- one digit
 pub digit-most : (x i : ℕ) → digit x i ≤ 1
@@ -35,6 +35,13 @@ pub digit-past : (k x i : ℕ) → x < 2 ^ k → k ≤ i → digit x i ≡ 0
 digit-past zero x i h l = let z : x ≡ 0 = omega arith in ap (λ (y : ℕ). digit y i) z ∙ digit-none i
 digit-past (suc k) x zero h l = absurd (omega arith)
 digit-past (suc k) x (suc i) h l = sym (digit-half x i) ∙ digit-past k (x / 2) i (omega (arith, pow-suc 2 k)) (omega arith)
+
+-- ---- a choice by a position
+pub if-same : (q p d : ℕ) → q ≡ p → if (eqb q p) d 0 ≡ d
+if-same q p d e = rw (eq-eqb q p e)
+
+pub if-other : (q p d : ℕ) → q ≢ p → if (eqb q p) d 0 ≡ 0
+if-other q p d n = rw (ne-eqb q p n)
 
 -- ---- operations on words
 sum-first : (x y : ℕ) → bitXor x y % 2 + 2 * (bitAnd x y % 2) ≡ x % 2 + y % 2
@@ -69,12 +76,18 @@ put-at {x} {i} {d} h l =
     let fits : (d * 2 ^ i) % 2 ^ 64 ≡ d * 2 ^ i = shl-exact 1 i 64 (omega arith) (omega arith) in
     record { put = λ j. ap (λ (z : ℕ). digit (bitOr x z) j) fits ∙ digit-or x (d * 2 ^ i) j ∙ ap (max (digit x j)) (digit-shifted d i j l) }
 
--- ---- a choice by a position
-pub if-same : (q p d : ℕ) → q ≡ p → if (eqb q p) d 0 ≡ d
-if-same q p d e = rw (eq-eqb q p e)
-
-pub if-other : (q p d : ℕ) → q ≢ p → if (eqb q p) d 0 ≡ 0
-if-other q p d n = rw (ne-eqb q p n)
+pub turn-at : {x i : ℕ} → i < 64 → TurnedAt x i (bitXor x ((1 * 2 ^ i) % 2 ^ 64))
+turn-at {x} {i} h =
+    let fits : (1 * 2 ^ i) % 2 ^ 64 ≡ 1 * 2 ^ i = shl-exact 1 i 64 (omega arith) (omega arith) in
+    record {
+      here = ap (λ (z : ℕ). digit (bitXor x z) i) fits
+          ∙ omega (arith, turned i, digit-shifted 1 i i (omega arith), if-same i i 1 refl, digit-most x i, digit-most (bitXor x (1 * 2 ^ i)) i);
+      others = λ j n. ap (λ (z : ℕ). digit (bitXor x z) j) fits
+          ∙ omega (arith, turned j, digit-shifted 1 i j (omega arith), if-other j i 1 n, digit-most x j);
+    }
+  where
+    turned : (j : ℕ) → digit (bitXor x (1 * 2 ^ i)) j + 2 * digit (bitAnd x (1 * 2 ^ i)) j ≡ digit x j + digit (1 * 2 ^ i) j
+    turned j = digit-sum x (1 * 2 ^ i) j
 
 -- ---- a number by its digits
 pub twice-pow : (k y : ℕ) → 2 ^ suc k * y ≡ 2 * (2 ^ k * y)

@@ -15,6 +15,11 @@ use Rattle.planes.specs.Planes.{digitIn, digitAt, countAt, counts, oddsI
 pub record PutAt (x i d r : ℕ) : Type 0 where
   pub put : (j : ℕ) → digit r j ≡ max (digit x j) (if (eqb j i) d 0)
 
+-- The word x with digit i turned to the other is r.
+pub record TurnedAt (x i r : ℕ) : Type 0 where
+  pub here : digit r i ≡ 1 - digit x i
+  pub others : (j : ℕ) → j ≢ i → digit r j ≡ digit x j
+
 -- ---- load
 -- Nothing is in the planes.
 pub record Blank (planes : List ℕ) : Type 0 where

@@ -1,6 +1,9 @@
 // Digits of words.
+ghost use mathlib.Core.Path.{_≡_};
 ghost use Prim.Native.Nat.{_<_, _≤_};
-ghost use Rattle.planes.specs.Steps.{PutAt};
+ghost use lib.Dec.{eqb};
+ghost use Rattle.planes.specs.Digits.{digit};
+ghost use Rattle.planes.specs.Steps.{PutAt, TurnedAt};
 
 // A word with d put at digit i.
 pub fn put_digit(x: u64, i: usize, d: u64) -> u64
@@ -8,4 +11,20 @@ pub fn put_digit(x: u64, i: usize, d: u64) -> u64
     ensures { λ r. ⌜ PutAt x i d r ⌝ }
 {
     x | (d << i)
+}
+
+// A word with digit i turned to the other.
+pub fn turn_digit(x: u64, i: usize) -> u64
+    requires { ⌜ i < 64 ⌝ }
+    ensures { λ r. ⌜ TurnedAt x i r ⌝ }
+{
+    x ^ (1 << i)
+}
+
+// Digit i of a word is 1.
+pub fn has_digit(x: u64, i: usize) -> bool
+    requires { ⌜ i < 64 ⌝ }
+    ensures { λ r. ⌜ r ≡ eqb (digit x i) 1 ⌝ }
+{
+    (x >> i) % 2 == 1
 }

@@ -21,7 +21,7 @@ use Rattle.model.proofs.Singles.{every-both, Single, singles-every, singles-apa
 use Rattle.planes.specs.Digits.{digit}
 use Rattle.planes.proofs.Digits.{digit-most, digit-none, if-same, if-other}
 use Rattle.planes.proofs.Lowest.{rest, next-zeros, next-digit, next-fits}
-use Rattle.split.specs.Steps.{lookup, Outputs, Shared, Mates, portIn, thoseAt, Waits, Waiting, Held, Linked, heldAt, heldFrom, LinkedBoth, Joins, OddsOf, LinkedOut}
+use Rattle.split.specs.Steps.{lookup, Outputs, Shared, Mates, portIn, thoseAt, Waits, waitsAt, Waiting, Held, Linked, heldAt, heldFrom, LinkedBoth, Joins, OddsOf, LinkedOut}
 use Rattle.split.proofs.Lists.{every-snoc, every-kept}
 use Rattle.split.proofs.Linked.{Mated, even-in, odd-in, odd-held, odd-new, single-has, set-low, choice-low, waits-next}
 
@@ -104,7 +104,7 @@ module _ {comes : Bool} {mates : List ℕ} {p q : ℕ} where
   none-linked e = record { same = rw e }
 
 -- ---- the single ones of an output
-held-last : (held : List ℕ) (waits : List Bool) (x n : ℕ) → heldFrom held waits x (suc n) ≡ heldFrom held waits x n ++ heldAt held waits (x + n)
+held-last : (held : List ℕ) (waits x n : ℕ) → heldFrom held waits x (suc n) ≡ heldFrom held waits x n ++ heldAt held waits (x + n)
 held-last held waits x zero = append-nil (heldAt held waits x) ∙ ap (heldAt held waits) (omega arith)
 held-last held waits x (suc n) =
     let e : suc x + n ≡ x + suc n = omega arith in
@@ -112,23 +112,23 @@ held-last held waits x (suc n) =
     ∙ sym (append-assoc (heldAt held waits x) (heldFrom held waits (suc x) n) (heldAt held waits (x + suc n)))
 
 -- so many links of an output have been looked at, and one waits or none does
-pub record Joining (held : List ℕ) (waits : List Bool) (x l : ℕ) (before mates : List ℕ) (waiting : Bool) (one : ℕ) : Type 0 where
+pub record Joining (held : List ℕ) (waits x l : ℕ) (before mates : List ℕ) (waiting : Bool) (one : ℕ) : Type 0 where
   pub joins : Joins (heldFrom held waits x l) before mates
   pub waits-are : Waits waiting one (heldFrom held waits x l)
   pub one-low : one < 528
 
-pub joining-start : {held : List ℕ} {waits : List Bool} {x : ℕ} {mates : List ℕ} → Mates mates → Joining held waits x 0 mates mates false 0
+pub joining-start : {held : List ℕ} {waits x : ℕ} {mates : List ℕ} → Mates mates → Joining held waits x 0 mates mates false 0
 joining-start m = record { joins = record { mates-low = m; mated = λ a. tt; kept = λ a r al. refl }; waits-are = refl; one-low = omega arith }
 
-pub comes-low : {held : List ℕ} {waits : List Bool} {o l p : ℕ} → Waiting held waits → o < 16 → l < 4 → p ≡ getD held (o * 4 + l) 0 → p < 528
+pub comes-low : {held : List ℕ} {o l p : ℕ} → Waiting held → o < 16 → l < 4 → p ≡ getD held (o * 4 + l) 0 → p < 528
 comes-low {o = o} {l} w a b e = let h : o * 4 + l < 64 = omega arith in omega (arith, w .low (o * 4 + l) h)
 
-pub partner-low : {held : List ℕ} {waits : List Bool} {x l : ℕ} {before mates : List ℕ} {waiting : Bool} {one p q : ℕ}
+pub partner-low : {held : List ℕ} {waits x l : ℕ} {before mates : List ℕ} {waiting : Bool} {one p q : ℕ}
     → Joining held waits x l before mates waiting one → p < 528 → q ≡ if waiting one p → q < 528
 partner-low {waiting = b} {one} {p} j h f = rw f (choice-low b one p (j .one-low) h)
 
-pub joining-on : {held : List ℕ} {waits : List Bool} {o l : ℕ} {before mates : List ℕ} {waiting : Bool} {one p q : ℕ} {comes : Bool} {new : List ℕ} {next : ℕ} {after : Bool}
-    → Joining held waits (o * 4) l before mates waiting one → Waiting held waits → o < 16 → l < 4 → p ≡ getD held (o * 4 + l) 0 → comes ≡ getD waits (o * 4 + l) false
+pub joining-on : {held : List ℕ} {waits o l : ℕ} {before mates : List ℕ} {waiting : Bool} {one p q : ℕ} {comes : Bool} {new : List ℕ} {next : ℕ} {after : Bool}
+    → Joining held waits (o * 4) l before mates waiting one → Waiting held → o < 16 → l < 4 → p ≡ getD held (o * 4 + l) 0 → comes ≡ waitsAt waits (o * 4 + l)
     → q ≡ if waiting one p → LinkedBoth comes p q mates new → next ≡ if comes p one → after ≡ if comes (not waiting) waiting
     → Joining held waits (o * 4) (l + 1) before new after next
 joining-on {held} {waits} {o} {l} {before} {mates} {waiting} {one} {p} {q} {comes} {new} {next} {after} j w o-lt l-lt ep ec eq en ex ea =
@@ -154,7 +154,7 @@ joining-on {held} {waits} {o} {l} {before} {mates} {waiting} {one} {p} {q} {come
         last ∙ ap (λ (r : List ℕ). heldFrom held waits (o * 4) l ++ r) at ∙ append-nil (heldFrom held waits (o * 4) l) in
         record { joins = rw (e, en .same, c) (j .joins); waits-are = rw (e, ex, ea, c) (j .waits-are); one-low = rw (ex, c) (j .one-low) }
 
-pub joining-end : {held : List ℕ} {waits : List Bool} {x l : ℕ} {before mates : List ℕ} {waiting : Bool} {one : ℕ}
+pub joining-end : {held : List ℕ} {waits x l : ℕ} {before mates : List ℕ} {waiting : Bool} {one : ℕ}
     → Joining held waits x l before mates waiting one → l ≤ 4 → 4 ≤ l → Joins (heldFrom held waits x 4) before mates
 joining-end {held} {waits} {x} {l} {before} {mates} j a b =
     let e : l ≡ 4 = omega arith in subst (λ (n : ℕ). Joins (heldFrom held waits x n) before mates) e (j .joins)
@@ -163,10 +163,10 @@ joining-end {held} {waits} {x} {l} {before} {mates} j a b =
 those-are : (table m : List ℕ) (x : ℕ) → thoseAt table x (keep (odd m) (upFrom 0 (length m))) ≡ oddsAt (portIn table) m x
 those-are table m x = keep-keep (odd m) (λ p. eqb (portIn table p) x) (upFrom 0 (length m))
 
-module _ (table odds held : List ℕ) (k : ℕ) (waits : List Bool) (h : Held table odds k held waits) (m : List ℕ) (e : OddsOf odds k m) where
+module _ (table odds held : List ℕ) (k waits : ℕ) (h : Held table odds k held waits) (m : List ℕ) (e : OddsOf odds k m) where
   held-single : (x : ℕ) → x < 64 → heldAt held waits x ≡ single (oddsAt (portIn table) m x)
   held-single x l =
-      listed (getD waits x false) (getD held x 0) (thoseAt table x (take k odds)) (h .ports x l)
+      listed (waitsAt waits x) (getD held x 0) (thoseAt table x (take k odds)) (h .ports x l)
       ∙ ap single (ap (thoseAt table x) e ∙ those-are table m x)
     where
       listed : (b : Bool) (one : ℕ) (r : List ℕ) → Waits b one r → if b (one ∷ []) [] ≡ single r
@@ -221,7 +221,7 @@ module _ {table odds : List ℕ} {k shared left : ℕ} {before mates : List ℕ}
   pub linking-low : Outputs shared → next < 16
   linking-low few = few next next-shared
 
-  pub linking-on : {held : List ℕ} {waits : List Bool} {new : List ℕ} → Held table odds k held waits → Outputs shared → Joins (heldFrom held waits (next * 4) 4) mates new
+  pub linking-on : {held : List ℕ} {waits : ℕ} {new : List ℕ} → Held table odds k held waits → Outputs shared → Joins (heldFrom held waits (next * 4) 4) mates new
       → Linking table odds k shared (rest left) before new
   linking-on {held} {waits} {new} h few j =
       record {

@@ -17,7 +17,10 @@ use Rattle.model.specs.Schedule.{partnerIn}
 use Rattle.model.proofs.Cases.{byBool, byEq, byLt}
 use Rattle.model.proofs.Partners.{Rising, rising-apart, Apart, in-none, in-first, in-second, in-rest, rising-weaken, every-map}
 use Rattle.model.proofs.Singles.{single-every, every-both}
-use Rattle.split.specs.Steps.{Odds, Mates, lookup, portIn, thoseAt, mateAmong, Waits, Free, Held, Linked}
+use Rattle.planes.specs.Digits.{digit}
+use Rattle.planes.specs.Steps.{TurnedAt}
+use Rattle.planes.proofs.Digits.{digit-most, digit-none}
+use Rattle.split.specs.Steps.{Odds, Mates, lookup, portIn, thoseAt, mateAmong, Waits, waitsAt, Free, Held, Linked}
 use Rattle.split.proofs.Lists.{keep-snoc, every-snoc, position-low}
 
 -- ---- rising lists
@@ -171,13 +174,12 @@ choice-low true h p a c = a
 choice-low false h p a c = c
 
 -- ---- the state of the loop
-pub record Links (table odds : List ℕ) (i : ℕ) (mates held : List ℕ) (waits : List Bool) : Type 0 where
+pub record Links (table odds : List ℕ) (i : ℕ) (mates held : List ℕ) (waits : ℕ) : Type 0 where
   pub mates-low : Mates mates
   pub held-low : (x : ℕ) → x < 64 → getD held x 0 < 528
   pub helds : length held ≡ 64
-  pub flags : length waits ≡ 64
   pub mated : Every (Mated table mates (take i odds)) (take i odds)
-  pub ports : (x : ℕ) → x < 64 → Waits (getD waits x false) (getD held x 0) (thoseAt table x (take i odds))
+  pub ports : (x : ℕ) → x < 64 → Waits (waitsAt waits x) (getD held x 0) (thoseAt table x (take i odds))
 
 pub waits-next : (b : Bool) (h : ℕ) (l : List ℕ) (p : ℕ) → Waits b h l → Waits (not b) p (l ++ (p ∷ []))
 waits-next true h l p o = odd-single p h l o
@@ -189,60 +191,58 @@ mated-next : (table l : List ℕ) (p : ℕ) (mates : List ℕ) → Rising 0 (l +
 mated-next table l p mates up p-lt mated true h q o e = let s = rising-snoc 0 l p up in rw e (odd-mated table l p mates (s .0) (s .1) p-lt mated h o)
 mated-next table l p mates up p-lt mated false h q o e = let s = rising-snoc 0 l p up in rw e (even-mated table l p mates (s .0) (s .1) p-lt mated o)
 
-module _ (table l : List ℕ) (p : ℕ) (held : List ℕ) (waits : List Bool) (hl : length held ≡ 64) (wl : length waits ≡ 64)
-    (ports : (x : ℕ) → x < 64 → Waits (getD waits x false) (getD held x 0) (thoseAt table x l)) where
-  ports-next : (x : ℕ) → x < 64
-      → Waits (getD (set waits (portIn table p) (not (getD waits (portIn table p) false))) x false) (getD (set held (portIn table p) p) x 0) (thoseAt table x (l ++ (p ∷ [])))
+-- one waits after one more where none did, and the other way round; elsewhere as before
+waits-turned : (waits x next : ℕ) → TurnedAt waits x next → waitsAt next x ≡ not (waitsAt waits x)
+waits-turned waits x next t =
+    byEq (digit waits x) 1
+    (λ e. ne-eqb (digit next x) 1 (omega (arith, t .here)) ∙ sym (ap not (eq-eqb (digit waits x) 1 e)))
+    (λ n. eq-eqb (digit next x) 1 (omega (arith, t .here, digit-most waits x)) ∙ sym (ap not (ne-eqb (digit waits x) 1 n)))
+
+module _ (table l : List ℕ) (p : ℕ) (held : List ℕ) (waits next : ℕ) (hl : length held ≡ 64) (turn : TurnedAt waits (portIn table p) next)
+    (ports : (x : ℕ) → x < 64 → Waits (waitsAt waits x) (getD held x 0) (thoseAt table x l)) where
+  ports-next : (x : ℕ) → x < 64 → Waits (waitsAt next x) (getD (set held (portIn table p) p) x 0) (thoseAt table x (l ++ (p ∷ [])))
   ports-next x h =
-      let at = portIn table p in
-      let was = getD waits (portIn table p) false in
       byEq x (portIn table p)
       (λ e.
       let lt : portIn table p < 64 = mod-lt (lookup table p) {m = 64} (omega arith) in
-      rw (e, getD-set-same waits (portIn table p) (not was) false (omega arith), getD-set-same held (portIn table p) p 0 (omega arith), same-port table l p)
-      (waits-next was (getD held (portIn table p) 0) (thoseAt table (portIn table p) l) p (ports (portIn table p) lt)))
+      rw (e, waits-turned waits (portIn table p) next turn, getD-set-same held (portIn table p) p 0 (omega arith), same-port table l p)
+      (waits-next (waitsAt waits (portIn table p)) (getD held (portIn table p) 0) (thoseAt table (portIn table p) l) p (ports (portIn table p) lt)))
       (λ n.
       let n′ : portIn table p ≢ x = λ e. n (sym e) in
-      rw (getD-set-other waits (portIn table p) x (not was) false n, getD-set-other held (portIn table p) x p 0 n, other-port table l p x n′) (ports x h))
+      let same : waitsAt next x ≡ waitsAt waits x = ap (λ (d : ℕ). eqb d 1) (turn .others x n) in
+      rw (same, getD-set-other held (portIn table p) x p 0 n, other-port table l p x n′) (ports x h))
 
-pub links-start : {table odds mates held : List ℕ} {waits : List Bool} → Mates mates → Free held waits → Links table odds 0 mates held waits
+pub links-start : {table odds mates held : List ℕ} → Mates mates → Free held → Links table odds 0 mates held 0
 links-start m f =
     record {
       mates-low = m;
       held-low = λ x h. omega (arith, f .low x h);
       helds = f .helds;
-      flags = f .flags;
       mated = tt;
-      ports = λ x h. rw (f .none x h) refl;
+      ports = λ x h. rw (ne-eqb (digit 0 x) 1 (omega (arith, digit-none x))) refl;
     }
 
-pub all-free : Free (replicate 64 0) (replicate 64 false)
-all-free =
-    record {
-      helds = length-replicate {A = ℕ} 64 0;
-      flags = length-replicate 64 false;
-      low = λ x h. getD-replicate 64 x 0 0 h;
-      none = λ x h. getD-replicate 64 x false false h;
-    }
+pub all-free : Free (replicate 64 0)
+all-free = record { helds = length-replicate {A = ℕ} 64 0; low = λ x h. getD-replicate 64 x 0 0 h }
 
-pub other-low : {table odds : List ℕ} {i : ℕ} {mates held : List ℕ} {waits : List Bool} {p x q t k : ℕ}
+pub other-low : {table odds : List ℕ} {i : ℕ} {mates held : List ℕ} {waits p x q t k : ℕ} {b : Bool}
     → Links table odds i mates held waits → Odds odds k → i < k → p ≡ getD odds i 0 → x < 64
-    → q ≡ if (getD waits x false) (getD held x 0) p → t ≡ q → t < 528
-other-low {held = held} {waits} {p} {x} s o h e y u v = rw (v, u) (choice-low (getD waits x false) (getD held x 0) p (s .held-low x y) (own-low o h e refl))
+    → b ≡ waitsAt waits x → q ≡ if b (getD held x 0) p → t ≡ q → t < 528
+other-low {held = held} {p = p} {x} {b = b} s o h e y w u v = rw (v, u) (choice-low b (getD held x 0) p (s .held-low x y) (own-low o h e refl))
 
-pub links-on : {table odds : List ℕ} {i : ℕ} {mates held : List ℕ} {waits : List Bool} {p a x q t k : ℕ}
-    → Links table odds i mates held waits → i < k → Odds odds k → p ≡ getD odds i 0 → a ≡ p → x ≡ getD table a 0 % 64 → q ≡ if (getD waits x false) (getD held x 0) p → t ≡ q
-    → Links table odds (i + 1) (set (set mates a q) t p) (set held x p) (set waits x (not (getD waits x false)))
-links-on {table} {odds} {i} {mates} {held} {waits} {p} {a} {x} {q} {t} {k} s h o e f y u v =
+pub links-on : {table odds : List ℕ} {i : ℕ} {mates held : List ℕ} {waits p a x q t k next : ℕ} {b : Bool}
+    → Links table odds i mates held waits → i < k → Odds odds k → p ≡ getD odds i 0 → a ≡ p → x ≡ getD table a 0 % 64 → b ≡ waitsAt waits x → q ≡ if b (getD held x 0) p → t ≡ q
+    → TurnedAt waits x next → Links table odds (i + 1) (set (set mates a q) t p) (set held x p) next
+links-on {table} {odds} {i} {mates} {held} {waits} {p} {a} {x} {q} {t} {k} {next} {b} s h o e f y w u v turn =
     let g : i < length odds = omega (arith, o .positions .len, o .positions .most) in
     let a-lt = own-low o h e f in
     let x′ : x ≡ portIn table p = y ∙ ap (portIn table) f in
     let l′ : take (i + 1) odds ≡ take i odds ++ (p ∷ []) = rw (add-one, e) (take-suc odds i 0 g) in
-    let u′ : q ≡ if (getD waits (portIn table p) false) (getD held (portIn table p) 0) p = rw x′ at u in
+    let u′ : q ≡ if (waitsAt waits (portIn table p)) (getD held (portIn table p) 0) p = rw (w, x′) at u in
     let lt : portIn table p < 64 = mod-lt (lookup table p) {m = 64} (omega arith) in
     let p-lt : p < length mates = omega (arith, s .mates-low .len) in
     let up′ = rw l′ at (rising-take 0 (i + 1) k odds (omega arith) (o .rising)) in
-    let q-lt : q < 528 = other-low s o h e (rw x′ lt) u refl in
+    let q-lt : q < 528 = other-low s o h e (rw x′ lt) w u refl in
     record {
       mates-low = record {
         len = length-set (set mates a q) t p ∙ length-set mates a q ∙ s .mates-low .len;
@@ -250,13 +250,12 @@ links-on {table} {odds} {i} {mates} {held} {waits} {p} {a} {x} {q} {t} {k} s h o
       };
       held-low = λ y b. set-low held x p y (s .held-low y b) (omega arith);
       helds = length-set held x p ∙ s .helds;
-      flags = length-set waits x (not (getD waits x false)) ∙ s .flags;
       mated = rw (l′, v, f)
-          (mated-next table (take i odds) p mates up′ p-lt (s .mated) (getD waits (portIn table p) false) (getD held (portIn table p) 0) q (s .ports (portIn table p) lt) u′);
-      ports = rw (l′, x′) (ports-next table (take i odds) p held waits (s .helds) (s .flags) (s .ports));
+          (mated-next table (take i odds) p mates up′ p-lt (s .mated) (waitsAt waits (portIn table p)) (getD held (portIn table p) 0) q (s .ports (portIn table p) lt) u′);
+      ports = rw (l′, x′) (ports-next table (take i odds) p held waits next (s .helds) (rw x′ at turn) (s .ports));
     }
 
-module _ {table odds : List ℕ} {i k : ℕ} {mates held : List ℕ} {waits : List Bool} (s : Links table odds i mates held waits) (a : i ≤ k) (b : k ≤ i) where
+module _ {table odds : List ℕ} {i k : ℕ} {mates held : List ℕ} {waits : ℕ} (s : Links table odds i mates held waits) (a : i ≤ k) (b : k ≤ i) where
   all-linked : k ≡ i
   all-linked = omega arith
 
@@ -264,4 +263,4 @@ module _ {table odds : List ℕ} {i k : ℕ} {mates held : List ℕ} {waits : Li
   links-mated = record { mates-low = s .mates-low; same = rw all-linked (s .mated) }
 
   pub links-held : Held table odds k held waits
-  links-held = record { waiting = record { helds = s .helds; flags = s .flags; low = s .held-low }; ports = rw all-linked (s .ports) }
+  links-held = record { waiting = record { helds = s .helds; low = s .held-low }; ports = rw all-linked (s .ports) }

@@ -76,22 +76,22 @@ abbrev pub Waits : Bool → ℕ → List ℕ → Type 0
 Waits true h l = single l ≡ h ∷ []
 Waits false h l = single l ≡ []
 
--- Nothing waits at any of 64 ports; and what waits at each after the first k of a list.
-pub record Free (held : List ℕ) (waits : List Bool) : Type 0 where
-  pub helds : length held ≡ 64
-  pub flags : length waits ≡ 64
-  pub low : (x : ℕ) → x < 64 → getD held x 0 ≡ 0
-  pub none : (x : ℕ) → x < 64 → getD waits x false ≡ false
+-- One waits at port x: a word has a digit for each port.
+abbrev pub waitsAt : ℕ → ℕ → Bool
+waitsAt waits x = eqb (digit waits x) 1
 
--- Whatever waits is a position.
-pub record Waiting (held : List ℕ) (waits : List Bool) : Type 0 where
+-- Nobody is held at any of 64 ports; whoever is held is a position; and what waits at each after the first k of a list.
+pub record Free (held : List ℕ) : Type 0 where
   pub helds : length held ≡ 64
-  pub flags : length waits ≡ 64
+  pub low : (x : ℕ) → x < 64 → getD held x 0 ≡ 0
+
+pub record Waiting (held : List ℕ) : Type 0 where
+  pub helds : length held ≡ 64
   pub low : (x : ℕ) → x < 64 → getD held x 0 < 528
 
-pub record Held (table odds : List ℕ) (k : ℕ) (held : List ℕ) (waits : List Bool) : Type 0 where
-  pub waiting : Waiting held waits
-  pub ports : (x : ℕ) → x < 64 → Waits (getD waits x false) (getD held x 0) (thoseAt table x (take k odds))
+pub record Held (table odds : List ℕ) (k : ℕ) (held : List ℕ) (waits : ℕ) : Type 0 where
+  pub waiting : Waiting held
+  pub ports : (x : ℕ) → x < 64 → Waits (waitsAt waits x) (getD held x 0) (thoseAt table x (take k odds))
 
 -- The mates have for each of the first k of a list its partner among them.
 pub record Linked (table odds : List ℕ) (k : ℕ) (mates : List ℕ) : Type 0 where
@@ -99,10 +99,10 @@ pub record Linked (table odds : List ℕ) (k : ℕ) (mates : List ℕ) : Type 0 
   pub same : Every (λ p. lookup mates p ≡ mateAmong table (take k odds) p) (take k odds)
 
 -- Those that wait at n ports from x on, in their order.
-abbrev pub heldAt : List ℕ → List Bool → ℕ → List ℕ
-heldAt held waits x = if (getD waits x false) (getD held x 0 ∷ []) []
+abbrev pub heldAt : List ℕ → ℕ → ℕ → List ℕ
+heldAt held waits x = if (waitsAt waits x) (getD held x 0 ∷ []) []
 
-abbrev pub heldFrom : List ℕ → List Bool → ℕ → ℕ → List ℕ
+abbrev pub heldFrom : List ℕ → ℕ → ℕ → ℕ → List ℕ
 heldFrom held waits x zero = []
 heldFrom held waits x (suc n) = heldAt held waits x ++ heldFrom held waits (suc x) n
 

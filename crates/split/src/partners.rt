@@ -1,5 +1,7 @@
 // Partners: the odd counts of an input, or of a link, first with second, third with fourth, and so on; and of those that the links of an
 // output leave single, by rising link, the same.
+use planes::digit::has_digit;
+use planes::digit::turn_digit;
 use widths::byte;
 use widths::number;
 ghost use mathlib.Core.Path.{_≡_};
@@ -22,33 +24,34 @@ fn mate(waits: bool, held: u16, own: u16) -> u16
     if waits { held } else { own }
 }
 
-// Links each both ways with no branch that depends on the counts; one that stays single is its own partner, and is held.
+// Links each both ways with no branch that depends on the counts; one that stays single is its own partner, and is held. The answer has
+// a digit for each port or link at which one waits.
 fn link(
     odds: &[u16; 528],
     k: usize,
     table: &[u8; 528],
     mates: &mut [u16; 528],
     held: &mut [u16; 64],
-    waits: &mut [bool; 64],
-)
-    requires { ⌜ Odds (now odds) k × Mates (now mates) × Free (now held) (now waits) ⌝ }
-    ensures { λ _. ⌜ Linked (now (table .entry)) (now (odds .entry)) k (now (mates .exit))
-        × Held (now (table .entry)) (now (odds .entry)) k (now (held .exit)) (now (waits .exit)) ⌝ }
+) -> u64
+    requires { ⌜ Odds (now odds) k × Mates (now mates) × Free (now held) ⌝ }
+    ensures { λ r. ⌜ Linked (now (table .entry)) (now (odds .entry)) k (now (mates .exit))
+        × Held (now (table .entry)) (now (odds .entry)) k (now (held .exit)) r ⌝ }
 {
+    let mut waits: u64 = 0;
     let mut i: usize = 0;
     while i < k {
         let p = odds[i];
         let own = number(p);
         let port = port_index(table[own]);
-        let waiting = waits[port];
-        let q = mate(waiting, held[port], p);
+        let q = mate(has_digit(waits, port), held[port], p);
         let other = number(q);
         mates[own] = q;
         mates[other] = p;
         held[port] = p;
-        waits[port] = !waiting;
+        waits = turn_digit(waits, port);
         i += 1;
     }
+    waits
 }
 
 // At each input.
@@ -57,8 +60,7 @@ pub(crate) fn link_inputs(odds: &[u16; 528], k: usize, ins: &[u8; 528], mates: &
     ensures { λ _. ⌜ Linked (now (ins .entry)) (now (odds .entry)) k (now (mates .exit)) ⌝ }
 {
     let mut held = [0u16; 64];
-    let mut waits = [false; 64];
-    link(odds, k, ins, mates, &mut held, &mut waits);
+    link(odds, k, ins, mates, &mut held);
 }
 
 // Whether one waits after one more, if that comes.
@@ -80,9 +82,9 @@ fn link_both(comes: bool, p: u16, q: u16, mates: &mut [u16; 528])
 }
 
 // Those that the links of an output leave single, by rising link.
-fn link_singles(held: &[u16; 64], waits: &[bool; 64], output: usize, mates: &mut [u16; 528])
-    requires { ⌜ (output < 16) × Waiting (now held) (now waits) × Mates (now mates) ⌝ }
-    ensures { λ _. ⌜ Joins (heldFrom (now (held .entry)) (now (waits .entry)) (output * 4) 4) (now (mates .entry)) (now (mates .exit)) ⌝ }
+fn link_singles(held: &[u16; 64], waits: u64, output: usize, mates: &mut [u16; 528])
+    requires { ⌜ (output < 16) × Waiting (now held) × Mates (now mates) ⌝ }
+    ensures { λ _. ⌜ Joins (heldFrom (now (held .entry)) waits (output * 4) 4) (now (mates .entry)) (now (mates .exit)) ⌝ }
 {
     let mut one: u16 = 0;
     let mut waiting = false;
@@ -90,7 +92,7 @@ fn link_singles(held: &[u16; 64], waits: &[bool; 64], output: usize, mates: &mut
     while l < 4 {
         let x = output * 4 + l;
         let p = held[x];
-        let comes = waits[x];
+        let comes = has_digit(waits, x);
         link_both(comes, p, mate(waiting, one, p), mates);
         one = mate(comes, p, one);
         waiting = waits_after(waiting, comes);
@@ -110,12 +112,11 @@ pub(crate) fn link_outputs(
     ensures { λ _. ⌜ LinkedOut shared (now (outs .entry)) (now (odds .entry)) k (now (mates .exit)) ⌝ }
 {
     let mut held = [0u16; 64];
-    let mut waits = [false; 64];
-    link(odds, k, outs, mates, &mut held, &mut waits);
+    let waits = link(odds, k, outs, mates, &mut held);
     let mut rest = shared;
     while rest != 0 {
         let o = u64::trailing_zeros(rest) as usize;
-        link_singles(&held, &waits, o, mates);
+        link_singles(&held, waits, o, mates);
         rest = rest & (rest - 1);
     }
 }

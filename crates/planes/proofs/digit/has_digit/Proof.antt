@@ -1,0 +1,15 @@
+use borrow.Author.Needs.{needs}
+use Rattle.planes.specs.Digits.{digit}
+use Rattle.planes.proofs.digit.has_digit.Statement.{statement}
+use Rattle.planes.proofs.digit.has_digit.Tie as tie
+
+returns : tie.Need-returns
+unfolding digit
+returns c = search needs
+
+pub has-digit-spec : {M : Type 1} → statement M
+has-digit-spec =
+    tie.close
+    (tie.spec
+    (λ c. search needs)
+    returns)
