@@ -33,7 +33,7 @@ pub record Sides (n : ℕ) (ins outs : List ℕ) : Type 0 where
   pub most : n ≤ 528
   pub low : (s : Side) (p : ℕ) → p < n → tabled ins outs s p < 64
 
--- A word has a digit for each of 16 outputs, and none else.
+-- The digits of a word that are 1 are those of outputs, of which there are 16.
 abbrev pub Outputs : ℕ → Type 0
 Outputs shared = (o : ℕ) → digit shared o ≡ 1 → o < 16
 
