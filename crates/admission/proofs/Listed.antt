@@ -9,7 +9,8 @@ use Rattle.model.specs.declared.Refusal.{Refusal}
 use Rattle.model.specs.declared.Answer.{Answer}
 use Rattle.model.specs.declared.Answer.the-variants.{Accepted, Refused}
 use Rattle.model.proofs.Reports.{clear-none, report-stops}
-use Rattle.model.proofs.Demand2.{WellFormed, clear-well}
+use Rattle.model.specs.Demand2.{WellFormed}
+use Rattle.model.proofs.Demand2.{clear-well}
 use Rattle.admission.specs.Lists.{ListAnswer, Taken}
 
 module _ {ports slots : ℕ} {list : List ℕ} {a : Answer} (l : ListAnswer ports slots list (answered a)) where

@@ -8,7 +8,7 @@ use native.Mathlib.Numerals.{add-one}
 use lib.Dec.{eqb, ltb}
 use borrow.Author.Tests.{eq-eqb, ne-eqb, lt-ltb, le-ltb}
 use Rattle.model.specs.Words.{first}
-use Rattle.model.specs.Refusals.{levels}
+use Rattle.model.specs.Frames.{levels}
 use Rattle.model.proofs.Searches.{Passed, passed-start, passed-on, passed-found, passed-done}
 
 -- ---- the level of slots: power is 2 ^ k, and no lower power is slots

@@ -4,7 +4,7 @@ use mathlib.Core.Path.{_≡_}
 use mathlib.Core.List.{List}
 use Rattle.model.specs.Flows.{flows}
 use Rattle.model.specs.Refusals.{report, accepted, listChecks}
-use Rattle.model.proofs.Reports.{Ported, Linked}
+use Rattle.model.specs.Demand2.{Ported, Linked}
 
 -- The answer is theirs: 1, 2, 3, 21, 22, 23, or accepted.
 pub record ListAnswer (ports slots : ℕ) (list answer : List ℕ) : Type 0 where

@@ -13,12 +13,11 @@ use mir.Val.{Fits}
 use borrow.Author.Tests.{lt-ltb, le-ltb, lt-leb, le-leb, not-true, not-false}
 use Rattle.model.specs.Words.{first, near}
 use Rattle.model.specs.Flows.{flows, Class, flow, input, output, link, total}
-use Rattle.model.specs.Frames.{runOf}
-use Rattle.model.specs.Refusals.{levels, report}
+use Rattle.model.specs.Frames.{runOf, levels}
+use Rattle.model.specs.Refusals.{report}
 use Rattle.model.specs.Inspect.{unbalanced, unbalancedNumber, firstAt, unbalancedAt, unbalancedBlock}
 use Rattle.model.proofs.Searches.{Passed, passed-start, passed-on, passed-found, passed-done, first-low, first-found, first-before}
-use Rattle.model.proofs.Levels.{levels-power, depth-half, depth-fill}
-use Rattle.model.proofs.OneFrame.{double}
+use Rattle.model.proofs.Levels.{levels-power, depth-half, depth-fill, double}
 use Rattle.model.proofs.Inspected.{In, nearFor, unbalanced-yes, unbalanced-no}
 use Rattle.tally.specs.Tally.{place, Readable, tallyOf}
 use Rattle.tally.proofs.Tallies.{tally-class}

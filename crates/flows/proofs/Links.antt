@@ -4,7 +4,7 @@ use mathlib.Core.Path.{_≡_, sym}
 use mathlib.Core.List.{List}
 use native.Mathlib.Omega.{arith}
 use Rattle.model.specs.Flows.{numberOf, links, portOf}
-use Rattle.model.proofs.Cases.{Within}
+use Rattle.model.specs.Words.{Within}
 
 module _ (list : List ℕ) (f o l : ℕ) (output : o ≡ numberOf 1 list f) (link : l ≡ numberOf 3 list f) where
   pub link-is : (o - 1) * 4 + (l - 1) ≡ portOf list links f

@@ -21,7 +21,7 @@ use Rattle.model.proofs.Levels.{levels-power}
 use Rattle.model.proofs.Halves.{load-flow}
 use Rattle.model.proofs.Flows.{counts-at}
 use Rattle.model.proofs.Cells.{run-all}
-use Rattle.model.proofs.Reports.{Ported}
+use Rattle.model.specs.Demand2.{Ported}
 use Rattle.tally.specs.Tally.{Readable, tallyOf}
 use Rattle.tally.proofs.Tallies.{tally-class}
 use Rattle.inspection.specs.Faults.{Lent, wrongIn}

@@ -4,8 +4,8 @@ use mathlib.Core.Path.{_≡_}
 use mathlib.Core.List.{List, [], _∷_}
 use mathlib.Core.Bool.{Bool, not}
 use lib.ListN.{length, getD}
-use Rattle.model.specs.Frames.{right}
-use Rattle.model.specs.Refusals.{levels, report}
+use Rattle.model.specs.Frames.{right, levels}
+use Rattle.model.specs.Refusals.{report}
 use Rattle.model.specs.Inspect.{wrongEntry, outputTwice, flowCount, unbalancedBlock}
 use Rattle.tally.specs.Tally.{Switch}
 

@@ -6,7 +6,7 @@ ghost use Rattle.model.specs.Words.{first};
 ghost use Rattle.model.specs.Flows.{flows};
 ghost use Rattle.model.specs.Frames.{right, runOf};
 ghost use Rattle.model.specs.Inspect.{finding, isWrong, twiceIn, usedTwice, wrongCount, inspected};
-ghost use Rattle.model.proofs.Reports.{Ported};
+ghost use Rattle.model.specs.Demand2.{Ported};
 ghost use Rattle.tally.specs.Tally.{Readable};
 ghost use Rattle.inspection.specs.Faults.{Lent, wrongIn, faults};
 use admission::bad_length;

@@ -13,7 +13,7 @@ use Rattle.model.specs.Wire.{deviation}
 use Rattle.model.proofs.Cells.{cells-none, cells-run, run-none, run-all}
 use Rattle.model.proofs.Blocks.{block-fits}
 use Rattle.model.proofs.Legal.{legal-exact}
-use Rattle.model.proofs.OneFrame.{double}
+use Rattle.model.proofs.Levels.{double}
 
 -- ---- the deviation: with each halving twice as much at least, so that in cells it rises, and by a cell at most
 pub deviation-rises : (d : ℕ) → (2 * deviation d ≤ deviation (suc d)) × (deviation (suc d) ≤ 2 * deviation d + 2 ^ suc d)

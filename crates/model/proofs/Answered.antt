@@ -8,23 +8,25 @@ use lib.IntN.{ℤ, pos, _-ℤ_}
 use lib.ListN.{length, getD}
 use borrow.Author.Tests.{not-false}
 use Rattle.model.specs.Flows.{flows, portOf, countsOf, Class, flow, input, output}
-use Rattle.model.specs.Frames.{cells}
+use Rattle.model.specs.Frames.{cells, repeated, Power}
 use Rattle.model.specs.Refusals.{Check, report, clear, bad-ports, bad-slots, bad-list, bad-flows, bad-flow, bad-link, listChecks, bad-frame, bad-slot, overloads, admitted}
 use Rattle.model.specs.Schedule.{frameOf}
 use Rattle.model.specs.Work.{work}
 use Rattle.model.specs.Build.{left, buildChecks, acceptance, built}
 use Rattle.model.specs.Inspect.{wrongEntry, outputTwice, flowCount, unbalancedBlock, inspected}
-use Rattle.model.specs.Service.{viewChecks, viewNumber, viewStart, viewSize, viewed, classOf, bad-who, bad-length, repeated, lead, Reply, countChecks, service}
+use Rattle.model.specs.Service.{viewChecks, viewNumber, viewStart, viewSize, viewed, classOf, bad-who, bad-length, lead, Reply, countChecks, service}
 use Rattle.model.specs.declared.Who.{Who}
 use Rattle.model.specs.declared.Who.the-variants.{Flow, Input, Output}
-use Rattle.model.proofs.Cases.{from-one, byLt, Within, within-yes, within-true}
-use Rattle.model.proofs.Levels.{Power, power-level}
+use Rattle.model.proofs.Cases.{from-one, byLt, within-yes, within-true}
+use Rattle.model.specs.Words.{Within}
+use Rattle.model.proofs.Levels.{power-level}
 use Rattle.model.proofs.OneFrame.{only-frame}
 use Rattle.model.proofs.Reports.{Tells, ports-tells, slots-tells, list-tells, flows-tells, flow-tells, link-tells, frame-tells, clear-then, clear-none, clear-some, broken, byFact, slot-tells, length-tells}
 use Rattle.model.proofs.Replies.{count, reply-refused, reply-counted}
 use Rattle.model.proofs.Integers.{minus-ahead, minus-behind}
 use Rattle.model.proofs.Overloads.{byOver, byPast}
-use Rattle.model.proofs.Demand2.{WellFormed, well-clear, past-load, past-frame, well-frame, light-fits, admit-answers, build-answers, accepts-yes, build-keeps}
+use Rattle.model.specs.Demand2.{WellFormed}
+use Rattle.model.proofs.Demand2.{well-clear, past-load, past-frame, well-frame, light-fits, admit-answers, build-answers, accepts-yes, build-keeps}
 use Rattle.model.proofs.Answers.{Exactly, exactly, RackRefused, ports-1, slots-2, LoadRefused, FrameRefused, SlotRefused, rack, list-3, flows-21, flow-22, link-23, load-refused, frame-4, slot-11, SlotFound, Admits, refused, input-5, output-6, link-24, accepted, Builds, Inspects, found, Views, seen, Names, of-flow, of-input, of-output, RunFound, Counts, start-11, who-12, length-13, counted-ahead, counted-behind, ByCases}
 use Rattle.model.proofs.Clean.{find-only, fault-means}
 use Rattle.model.proofs.Responses.{respond-exactly}

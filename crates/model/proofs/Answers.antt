@@ -6,15 +6,15 @@ use mathlib.Core.Bool.{true}
 use mathlib.Core.List.{List, [], _∷_, _++_, map}
 use lib.IntN.{pos, negsuc}
 use lib.ListN.{length, getD, take, drop}
-use Rattle.model.specs.Words.{Near}
+use Rattle.model.specs.Words.{Near, Within}
 use Rattle.model.specs.Flows.{stride, flows, outputOf, portOf, countsOf, Class, flow, input, output, link, Of, load, Fits}
-use Rattle.model.specs.Frames.{right, cells, runOf, Legal, Block, Balanced}
+use Rattle.model.specs.Frames.{right, cells, runOf, Legal, Block, Balanced, repeated, Power}
 use Rattle.model.specs.Refusals.{admitted, refusal, answered}
 use Rattle.model.specs.Rules.{Scheduled}
 use Rattle.model.specs.Work.{work}
 use Rattle.model.specs.Build.{left, outcome, built}
 use Rattle.model.specs.Inspect.{inspected, finding}
-use Rattle.model.specs.Service.{viewNumber, viewStart, viewSize, viewed, repeated, Reply, served, service}
+use Rattle.model.specs.Service.{viewNumber, viewStart, viewSize, viewed, Reply, served, service}
 use Rattle.model.specs.Sheet.{text, portsLine, slotsLine, pairLine, Asked, loads, printFrame, printRefusal, response}
 use Rattle.model.specs.Sheet as asked
 use Rattle.model.specs.declared.Refusal.{Refusal}
@@ -29,11 +29,7 @@ use Rattle.model.specs.declared.Who.the-variants.{Flow, Input, Output}
 use Rattle.model.specs.declared.Count.{Count}
 use Rattle.model.specs.declared.Service.the-variants as served-as
 use Rattle.model.specs.declared.Service.the-variants.{Counted}
-use Rattle.model.proofs.Cases.{Within}
-use Rattle.model.proofs.Levels.{Power}
-use Rattle.model.proofs.Reports.{Ported, Linked}
-use Rattle.model.proofs.Overloads.{Light, Over, Allows, Past}
-use Rattle.model.proofs.Demand2.{WellFormed, Accepts}
+use Rattle.model.specs.Demand2.{Ported, Linked, Light, Over, Allows, Past, WellFormed, Accepts}
 
 -- Some case holds of the answer, and what any case says is the answer.
 abbrev pub Exactly : {A : Type 0} → (A → Type 0) → A → Type 0

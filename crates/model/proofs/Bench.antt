@@ -9,13 +9,13 @@ use lib.IntN.{ℤ, pos, negsuc}
 use lib.ListN.{replicate}
 use Rattle.model.specs.Words.{Near, sumTo}
 use Rattle.model.specs.Flows.{portOf, countsOf, flow, loadIn}
-use Rattle.model.specs.Frames.{cells, runOf}
+use Rattle.model.specs.Frames.{cells, runOf, repeated}
 use Rattle.model.specs.Refusals.{slotsEach, admitted}
 use Rattle.model.specs.Schedule.{walk, settleAt, favours, slotOf, frameOf}
 use Rattle.model.specs.Work.{work}
 use Rattle.model.specs.Build.{buildChecks, built, left}
 use Rattle.model.specs.Inspect.{isWrong, twiceIn, usedTwice, wrongCount, unbalanced, unbalancedNumber, unbalancedAt, inspected}
-use Rattle.model.specs.Service.{viewChecks, viewNumber, viewStart, viewSize, viewed, repeated, lead, Reply, countChecks, service}
+use Rattle.model.specs.Service.{viewChecks, viewNumber, viewStart, viewSize, viewed, lead, Reply, countChecks, service}
 use Rattle.model.specs.Wire.{Carried, none, chain, cellsAt, cellsIn, share, Accurate}
 use Rattle.model.specs.Sheet.{text, digits, portsLine, slotsLine, pairLine, lines, numbersFrom, readPairs, loads, readSheet, printSlots, response}
 use Rattle.model.specs.declared.Who.{Who}

@@ -6,7 +6,7 @@ use mathlib.Core.Bool.{Bool, true, false, true≢false}
 use native.Mathlib.Omega.{arith}
 use lib.Dec.{eqb, ltb, leb}
 use borrow.Author.Tests.{eqb-true, eqb-false, eq-eqb, ne-eqb, ltb-true, ltb-false, leb-true, le-leb, lt-leb}
-use Rattle.model.specs.Words.{both, bit, within}
+use Rattle.model.specs.Words.{both, bit, within, Within}
 
 pub byBool : {P : Type 0} (b : Bool) → (b ≡ true → P) → (b ≡ false → P) → P
 byBool true f g = f refl
@@ -38,10 +38,6 @@ pub is-no : (x h : ℕ) → x ≢ h → bit (eqb x h) ≡ 0
 is-no x h n = rw (ne-eqb x h n)
 
 -- ---- a range
--- n is one of low, low + 1, .., high
-abbrev pub Within : ℕ → ℕ → ℕ → Type 0
-Within low high n = (low ≤ n) × (n ≤ high)
-
 pub within-yes : (low high n : ℕ) → low ≤ n → n ≤ high → within low high n ≡ true
 within-yes low high n a b = rw (le-leb low n a, le-leb n high b)
 

@@ -19,7 +19,8 @@ use Rattle.model.specs.Queue.{HeldOn}
 use Rattle.model.specs.Wait.{bySharp, WaitsOn, BlocksOn, PacedOn}
 use Rattle.model.proofs.Cases.{byBool}
 use Rattle.model.proofs.Reports.{report-found, report-on}
-use Rattle.model.proofs.Demand2.{WellFormed, past-frame, accepts-is, build-sound}
+use Rattle.model.specs.Demand2.{WellFormed}
+use Rattle.model.proofs.Demand2.{past-frame, accepts-is, build-sound}
 use Rattle.model.proofs.Demand3.{Sound, sound-sharp, sound-accurate}
 use Rattle.model.proofs.Leads.{sound-lead}
 use Rattle.model.proofs.Queues.{sound-held}

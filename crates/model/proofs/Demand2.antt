@@ -8,46 +8,26 @@ use native.Mathlib.Omega.{arith}
 use lib.ListN.{length, getD}
 use borrow.Author.Tests.{not-true}
 use Rattle.model.specs.Flows.{stride, flows, inputs, outputOf, portOf, countsOf, input, output, link, load, Fits}
-use Rattle.model.specs.Frames.{Legal, Balanced}
-use Rattle.model.specs.Refusals.{Check, report, clear, accepted, bad-ports, bad-slots, bad-list, bad-flows, bad-flow, bad-link, listChecks, bad-frame, overload, portOverloads, linkOverload, overloads, levels, admitted}
+use Rattle.model.specs.Frames.{Legal, Balanced, levels, Power}
+use Rattle.model.specs.Demand2.{WellFormed, OverloadAnswers, Accepts, Light, Over, Allows, Past, Demand2}
+use Rattle.model.specs.Refusals.{Check, report, clear, accepted, bad-ports, bad-slots, bad-list, bad-flows, bad-flow, bad-link, listChecks, bad-frame, overload, portOverloads, linkOverload, overloads, admitted}
 use Rattle.model.specs.Rules.{Scheduled}
 use Rattle.model.specs.Schedule.{frameOf}
 use Rattle.model.specs.Build.{buildChecks, acceptance, built, buildAccepts, left}
-use Rattle.model.proofs.Cases.{Within, both-true}
-use Rattle.model.proofs.Levels.{Power, levels-power, power-known}
+use Rattle.model.specs.Words.{Within}
+use Rattle.model.proofs.Cases.{both-true}
+use Rattle.model.proofs.Levels.{levels-power, power-known}
 use Rattle.model.proofs.Flows.{counts-length}
 use Rattle.model.proofs.Slots.{Placed}
-use Rattle.model.proofs.OneFrame.{frame-is, OneFrame, one-frame}
-use Rattle.model.proofs.Reports.{Ported, Linked, report-found, report-on, report-clear, report-then, clear-then, clear-parts, clear-none, ports-tells, slots-tells, list-tells, flows-tells, flow-tells, link-tells, frame-tells}
-use Rattle.model.proofs.Overloads.{Light, Over, over-reported, overload-tells, Allows, Past, link-reported, limits-tell}
-
--- ---- well-formed: none of the refusals before 5 holds
-pub record WellFormed (ports slots : ℕ) (list : List ℕ) : Type 0 where
-  pub rack : Within 1 16 ports
-  pub power : Power slots
-  pub whole : length list % stride ≡ 0
-  pub few : flows list ≤ 512
-  pub ported : Ported ports list
-  pub linked : Linked list
+use Rattle.model.proofs.OneFrame.{frame-is, one-frame}
+use Rattle.model.specs.OneFrame.{OneFrame}
+use Rattle.model.proofs.Reports.{report-found, report-on, report-clear, report-then, clear-then, clear-parts, clear-none, ports-tells, slots-tells, list-tells, flows-tells, flow-tells, link-tells, frame-tells}
+use Rattle.model.proofs.Overloads.{over-reported, overload-tells, link-reported, limits-tell}
 
 -- the first n flows are at inputs of the switch
 pub well-placed : {ports slots : ℕ} {list : List ℕ} → WellFormed ports slots list → Placed ports (portOf list) (flows list)
 unfolding portOf
 well-placed w f h = let p = w .ported inputs f h in omega arith
-
--- What Admit, and Build lent a frame of the right size, answer to a well-formed load, where acceptance is `taken`.
-pub record OverloadAnswers (ports slots : ℕ) (list limits taken given : List ℕ) : Type 0 where
-  -- accepted exactly where it fits and the limits allow it
-  pub accepts : Fits ports slots (portOf list) (countsOf list) → Allows ports list limits → given ≡ taken
-  pub fits : getD given 0 0 ≡ 0 → Fits ports slots (portOf list) (countsOf list)
-  pub allowed : getD given 0 0 ≡ 0 → Allows ports list limits
-  -- 5 with the lowest input that is asked for more, and its load
-  pub input-over : (x : ℕ) → Over input ports slots list x → given ≡ 5 ∷ suc x ∷ load (input x) list ∷ []
-  -- 6, where no input is, with the lowest output that is asked for more, and its load
-  pub output-over : Light input ports slots list → (x : ℕ) → Over output ports slots list x → given ≡ 6 ∷ suc x ∷ load (output x) list ∷ []
-  -- 24, where no port is, with the lowest link that is asked for more, by its output and its number there, and its load
-  pub link-over : Light input ports slots list → Light output ports slots list → (x : ℕ) → Past ports list limits x
-      → given ≡ 24 ∷ suc (outputOf x) ∷ suc (x % 4) ∷ load (link x) list ∷ []
 
 module _ (ports slots : ℕ) (list : List ℕ) where
   -- a load fits where its inputs and its outputs are light
@@ -173,13 +153,6 @@ well-frame ports slots list w fits =
     (subst (λ (n : ℕ). Fits ports n (portOf list) (countsOf list)) (w .power .is) fits)
 
 -- ---- Build
--- What Build accepts: a well-formed load that fits, limits that allow it, and a frame of the right size.
-pub record Accepts (ports slots : ℕ) (list limits buffer : List ℕ) : Type 0 where
-  pub well : WellFormed ports slots list
-  pub size : length buffer ≡ slots * ports
-  pub fits : Fits ports slots (portOf list) (countsOf list)
-  pub allowed : Allows ports list limits
-
 -- it is accepted exactly there
 pub accepts-is : (ports slots : ℕ) (list limits buffer : List ℕ) → buildAccepts ports slots list limits buffer ≡ true
     → Accepts ports slots list limits buffer
@@ -221,3 +194,15 @@ build-sound ports slots list limits buffer e =
 pub build-keeps : (ports slots : ℕ) (list limits buffer : List ℕ) → buildAccepts ports slots list limits buffer ≡ false
     → left ports slots list limits buffer ≡ buffer
 build-keeps ports slots list limits buffer e = rw e
+
+-- All of demand 2.
+pub demand2 : Demand2
+demand2 =
+    record {
+      admit = admit-answers;
+      build = build-answers;
+      accepts = accepts-yes;
+      accepted-only = accepts-is;
+      frame = build-frame;
+      keeps = build-keeps;
+    }

@@ -13,12 +13,13 @@ use Rattle.model.specs.Flows.{Class, Of, load}
 use Rattle.model.specs.Frames.{cells, runOf, Legal, Balanced}
 use Rattle.model.specs.Build.{buildAccepts, left}
 use Rattle.model.specs.Wire.{Call, Carried, Last, none, last, carry, next, chain, cellsAt, cellsIn, inside, share, Shape, Accurate, Demand3, deviation, NearShare, SharpRun, SharpOn, Sharp}
+use Rattle.model.proofs.Lists.{every-append, every-replicate}
 use Rattle.model.proofs.Sums.{sum-none, sum-ext, sum-append}
 use Rattle.model.proofs.Cells.{cells-none, run-none, run-all}
 use Rattle.model.proofs.Runs.{cells-slots}
 use Rattle.model.proofs.Legal.{legal-exact}
 use Rattle.model.proofs.Accuracy.{deviation-most, prefix-sharp}
-use Rattle.model.proofs.Overloads.{Allows}
+use Rattle.model.specs.Demand2.{Allows}
 use Rattle.model.proofs.Demand2.{accepts-is, build-sound, build-keeps}
 
 -- a carried frame is legal for its load, and balanced
@@ -198,14 +199,6 @@ sound-accurate ports k fs sound shape start len fits c of =
     omega (arith, law, deviation-most k)
 
 -- ---- what holds of every frame that an accepted Build leaves holds of every one that a list of Build calls carries
-every-append : {A : Type 0} (P : A → Type 0) (xs ys : List A) → Every P xs → Every P ys → Every P (xs ++ ys)
-every-append P [] ys p q = q
-every-append P (x ∷ xs) ys p q = (p .0, every-append P xs ys (p .1) q)
-
-every-replicate : {A : Type 0} (P : A → Type 0) (n : ℕ) (x : A) → P x → Every P (replicate n x)
-every-replicate P zero x p = tt
-every-replicate P (suc n) x p = (p, every-replicate P n x p)
-
 module _ (P : Carried → Type 0)
     (built : (c : Call) (buffer : List ℕ) → buildAccepts (c .ports) (c .slots) (c .list) (c .limits) buffer ≡ true
     → P (record { call = c; entries = left (c .ports) (c .slots) (c .list) (c .limits) buffer })) where

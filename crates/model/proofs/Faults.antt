@@ -11,12 +11,12 @@ use lib.Pow.{pow-pos}
 use borrow.Author.Tests.{lt-ltb, le-ltb, ltb-true, ltb-false, eq-eqb, eqb-true, not-false}
 use Rattle.model.specs.Words.{first}
 use Rattle.model.specs.Flows.{flows, flow, output, load}
-use Rattle.model.specs.Frames.{cells, runOf, Block, Balanced}
-use Rattle.model.specs.Refusals.{Check, levels}
+use Rattle.model.specs.Frames.{cells, runOf, Block, Balanced, levels, Power}
+use Rattle.model.specs.Refusals.{Check}
 use Rattle.model.specs.Inspect.{firstPlace, isWrong, twiceIn, usedTwice, wrongCount, unbalancedNumber, firstAt, unbalancedAt, wrongEntry, outputTwice, flowCount, unbalancedBlock}
 use Rattle.model.proofs.Cases.{byEq, byBool, byLt}
 use Rattle.model.proofs.Searches.{first-found, first-before, first-is, first-none}
-use Rattle.model.proofs.Levels.{Power, pow-less, levels-power, power-known, depth-size, depth-half}
+use Rattle.model.proofs.Levels.{pow-less, levels-power, power-known, depth-size, depth-half}
 use Rattle.model.proofs.Blocks.{number-block, block-numbered}
 use Rattle.model.proofs.Reports.{Tells, search-tells}
 use Rattle.model.proofs.Inspected.{in-of, near-yes, unbalanced-no, balanced-near}

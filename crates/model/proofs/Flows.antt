@@ -7,10 +7,10 @@ use native.Mathlib.Omega.{arith}
 use lib.Dec.{eqb}
 use lib.ListN.{length, getD}
 use borrow.Author.Tests.{eqb-true, eq-eqb, ne-eqb}
-use Rattle.model.specs.Words.{if, both, bit, upFrom, sumIf}
+use Rattle.model.specs.Words.{if, both, bit, upFrom, sumIf, Within}
 use Rattle.model.specs.Flows.{flows, numberOf, Side, inputs, links, outputOf, portOf, countsOf, Class, flow, input, output, link, total, isOf, loadIn}
 use Rattle.model.specs.Frames.{isFlow, right, counts, cells}
-use Rattle.model.proofs.Cases.{byBool, byEq, both-true, is-yes, is-no, Within, within-yes, within-true}
+use Rattle.model.proofs.Cases.{byBool, byEq, both-true, is-yes, is-no, within-yes, within-true}
 use Rattle.model.proofs.Sums.{sum-ext, sum-le, sum-zero, sum-one, sum-swap}
 
 -- ---- the counts of a list

@@ -20,7 +20,8 @@ use Rattle.model.proofs.Singles.{mate, rule-partner, partner-rule}
 use Rattle.model.proofs.Walks.{Good, Pairing, walk-on, walk-off}
 use Rattle.model.proofs.Favouring.{favouring-sum}
 use Rattle.model.proofs.Shares.{Level}
-use Rattle.model.proofs.Settled.{Settled, Keeps, Taken, settle-cases, scan, scan-settled, scan-keeps, scan-done, scan-level, zero-at}
+use Rattle.model.proofs.Settled.{Settled, Keeps, Taken, settle-cases, scan, scan-settled, scan-keeps, scan-done, scan-level}
+use Rattle.model.proofs.Lists.{zero-at}
 
 -- what is reached from p by partners
 pub data Reached (f : Side → ℕ → ℕ) (p : ℕ) : ℕ → Type 0 where

@@ -16,7 +16,8 @@ use Rattle.model.specs.Schedule.{favouring, favours, halfOf}
 use Rattle.model.proofs.Cases.{byBool, byEq, byLt}
 use Rattle.model.proofs.Sums.{sum-none, sum-ext, sum-add, sum-shift, sum-swap, sum-zero, sum-one, sum-has}
 use Rattle.model.proofs.Kept.{sumOver, over-append, kept-sum}
-use Rattle.model.proofs.Partners.{every-map, AtPort, odds-every}
+use Rattle.model.proofs.Lists.{every-map}
+use Rattle.model.proofs.Partners.{AtPort, odds-every}
 use Rattle.model.proofs.Singles.{Single, singles-every}
 use Rattle.model.proofs.Favouring.{favouring-sum}
 use Rattle.model.proofs.Settled.{favours-law, favours-level}

@@ -1,5 +1,5 @@
 -- What is kept of a list: the numbers from a on that pass a test, their number, and sums over them.
-use Prim.Native.Nat.{ℕ, suc, zero, _+_, _<_}
+use Prim.Native.Nat.{ℕ, suc, zero, _+_, _≤_, _<_}
 use mathlib.Core.Path.{_≡_, refl, sym, ap, _∙_}
 use mathlib.Core.List.{List, [], _∷_, _++_}
 use mathlib.Core.Bool.{Bool, true, false, not}
@@ -7,6 +7,7 @@ use native.Mathlib.Omega.{arith}
 use lib.ListN.{length}
 use Rattle.model.specs.Words.{if, both, bit, upFrom, keep, sumTo, sumIf, Every}
 use Rattle.model.proofs.Cases.{byBool}
+use Rattle.model.proofs.Lists.{Rising, rising-weaken}
 use Rattle.model.proofs.Sums.{sum-ext, sum-shift, sum-zero}
 
 pub keep-same : (t u : ℕ → Bool) (a n : ℕ) → ((p : ℕ) → p < a + n → t p ≡ u p) → keep t (upFrom a n) ≡ keep u (upFrom a n)
@@ -33,6 +34,19 @@ keep-alike t u (x ∷ l) al = rw (al .0, keep-alike t u l (al .1))
 pub keep-parts : (t : ℕ → Bool) (l : List ℕ) → length (keep t l) + length (keep (λ p. not (t p)) l) ≡ length l
 keep-parts t [] = refl
 keep-parts t (x ∷ l) = let r = keep-parts t l in byBool (t x) (λ e. rw e (omega arith)) (λ e. rw e (omega arith))
+
+-- what is kept of the numbers from a on rises, passes, and is below the end
+pub keep-rising : (t : ℕ → Bool) (a n : ℕ) → Rising a (keep t (upFrom a n))
+keep-rising t a zero = tt
+keep-rising t a (suc n) =
+    byBool (t a) (λ e. rw e (omega arith, keep-rising t (suc a) n))
+    (λ e. rw e (rising-weaken a (suc a) (keep t (upFrom (suc a) n)) (omega arith) (keep-rising t (suc a) n)))
+
+pub keep-every : (t : ℕ → Bool) (m a n : ℕ) → a + n ≤ m → Every (λ p. (t p ≡ true) × (p < m)) (keep t (upFrom a n))
+keep-every t m a zero h = tt
+keep-every t m a (suc n) h =
+    let more = keep-every t m (suc a) n (omega arith) in
+    byBool (t a) (λ e. rw e ((e, omega arith), more)) (λ e. rw e more)
 
 -- ---- sums over what is kept
 abbrev pub sumOver : (ℕ → ℕ) → List ℕ → ℕ

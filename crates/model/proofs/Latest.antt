@@ -9,7 +9,7 @@ use lib.ListN.{length}
 use Rattle.model.specs.Words.{Every}
 use Rattle.model.specs.Wire.{Carried, none, chain, cellsIn, Shape, deviation}
 use Rattle.model.specs.Wait.{HasAtLeast, byDemand3, bySharp, longest}
-use Rattle.model.proofs.OneFrame.{double}
+use Rattle.model.proofs.Levels.{double}
 use Rattle.model.proofs.OneInput.{second, row-whole, row-parts, rows-framed}
 use Rattle.model.proofs.Reached.{count, edge, count-less, Leans, others, first-of, last-of, first-leans, last-leans, seam, seam-shape, over-cells, frames-short, aloneCall, behindCall}
 use Rattle.model.proofs.Queues.{share-is}

@@ -10,10 +10,10 @@ use lib.ListN.{length}
 use lib.Pow.{pow-pos}
 use Rattle.model.specs.Words.{Near}
 use Rattle.model.specs.Flows.{Class, Of, load}
-use Rattle.model.specs.Frames.{cells, runOf, Legal, Balanced}
+use Rattle.model.specs.Frames.{cells, runOf, Legal, Balanced, repeated}
 use Rattle.model.specs.Refusals.{clear}
 use Rattle.model.specs.Build.{left}
-use Rattle.model.specs.Service.{classOf, repeated, lead, countChecks, service}
+use Rattle.model.specs.Service.{classOf, lead, countChecks, service}
 use Rattle.model.specs.Wire.{deviation}
 use Rattle.model.specs.Lead.{Led, BuiltLead, AnsweredLead}
 use Rattle.model.proofs.Cases.{byBool, byEq}

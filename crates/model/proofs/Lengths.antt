@@ -10,7 +10,8 @@ use lib.Seq.{getD-drop, set-out, getD-set-same, getD-set-other}
 use borrow.Author.Tests.{eq-eqb, ne-eqb, eqb-false, leb-true, leb-false, ltb-false, not-true, not-false}
 use Rattle.model.specs.Words.{if, both, within, upFrom, keep, Every}
 use Rattle.model.specs.Flows.{flows, Side, inputs, portOf, countsOf, Class, input, output, isOf, loadIn, load}
-use Rattle.model.specs.Refusals.{Check, report, clear, bad-ports, bad-slots, levels, lowestAbove, overload, portOverloads}
+use Rattle.model.specs.Refusals.{Check, report, clear, bad-ports, bad-slots, lowestAbove, overload, portOverloads}
+use Rattle.model.specs.Frames.{levels}
 use Rattle.model.specs.Rules.{odd}
 use Rattle.model.specs.Schedule.{favours, halfBy, put, slotOf, frameOf}
 use Rattle.model.specs.Sheet.{text, decimal, portsLine, slotsLine, pairLine, lines, numberIn, same, bad-line, bad-line-flow, bad-port, Asked, loads, refused, unless, most, readPairs, readSlots, readPorts, bad-sheet, overloaded, readSheet, printCells, printSlots, printFrame, printRefusal, printed, response}
@@ -18,8 +19,8 @@ use Rattle.model.proofs.Cases.{byBool, byEq, byLt, both-true, within-tr
 use Rattle.model.proofs.Sums.{sum-most}
 use Rattle.model.proofs.Searches.{first-high}
 use Rattle.model.proofs.Levels.{known-power, power-most}
-use Rattle.model.proofs.Partners.{keep-every}
-use Rattle.model.proofs.Settled.{zero-at}
+use Rattle.model.proofs.Kept.{keep-every}
+use Rattle.model.proofs.Lists.{zero-at}
 use Rattle.model.proofs.Flows.{counts-length, counts-at}
 use Rattle.model.proofs.Sheets.{decimal-short, lines-most, most-low}
 

@@ -8,9 +8,13 @@ use native.Mathlib.Nat.{pow-le-pow-right, two-pow-succ}
 use lib.Dec.{eqb}
 use lib.Pow.{pow-pos, pow-add, shl-shr}
 use borrow.Author.Tests.{eqb-true, eq-eqb, ne-eqb}
-use Rattle.model.specs.Refusals.{levels}
+use Rattle.model.specs.Frames.{levels, Power}
 use Rattle.model.proofs.Cases.{byLt}
 use Rattle.model.proofs.Searches.{first-high, first-found, first-is}
+
+-- a further power of two is twice the one before
+pub double : (k : ℕ) → 2 ^ suc k ≡ 2 * 2 ^ k
+double k = omega (arith, two-pow-succ k)
 
 -- powers of two rise
 pub pow-less : (j k : ℕ) → j < k → 2 ^ j < 2 ^ k
@@ -27,12 +31,6 @@ pow-only j k e =
 
 pub levels-most : (slots : ℕ) → levels slots ≤ 11
 levels-most slots = omega (arith, first-high (λ k. eqb slots (2 ^ k)) 11 0)
-
--- slots are a power of two from 1 to 1,024
-pub record Power (slots : ℕ) : Type 0 where
-  pub k : ℕ
-  pub most : k ≤ 10
-  pub is : slots ≡ 2 ^ k
 
 pub levels-power : (slots : ℕ) → levels slots ≢ 11 → slots ≡ 2 ^ levels slots
 levels-power slots n =

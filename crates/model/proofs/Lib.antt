@@ -1,5 +1,6 @@
 -- Laws of the definitions, one file for each that they are about.
 pub mod Cases
+pub mod Lists
 pub mod Sums
 pub mod Kept
 pub mod Searches

@@ -13,6 +13,7 @@ use Rattle.model.specs.Flows.{flows, Side, portOf, countsOf, Class, flow
 use Rattle.model.specs.Frames.{right, cells, runOf, Legal, Block, Balanced}
 use Rattle.model.specs.Rules.{Split, Slot, Scheduled}
 use Rattle.model.specs.Schedule.{halfOf, frameOf}
+use Rattle.model.specs.OneFrame.{OneFrame}
 use Rattle.model.proofs.Cases.{byLt}
 use Rattle.model.proofs.Cells.{cells-append, run-all, run-first, run-second}
 use Rattle.model.proofs.Splits.{split-is, only-split}
@@ -20,11 +21,9 @@ use Rattle.model.proofs.Halves.{load-flow, halves-near, halves-fit}
 use Rattle.model.proofs.Flows.{counts-length, exact-all}
 use Rattle.model.proofs.Slots.{Placed, slot-length, slot-is, only-slot, slot-right, slot-flow, slot-exact}
 use Rattle.model.proofs.Blocks.{block-fits, block-one, block-part}
+use Rattle.model.proofs.Levels.{double}
 
 -- twice as many, as the rules count
-pub double : (k : ℕ) → 2 ^ suc k ≡ 2 * 2 ^ k
-double k = omega (arith, two-pow-succ k)
-
 -- ---- it exists
 pub frame-is : (ports : ℕ) (port : Side → ℕ → ℕ) (k : ℕ) (m : List ℕ) → Placed ports port (length m) → Fits ports (2 ^ k) port m
     → Scheduled ports port k m (frameOf ports port k m)
@@ -164,12 +163,6 @@ rules-sound ports (suc k) list m entries size placed fits s =
     (rules-sound ports k list (s .second) (s .back) (sp .second-size ∙ size) placed (half .1) (s .second-half)))
 
 -- Demand 2, for a list whose load fits: the entries meet the rules, nothing else does, and they are legal and balanced.
-pub record OneFrame (ports k : ℕ) (list entries : List ℕ) : Type 0 where
-  pub meets : Scheduled ports (portOf list) k (countsOf list) entries
-  pub only : (other : List ℕ) → Scheduled ports (portOf list) k (countsOf list) other → other ≡ entries
-  pub legal : Legal ports (2 ^ k) list entries
-  pub balanced : Balanced ports (2 ^ k) list entries
-
 pub one-frame : (ports k : ℕ) (list : List ℕ) → Placed ports (portOf list) (flows list) → Fits ports (2 ^ k) (portOf list) (countsOf list)
     → OneFrame ports k list (frameOf ports (portOf list) k (countsOf list))
 one-frame ports k list placed fits =

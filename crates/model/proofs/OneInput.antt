@@ -23,7 +23,7 @@ use Rattle.model.proofs.Walks.{walk-on, walk-off}
 use Rattle.model.proofs.Cells.{cells-run, run-first, run-second, run-all}
 use Rattle.model.proofs.OneFrame.{frame-is, frame-length, rules-sound}
 use Rattle.model.proofs.Slots.{Placed}
-use Rattle.model.proofs.Reports.{Ported, Linked}
+use Rattle.model.specs.Demand2.{Ported, Linked}
 use Rattle.model.proofs.Overloads.{each-allows}
 use Rattle.model.proofs.Demand2.{accepts-yes}
 

@@ -10,6 +10,7 @@ use lib.ListN.{getD, getD-replicate}
 use borrow.Author.Tests.{lt-ltb, le-ltb, ltb-true, ltb-false}
 use Rattle.model.specs.Words.{first}
 use Rattle.model.specs.Flows.{outputOf, portOf, countsOf, Class, input, output, link, load}
+use Rattle.model.specs.Demand2.{Under, Above, Light, Over, Allows, Past}
 use Rattle.model.specs.Refusals.{Check, report, lowestAbove, aboveSlots, overload, portOverloads, lowestPast, aboveLimits, linkOverload, overloads, slotsEach}
 use Rattle.model.proofs.Cases.{byBool, byLt}
 use Rattle.model.proofs.Searches.{first-found, first-before, first-is, first-none}
@@ -17,16 +18,6 @@ use Rattle.model.proofs.Flows.{output-low, link-under}
 use Rattle.model.proofs.Reports.{Tells, report-found, report-on, search-tells}
 
 -- ---- the lowest of n places whose load is above its bound
--- No place has a load above its bound.
-abbrev pub Under : ℕ → (ℕ → ℕ) → (ℕ → ℕ) → Type 0
-Under n bound loads = (x : ℕ) → x < n → loads x ≤ bound x
-
--- Place x is the lowest whose load is above its bound.
-pub record Above (n : ℕ) (bound loads : ℕ → ℕ) (x : ℕ) : Type 0 where
-  pub low : x < n
-  pub above : bound x < loads x
-  pub lower : (y : ℕ) → y < x → loads y ≤ bound y
-
 module _ (n : ℕ) (bound loads : ℕ → ℕ) where
   abbrev past : ℕ → Bool
   past x = ltb (bound x) (loads x)
@@ -145,14 +136,6 @@ past-same ports most limits loads numbers room each none =
     check-same (ports * 4) (most * 4) (λ y. getD limits y 0) loads numbers (omega arith) each none ofLink
 
 -- ---- the ports of a kind
--- No port of a kind has a load above slots.
-abbrev pub Light : (ℕ → Class) → ℕ → ℕ → List ℕ → Type 0
-Light kind ports slots list = Under ports (λ _. slots) (λ x. load (kind x) list)
-
--- Port x is the lowest of its kind whose load is above slots.
-abbrev pub Over : (ℕ → Class) → ℕ → ℕ → List ℕ → ℕ → Type 0
-Over kind ports slots list x = Above ports (λ _. slots) (λ x. load (kind x) list) x
-
 module _ (number : ℕ) (kind : ℕ → Class) (ports slots : ℕ) (list : List ℕ) where
   abbrev loads : ℕ → ℕ
   loads x = load (kind x) list
@@ -170,14 +153,6 @@ module _ (number : ℕ) (kind : ℕ → Class) (ports slots : ℕ) (list : List 
   byOver over light = byAbove ports (λ _. slots) loads over light
 
 -- ---- the links
--- No link has a load above its limit.
-abbrev pub Allows : ℕ → List ℕ → List ℕ → Type 0
-Allows ports list limits = Under (ports * 4) (λ x. getD limits x 0) (λ x. load (link x) list)
-
--- Link x is the lowest whose load is above its limit.
-abbrev pub Past : ℕ → List ℕ → List ℕ → ℕ → Type 0
-Past ports list limits x = Above (ports * 4) (λ x. getD limits x 0) (λ x. load (link x) list) x
-
 module _ (ports : ℕ) (list limits : List ℕ) where
   abbrev limitOf : ℕ → ℕ
   limitOf x = getD limits x 0

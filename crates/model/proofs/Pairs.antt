@@ -14,13 +14,14 @@ use Rattle.model.specs.Rules.{odd}
 use Rattle.model.specs.Schedule.{favoursBy, favours, halfBy, put, slotOf, frameOf}
 use Rattle.model.specs.Pairs.{favoursByPairs, putPairs, slotByPairs, frameByPairs, flowsFrom, inMatrixOrder, sendsTo, SamePairs}
 use Rattle.model.proofs.Cases.{byEq}
-use Rattle.model.proofs.Partners.{every-map, keep-every}
+use Rattle.model.proofs.Lists.{every-map}
+use Rattle.model.proofs.Kept.{keep-every}
 use Rattle.model.proofs.Settled.{favours-law}
 use Rattle.model.proofs.Splits.{half-length}
 use Rattle.model.proofs.Singles.{one-link}
 use Rattle.model.proofs.SamePorts.{partner-alike}
 use Rattle.model.proofs.Flows.{counts-length, counts-at}
-use Rattle.model.proofs.Reports.{Linked}
+use Rattle.model.specs.Demand2.{Linked}
 
 -- ---- the list
 from-length : (ports p : ℕ) (m : List ℕ) → length (flowsFrom ports p m) ≡ length m * stride

@@ -11,34 +11,9 @@ use borrow.Author.Tests.{eqb-true, eq-eqb, ne-eqb}
 use Rattle.model.specs.Words.{both, upFrom, keep, Every}
 use Rattle.model.specs.Rules.{odd, oddsAt, Partners, these, later}
 use Rattle.model.specs.Schedule.{partnerIn, partner}
-use Rattle.model.proofs.Cases.{byBool, byEq, byLt, both-true}
-
--- ---- rising lists
--- rising from k on
-abbrev pub Rising : ℕ → List ℕ → Type 0
-Rising k [] = Unit {0}
-Rising k (x ∷ l) = (k ≤ x) × Rising (suc x) l
-
-pub rising-weaken : (j k : ℕ) (l : List ℕ) → j ≤ k → Rising k l → Rising j l
-rising-weaken j k [] h r = tt
-rising-weaken j k (x ∷ l) h r = (omega arith, r .1)
-
-pub every-map : (P Q : ℕ → Type 0) → ((p : ℕ) → P p → Q p) → (l : List ℕ) → Every P l → Every Q l
-every-map P Q f [] al = tt
-every-map P Q f (x ∷ l) al = (f x (al .0), every-map P Q f l (al .1))
-
--- what is kept of the numbers from a on rises, passes, and is below the end
-pub keep-rising : (t : ℕ → Bool) (a n : ℕ) → Rising a (keep t (upFrom a n))
-keep-rising t a zero = tt
-keep-rising t a (suc n) =
-    byBool (t a) (λ e. rw e (omega arith, keep-rising t (suc a) n))
-    (λ e. rw e (rising-weaken a (suc a) (keep t (upFrom (suc a) n)) (omega arith) (keep-rising t (suc a) n)))
-
-pub keep-every : (t : ℕ → Bool) (m a n : ℕ) → a + n ≤ m → Every (λ p. (t p ≡ true) × (p < m)) (keep t (upFrom a n))
-keep-every t m a zero h = tt
-keep-every t m a (suc n) h =
-    let more = keep-every t m (suc a) n (omega arith) in
-    byBool (t a) (λ e. rw e ((e, omega arith), more)) (λ e. rw e more)
+use Rattle.model.proofs.Cases.{byEq, byLt, both-true}
+use Rattle.model.proofs.Lists.{Rising, every-map, Apart, rising-apart}
+use Rattle.model.proofs.Kept.{keep-rising, keep-every}
 
 -- ---- the partner in a list
 module _ (a b : ℕ) (l : List ℕ) (p : ℕ) where
@@ -69,20 +44,6 @@ pub in-none : (l : List ℕ) (p : ℕ) → Every (λ q. q ≢ p) l → partnerIn
 in-none [] p al = refl
 in-none (a ∷ []) p al = refl
 in-none (a ∷ b ∷ l) p al = in-rest a b l p (λ e. al .0 (sym e)) (λ e. al .1 .0 (sym e)) ∙ in-none l p (al .1 .1)
-
--- ---- lists without a count twice
-abbrev pub Apart : List ℕ → Type 0
-Apart [] = Unit {0}
-Apart (x ∷ l) = Every (λ y. y ≢ x) l × Apart l
-
--- a rising list has none twice
-rising-above : (j k : ℕ) (l : List ℕ) → j < k → Rising k l → Every (λ y. y ≢ j) l
-rising-above j k [] h r = tt
-rising-above j k (x ∷ l) h r = ((λ e. let a = r .0 in absurd (omega arith)), rising-above j (suc x) l (let a = r .0 in omega arith) (r .1))
-
-pub rising-apart : (k : ℕ) (l : List ℕ) → Rising k l → Apart l
-rising-apart k [] r = tt
-rising-apart k (x ∷ l) r = (rising-above x (suc x) l (omega arith) (r .1), rising-apart (suc x) l (r .1))
 
 pub in-twice : (l : List ℕ) (p : ℕ) → Apart l → partnerIn l (partnerIn l p) ≡ p
 in-twice [] p apart = refl

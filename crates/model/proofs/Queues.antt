@@ -10,8 +10,8 @@ use lib.ListN.{length}
 use lib.Signed.{_≤ℤ_}
 use Rattle.model.specs.Words.{sumTo, Every}
 use Rattle.model.specs.Flows.{Class, Of, load}
-use Rattle.model.specs.Frames.{cells}
-use Rattle.model.specs.Service.{repeated, lead}
+use Rattle.model.specs.Frames.{cells, repeated}
+use Rattle.model.specs.Service.{lead}
 use Rattle.model.specs.Wire.{Carried, none, chain, cellsAt, cellsIn, inside, share, Shape, deviation}
 use Rattle.model.specs.Queue.{waiting, arrived, Paced, HeldOn, Buffers, BuffersAtSeams, BuffersByLead}
 use Rattle.model.proofs.Sums.{sum-ext, sum-append}

@@ -12,7 +12,7 @@ use Rattle.model.specs.Frames.{cells, runOf}
 use Rattle.model.specs.Schedule.{slotOf, frameOf}
 use Rattle.model.specs.Wire.{Call, Carried, none, chain, cellsIn, inside, share, Shape, deviation}
 use Rattle.model.proofs.Cells.{run-first, run-second}
-use Rattle.model.proofs.OneFrame.{double}
+use Rattle.model.proofs.Levels.{double}
 use Rattle.model.proofs.Halves.{load-flow}
 use Rattle.model.proofs.Demand3.{in-more, in-first, in-rest}
 use Rattle.model.proofs.OneInput.{listed, listed-counts, second, laid, laid-length, cellsOf, alone-halves, full-halves, row-cells, row-parts, seam-cells, once, framed, rows-framed}

@@ -10,9 +10,9 @@ use lib.ListN.{getD}
 use borrow.Author.Tests.{not-true, not-false}
 use Rattle.model.specs.Words.{if}
 use Rattle.model.specs.Flows.{Of}
-use Rattle.model.specs.Frames.{cells}
+use Rattle.model.specs.Frames.{cells, repeated}
 use Rattle.model.specs.Refusals.{Check, report, clear, listChecks, bad-frame, bad-slot}
-use Rattle.model.specs.Service.{classOf, whoWithin, bad-who, bad-length, repeated, lead, Reply, countChecks, service}
+use Rattle.model.specs.Service.{classOf, whoWithin, bad-who, bad-length, lead, Reply, countChecks, service}
 use Rattle.model.specs.declared.Who.{Who}
 use Rattle.model.specs.declared.Who.the-variants.{Flow, Input, Output}
 use Rattle.model.proofs.Cases.{byBool, both-true, within-true}

@@ -9,16 +9,18 @@ use lib.Dec.{eqb, ltb}
 use lib.ListN.{length, getD}
 use lib.Pow.{pow-pos}
 use borrow.Author.Tests.{eqb-true, eqb-false, eq-eqb, ne-eqb, le-ltb, ltb-false, not-false}
-use Rattle.model.specs.Words.{within, first, Every}
+use Rattle.model.specs.Words.{within, first, Every, Within}
 use Rattle.model.specs.Flows.{stride, flows, numberOf, Side, inputs, links, placeOf}
-use Rattle.model.specs.Refusals.{Check, report, clear, refusal, accepted, levels, bad-ports, bad-slots, bad-list, bad-flows, portsWithin, bad-flow, linkWithin, bad-link, bad-frame, bad-slot}
+use Rattle.model.specs.Demand2.{Ported, Linked}
+use Rattle.model.specs.Refusals.{Check, report, clear, refusal, accepted, bad-ports, bad-slots, bad-list, bad-flows, portsWithin, bad-flow, linkWithin, bad-link, bad-frame, bad-slot}
+use Rattle.model.specs.Frames.{levels, Power}
 use Rattle.model.specs.Service.{bad-length}
 use Rattle.model.specs.Sheet.{bad-sheet}
 use Rattle.model.specs.declared.Refusal.{Refusal}
 use Rattle.model.specs.declared.Refusal.the-variants.{Ports, Slots, ListLength, FrameLength, InputLoad, OutputLoad, LineForm, LinePort, SheetLength, SlotNumber, FlowOrPort, RunLength, TooManyFlows, FlowPort, FlowLink, LinkLoad}
-use Rattle.model.proofs.Cases.{byBool, Within, within-yes, within-true, both-true, both-yes}
+use Rattle.model.proofs.Cases.{byBool, within-yes, within-true, both-true, both-yes}
 use Rattle.model.proofs.Searches.{first-none, first-before}
-use Rattle.model.proofs.Levels.{Power, power-known, power-most, known-power}
+use Rattle.model.proofs.Levels.{power-known, power-most, known-power}
 
 module _ (c : Check) (cs : List Check) (asked : List ℕ) where
   pub report-found : {answer : List ℕ} → c ≡ (true, answer) → report (c ∷ cs) asked ≡ answer
@@ -149,9 +151,6 @@ pub flows-tells : (list : List ℕ) → Tells (bad-flows list) (flows list ≤ 5
 flows-tells list = most-tells 512 (flows list) _
 
 -- 22: the ports of each of them are 1 to ports
-abbrev pub Ported : ℕ → List ℕ → Type 0
-Ported ports list = (s : Side) (f : ℕ) → f < flows list → Within 1 ports (numberOf (placeOf s) list f)
-
 pub ports-within : (ports : ℕ) (list : List ℕ) (f : ℕ) → portsWithin ports list f ≡ true → (s : Side) → Within 1 ports (numberOf (placeOf s) list f)
 ports-within ports list f e inputs = within-true 1 ports (numberOf 0 list f) (both-true (within 1 ports (numberOf 0 list f)) (within 1 ports (numberOf 1 list f)) e .0)
 ports-within ports list f e links = within-true 1 ports (numberOf 1 list f) (both-true (within 1 ports (numberOf 0 list f)) (within 1 ports (numberOf 1 list f)) e .1)
@@ -169,9 +168,6 @@ flow-tells ports list =
     }
 
 -- 23: the link of each of them is 1 to 4
-abbrev pub Linked : List ℕ → Type 0
-Linked list = (f : ℕ) → f < flows list → Within 1 4 (numberOf 3 list f)
-
 pub link-tells : (list : List ℕ) → Tells (bad-link list) (Linked list)
 link-tells list =
     let t = search-tells (λ f. not (linkWithin list f)) (flows list) (23 ∷ []) in

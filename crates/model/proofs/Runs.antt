@@ -8,8 +8,7 @@ use native.Mathlib.Nat.{mod-eq-of-lt, add-mul-mod-self-right, mul-le-mul-right, 
 use lib.ListN.{length, length-append, getD, drop, length-take}
 use Rattle.model.specs.Words.{bit, sumTo}
 use Rattle.model.specs.Flows.{Class}
-use Rattle.model.specs.Frames.{counts, cells, runOf}
-use Rattle.model.specs.Service.{repeated}
+use Rattle.model.specs.Frames.{counts, cells, runOf, repeated}
 use Rattle.model.proofs.Cases.{byBool}
 use Rattle.model.proofs.Cells.{cells-append, cells-none, cells-run, run-none, run-length, run-all}
 use Rattle.model.proofs.Sums.{sum-none, sum-more, sum-ext, sum-append}

@@ -12,9 +12,10 @@ use Rattle.model.specs.Flows.{Side, inputs, links, outputOf}
 use Rattle.model.specs.Rules.{odd, oddsAt, single, singlesOf}
 use Rattle.model.specs.Schedule.{partnerIn, partner, outputPartner, favoursBy, favours, halfBy, halfOf, put, slotOf, frameOf}
 use Rattle.model.proofs.Cases.{byLt}
-use Rattle.model.proofs.Partners.{every-map, keep-every, in-none, odd-lt, AtPort, odds-every}
+use Rattle.model.proofs.Lists.{every-map}
+use Rattle.model.proofs.Kept.{keep-every, keep-same}
+use Rattle.model.proofs.Partners.{in-none, odd-lt, AtPort, odds-every}
 use Rattle.model.proofs.Singles.{Single, singles-every, output-single}
-use Rattle.model.proofs.Kept.{keep-same}
 use Rattle.model.proofs.Settled.{favours-law}
 use Rattle.model.proofs.Splits.{half-length}
 

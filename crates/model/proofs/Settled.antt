@@ -14,6 +14,7 @@ use Rattle.model.specs.Flows.{Side, inputs, links}
 use Rattle.model.specs.Rules.{odd}
 use Rattle.model.specs.Schedule.{walk, groupOf, favouring, level, settleAt, settle, favours}
 use Rattle.model.proofs.Cases.{byBool, byEq, both-true, both-false, within-yes, within-true}
+use Rattle.model.proofs.Lists.{zero-at}
 use Rattle.model.proofs.Partners.{odd-lt, partner-at, partner-twice}
 use Rattle.model.proofs.Singles.{mate, output-twice, output-odd}
 use Rattle.model.proofs.Favouring.{none-favour, unsettled-less}
@@ -31,11 +32,6 @@ abbrev pub Keeps : List ℕ → List ℕ → Type 0
 Keeps c c′ = (r : ℕ) → getD c r 0 ≢ 0 → getD c′ r 0 ≡ getD c r 0
 
 -- ---- before the scan nothing is settled
-pub zero-at : (n q : ℕ) → _≡_ {A = ℕ} (getD (replicate n 0) q 0) 0
-zero-at zero q = refl
-zero-at (suc n) zero = refl
-zero-at (suc n) (suc q) = zero-at n q
-
 pub start-settled : (m : List ℕ) (i o : ℕ → ℕ) → Settled m i o (replicate (length m) 0)
 start-settled m i o =
     record {

@@ -8,7 +8,8 @@ use native.Mathlib.Omega.{arith}
 use lib.ListN.{length, getD, set, length-set}
 use lib.Seq.{getD-set-same, getD-set-other}
 use Rattle.model.specs.Schedule.{walk, groupOf, favouring}
-use Rattle.model.proofs.Cases.{byEq, byLt, Within}
+use Rattle.model.proofs.Cases.{byEq, byLt}
+use Rattle.model.specs.Words.{Within}
 use Rattle.model.proofs.Favouring.{favouring-more, favouring-same}
 use Rattle.model.proofs.Walks.{Pairing, walk-on, walk-off, walk-length}
 

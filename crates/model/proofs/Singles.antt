@@ -15,7 +15,8 @@ use Rattle.model.specs.Rules.{odd, oddsAt, Partners, single, singlesOf, 
 use Rattle.model.specs.Schedule.{partnerIn, partner, outputPartner}
 use Rattle.model.proofs.Cases.{byBool, byEq}
 use Rattle.model.proofs.Kept.{keep-none}
-use Rattle.model.proofs.Partners.{every-map, in-every, in-rest, in-twice, Apart, partners-every, partners-two, rule-mates, mates-rule, AtPort, odds-apart, odds-every, partner-at, partner-twice, partner-among}
+use Rattle.model.proofs.Lists.{every-map, Apart}
+use Rattle.model.proofs.Partners.{in-every, in-rest, in-twice, partners-every, partners-two, rule-mates, mates-rule, AtPort, odds-apart, odds-every, partner-at, partner-twice, partner-among}
 
 -- ---- two lists end to end
 pub every-append : (P : ℕ → Type 0) (l r : List ℕ) → Every P l → Every P r → Every P (l ++ r)

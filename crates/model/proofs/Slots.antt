@@ -19,7 +19,7 @@ use Rattle.model.proofs.Cases.{byBool, byEq, is-yes, is-no}
 use Rattle.model.proofs.Sums.{sum-ext, sum-one, sum-has, sum-has-two}
 use Rattle.model.proofs.Cells.{cells-slot}
 use Rattle.model.proofs.Partners.{odd-lt}
-use Rattle.model.proofs.Settled.{zero-at}
+use Rattle.model.proofs.Lists.{zero-at}
 use Rattle.model.proofs.Flows.{right-flow, flow-counts, exact-all}
 
 -- ---- what is written into a slot

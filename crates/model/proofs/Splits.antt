@@ -14,7 +14,7 @@ use Rattle.model.specs.Flows.{Side, Class}
 use Rattle.model.specs.Rules.{odd, partnered, Partners, Joined, Group, favoursFirst, Split}
 use Rattle.model.specs.Schedule.{favours, halfBy, halfOf}
 use Rattle.model.proofs.Cases.{byBool, byEq, is-yes, is-no}
-use Rattle.model.proofs.Partners.{every-map}
+use Rattle.model.proofs.Lists.{every-map}
 use Rattle.model.proofs.Singles.{mate, rule-partner, partner-rule}
 use Rattle.model.proofs.Settled.{pairings, favours-law}
 use Rattle.model.proofs.Kept.{keep-alike, keep-parts}

@@ -14,8 +14,9 @@ use Rattle.model.specs.Rules.{odd, Joined, Lists, Group, OddGroup}
 use Rattle.model.specs.Schedule.{favouring, favours}
 use Rattle.model.proofs.Cases.{byBool, byEq}
 use Rattle.model.proofs.Sums.{sum-none, sum-more}
-use Rattle.model.proofs.Kept.{keep-same, kept-length}
-use Rattle.model.proofs.Partners.{odd-lt, every-map, keep-every}
+use Rattle.model.proofs.Kept.{keep-same, kept-length, keep-every}
+use Rattle.model.proofs.Partners.{odd-lt}
+use Rattle.model.proofs.Lists.{every-map}
 use Rattle.model.proofs.Favouring.{none-favour}
 use Rattle.model.proofs.Singles.{mate}
 use Rattle.model.proofs.Settled.{Keeps, pairings, group-first, favours-scan, favours-law}

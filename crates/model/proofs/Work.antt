@@ -13,26 +13,26 @@ use lib.ListN.{length, getD, replicate, length-append, length-replicate, getD-re
 use borrow.Author.Tests.{eq-eqb, ne-eqb}
 use Rattle.model.specs.Words.{if, bit, Near, sumTo, sumIf}
 use Rattle.model.specs.Flows.{stride, flows, Side, inputs, links, outputOf, portOf, countsOf, flow, input, output, total, loadIn, load, Fits}
-use Rattle.model.specs.Frames.{counts, cells, runOf, Block}
-use Rattle.model.specs.Refusals.{levels, slotsEach}
+use Rattle.model.specs.Frames.{counts, cells, runOf, Block, levels, Power}
+use Rattle.model.specs.Refusals.{slotsEach}
 use Rattle.model.specs.Rules.{Split, Scheduled}
-use Rattle.model.specs.Schedule.{oddShares, settled}
+use Rattle.model.specs.OddShares.{oddShares, settled}
 use Rattle.model.specs.Work.{oddFlows, blockOf, work}
 use Rattle.model.specs.Build.{buildAccepts, left}
 use Rattle.model.specs.Budget.{WorkMost, WorkByDepth, ones, WorkReached}
 use Rattle.model.proofs.Cases.{byEq, byLt, is-yes, is-no}
 use Rattle.model.proofs.Sums.{sum-none, sum-more, sum-ext, sum-shift, sum-append, sum-add, sum-le, sum-most, sum-zero, sum-one, sum-swap, sum-rows, sum-times, sum-ones}
-use Rattle.model.proofs.Levels.{Power, pow-only, levels-of, power-level, level-is, depth-size, depth-fill}
+use Rattle.model.proofs.Levels.{pow-only, levels-of, power-level, level-is, depth-size, depth-fill, double}
 use Rattle.model.proofs.Shares.{two-halves}
 use Rattle.model.proofs.Halves.{halves-fit}
 use Rattle.model.proofs.Flows.{counts-length, link-under, flow-counts}
 use Rattle.model.proofs.Slots.{Placed}
-use Rattle.model.proofs.Reports.{Ported}
+use Rattle.model.specs.Demand2.{Ported, Allows}
 use Rattle.model.proofs.Cells.{run-all, run-length, run-first, run-second}
 use Rattle.model.proofs.Blocks.{number-block, block-numbered}
-use Rattle.model.proofs.OneFrame.{double, Laid, rules-sound}
+use Rattle.model.proofs.OneFrame.{Laid, rules-sound}
 use Rattle.model.proofs.Pairs.{order-length, order-flows, order-number, order-counts, order-linked, order-input, order-output}
-use Rattle.model.proofs.Overloads.{Allows, each-allows}
+use Rattle.model.proofs.Overloads.{each-allows}
 use Rattle.model.proofs.Demand2.{well-placed, accepts-is, accepts-yes, build-frame, build-sound}
 
 -- ---- the blocks of a frame of 2 ^ k slots, depth by depth

@@ -4,7 +4,8 @@ use mathlib.Core.List.{List, [], _∷_, _++_}
 use mathlib.Core.Bool.{Bool}
 use Rattle.model.specs.Words.{if}
 use Rattle.model.specs.Flows.{portOf, countsOf}
-use Rattle.model.specs.Refusals.{Check, report, clear, refusal, listChecks, bad-frame, overloads, levels}
+use Rattle.model.specs.Refusals.{Check, report, clear, refusal, listChecks, bad-frame, overloads}
+use Rattle.model.specs.Frames.{levels}
 use Rattle.model.specs.Schedule.{frameOf}
 use Rattle.model.specs.Work.{work}
 use Rattle.model.specs.declared.Built.{Built}

@@ -1,11 +1,11 @@
 -- Frames: entries, slots, cells, and what legal and balanced mean. Nothing here speaks of splitting.
-use Prim.Native.Nat.{ℕ, _+_, _*_, _-_, _%_, _≤_, _<_}
+use Prim.Native.Nat.{ℕ, suc, zero, _+_, _*_, _-_, _%_, _^_, _≤_, _<_}
 use mathlib.Core.Path.{_≡_}
-use mathlib.Core.List.{List}
+use mathlib.Core.List.{List, [], _++_}
 use mathlib.Core.Bool.{Bool, true, not}
 use lib.Dec.{eqb}
 use lib.ListN.{length, getD, take, drop}
-use Rattle.model.specs.Words.{if, both, bit, within, sumTo, Near}
+use Rattle.model.specs.Words.{if, both, bit, within, first, sumTo, Near}
 use Rattle.model.specs.Flows.{flows, inputs, portOf, Class, flow, input, output, link, total, Of, isOf, load}
 
 -- A frame is its slots, first slot first; a slot is one entry per input: the number of the flow that it sends a cell of, from 1,
@@ -36,6 +36,21 @@ cells c ports list entries = sumTo (length entries) (λ q. bit (counts c list (q
 -- The entries of a run of len slots from slot start on.
 unfoldable pub runOf : ℕ → ℕ → ℕ → List ℕ → List ℕ
 runOf ports start len entries = take (len * ports) (drop (start * ports) entries)
+
+-- The entries of a run of a frame that repeats for ever: after the last slot comes the first.
+unfoldable pub repeated : ℕ → ℕ → List ℕ → ℕ → ℕ → List ℕ
+repeated ports slots entries start zero = []
+repeated ports slots entries start (suc len) = runOf ports (start % slots) 1 entries ++ repeated ports slots entries (suc start) len
+
+-- Slots are a power of two from 1 to 1,024.
+pub record Power (slots : ℕ) : Type 0 where
+  pub k : ℕ
+  pub most : k ≤ 10
+  pub is : slots ≡ 2 ^ k
+
+-- Slots are a power of two, 2 ^ k with k from 0 to 10: the k, and 11 for any other number.
+abbrev pub levels : ℕ → ℕ
+levels slots = first (λ k. eqb slots (2 ^ k)) 0 11
 
 -- A frame of a list is legal if it has its size, no entry is wrong, each flow is in exactly its cells of slots, and no slot uses
 -- an output twice.

@@ -6,8 +6,8 @@ use lib.Dec.{eqb, ltb}
 use lib.ListN.{getD}
 use Rattle.model.specs.Words.{both, near, upFrom, first}
 use Rattle.model.specs.Flows.{flows, Class, flow, input, output, link, total, load}
-use Rattle.model.specs.Frames.{right, cells, runOf}
-use Rattle.model.specs.Refusals.{Check, report, refusal, listChecks, bad-frame, levels}
+use Rattle.model.specs.Frames.{right, cells, runOf, levels}
+use Rattle.model.specs.Refusals.{Check, report, refusal, listChecks, bad-frame}
 use Rattle.model.specs.declared.Inspection.{Inspection}
 use Rattle.model.specs.declared.Inspection.the-variants.{Clean, WrongEntry, OutputTwice, FlowCount, UnbalancedBlock, Refused}
 

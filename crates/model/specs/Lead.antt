@@ -5,9 +5,9 @@ use mathlib.Core.List.{List}
 use mathlib.Core.Bool.{true}
 use lib.IntN.{pos, _-ℤ_, natAbs}
 use Rattle.model.specs.Flows.{Class, Of, load}
-use Rattle.model.specs.Frames.{cells}
+use Rattle.model.specs.Frames.{cells, repeated}
 use Rattle.model.specs.Build.{buildAccepts, left}
-use Rattle.model.specs.Service.{repeated, lead, service}
+use Rattle.model.specs.Service.{lead, service}
 use Rattle.model.specs.Wire.{deviation}
 use Rattle.model.specs.declared.Who.{Who}
 

@@ -5,10 +5,13 @@ pub mod Flows
 pub mod Frames
 pub mod Refusals
 pub mod Rules
+pub mod OneFrame
 pub mod Schedule
+pub mod OddShares
 pub mod Pairs
 pub mod Work
 pub mod Build
+pub mod Demand2
 pub mod Budget
 pub mod Inspect
 pub mod Service

@@ -7,8 +7,8 @@ use lib.ListN.{length, drop}
 use lib.Signed.{_≤ℤ_}
 use Rattle.model.specs.Words.{upFrom, sumTo, Every}
 use Rattle.model.specs.Flows.{Class, Of, load}
-use Rattle.model.specs.Frames.{cells}
-use Rattle.model.specs.Service.{repeated, lead}
+use Rattle.model.specs.Frames.{cells, repeated}
+use Rattle.model.specs.Service.{lead}
 use Rattle.model.specs.Wire.{Carried, cellsAt, share, EveryChain, deviation}
 
 -- How many cells wait after the first t slots. The cells that arrive in a slot join before that slot's cell leaves, and a

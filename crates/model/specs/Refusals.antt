@@ -1,11 +1,12 @@
 -- Refusals 1 to 13 and 21 to 24: each condition with its number and what it carries, and the number and values of each answer.
-use Prim.Native.Nat.{ℕ, suc, _*_, _%_, _^_}
+use Prim.Native.Nat.{ℕ, suc, _*_, _%_}
 use mathlib.Core.List.{List, [], _∷_, _++_}
 use mathlib.Core.Bool.{Bool, true, not}
 use lib.Dec.{eqb, ltb}
 use lib.ListN.{length, getD, replicate}
 use Rattle.model.specs.Words.{if, both, within, first}
 use Rattle.model.specs.Flows.{stride, flows, numberOf, inputs, links, outputOf, placeOf, Class, input, output, link, load}
+use Rattle.model.specs.Frames.{levels}
 use Rattle.model.specs.declared.Refusal.{Refusal}
 use Rattle.model.specs.declared.Refusal.the-variants.{Ports, Slots, ListLength, FrameLength, InputLoad, OutputLoad, LineForm, LinePort, SheetLength, SlotNumber, FlowOrPort, RunLength, TooManyFlows, FlowPort, FlowLink, LinkLoad}
 use Rattle.model.specs.declared.Answer.{Answer}
@@ -54,10 +55,6 @@ clear (c ∷ cs) = both (not (c .0)) (clear cs)
 -- 1: ports not 1 to 16.
 abbrev pub bad-ports : ℕ → Check
 bad-ports ports = (not (within 1 16 ports), 1 ∷ [])
-
--- Slots are a power of two, 2 ^ k with k from 0 to 10: the k, and 11 for any other number.
-abbrev pub levels : ℕ → ℕ
-levels slots = first (λ k. eqb slots (2 ^ k)) 0 11
 
 -- 2: slots not a power of two from 1 to 1,024.
 abbrev pub bad-slots : ℕ → Check

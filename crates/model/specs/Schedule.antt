@@ -4,7 +4,7 @@ use mathlib.Core.List.{List, [], _∷_, _++_}
 use mathlib.Core.Bool.{Bool, true, false}
 use lib.Dec.{eqb}
 use lib.ListN.{length, getD, set, replicate}
-use Rattle.model.specs.Words.{if, both, bit, within, upFrom, keep, sumTo}
+use Rattle.model.specs.Words.{if, both, bit, within, upFrom, keep}
 use Rattle.model.specs.Flows.{Side, inputs, links, outputOf}
 use Rattle.model.specs.Rules.{odd, oddsAt, singlesOf}
 
@@ -89,13 +89,3 @@ frameOf ports port zero m = slotOf ports port m
 frameOf ports port (suc k) m =
     let c = favours port m in
     frameOf ports port k (halfBy 1 m c) ++ frameOf ports port k (halfBy 2 m c)
-
--- How many odd counts the splits settle, from a block of 2 ^ k slots down to those of two. A count is odd or not; one half gets
--- its smaller half, the other its larger.
-unfoldable pub oddShares : ℕ → ℕ → ℕ
-oddShares zero c = 0
-oddShares (suc k) c = c % 2 + (oddShares k (c / 2) + oddShares k ((c + 1) / 2))
-
--- All counts of the block, each by itself.
-unfoldable pub settled : ℕ → List ℕ → ℕ
-settled k m = sumTo (length m) (λ p. oddShares k (getD m p 0))

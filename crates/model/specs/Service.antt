@@ -7,7 +7,7 @@ use lib.ListN.{getD, take, drop}
 use lib.IntN.{ℤ, pos, _-ℤ_}
 use Rattle.model.specs.Words.{if, within}
 use Rattle.model.specs.Flows.{flows, Class, flow, input, output}
-use Rattle.model.specs.Frames.{cells, runOf}
+use Rattle.model.specs.Frames.{cells, runOf, repeated}
 use Rattle.model.specs.Refusals.{Check, report, clear, accepted, refusal, bad-ports, bad-slots, listChecks, bad-frame, bad-slot}
 use Rattle.model.specs.declared.Who.{Who}
 use Rattle.model.specs.declared.Who.the-variants.{Flow, Input, Output}
@@ -50,11 +50,6 @@ bad-who ports list who = (not (whoWithin ports list who), 12 ∷ [])
 -- 13: run length above 1,000,000.
 abbrev pub bad-length : ℕ → Check
 bad-length len = (ltb 1000000 len, 13 ∷ [])
-
--- The entries of a run of a frame that repeats for ever: after the last slot comes the first.
-unfoldable pub repeated : ℕ → ℕ → List ℕ → ℕ → ℕ → List ℕ
-repeated ports slots entries start zero = []
-repeated ports slots entries start (suc len) = runOf ports (start % slots) 1 entries ++ repeated ports slots entries (suc start) len
 
 -- How far ahead a run is: slots × its cells, less its length × the cells of one whole frame, as counted in that frame. An
 -- integer, below 0 where the run is behind; over slots, it is the cells that the run has above its share.

@@ -20,6 +20,9 @@ bit b = if b 1 0
 abbrev pub within : ℕ → ℕ → ℕ → Bool
 within low high n = both (leb low n) (leb n high)
 
+abbrev pub Within : ℕ → ℕ → ℕ → Type 0
+Within low high n = (low ≤ n) × (n ≤ high)
+
 -- a and b differ by at most gap
 abbrev pub Near : ℕ → ℕ → ℕ → Type 0
 Near gap a b = (a ≤ b + gap) × (b ≤ a + gap)

@@ -3,8 +3,7 @@ use Prim.Native.Nat.{ℕ, _*_, _/_, _%_, _^_}
 use mathlib.Core.List.{List}
 use Rattle.model.specs.Words.{sumTo}
 use Rattle.model.specs.Flows.{flows, flow}
-use Rattle.model.specs.Frames.{cells, runOf}
-use Rattle.model.specs.Refusals.{levels}
+use Rattle.model.specs.Frames.{cells, runOf, levels}
 
 -- The flows that have an odd number of cells in the entries of whole slots: n % 2 is 1 where n is odd, and 0 where it is even.
 abbrev pub oddFlows : ℕ → List ℕ → List ℕ → ℕ

@@ -13,7 +13,8 @@ use lib.Seq.{take-suc-set, append-snoc}
 use borrow.Author.Tests.{eqb-true}
 use Rattle.model.specs.Words.{upFrom, keep, Every}
 use Rattle.model.proofs.Cases.{byLt}
-use Rattle.model.proofs.Partners.{every-map, keep-every}
+use Rattle.model.proofs.Lists.{every-map}
+use Rattle.model.proofs.Kept.{keep-every}
 use Rattle.planes.specs.Digits.{digit, places}
 use Rattle.planes.specs.Planes.{digitAt, oddAt, oddsIn, wordsOf, spanOf, Ends}
 use Rattle.planes.specs.Steps.{Placed, Gathered}

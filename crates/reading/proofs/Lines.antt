@@ -10,7 +10,8 @@ use lib.Seq.{sets, length-sets, sets-eq, take-at, drop-at, drop-drop, length-tak
 use borrow.Author.Tests.{le-leb, lt-leb, not-true, not-false}
 use Rattle.model.specs.Words.{within}
 use Rattle.model.specs.Flows.{stride, flows}
-use Rattle.model.specs.Refusals.{levels, refusal, bad-ports, bad-slots}
+use Rattle.model.specs.Frames.{levels}
+use Rattle.model.specs.Refusals.{refusal, bad-ports, bad-slots}
 use Rattle.model.specs.declared.Refusal.{Refusal}
 use Rattle.model.specs.Sheet.{text, portsLine, slotsLine, pairLine, lines, bad-line-flow, bad-port, Asked, refused, unless, readPairs, readSlots, readPorts}
 use Rattle.model.proofs.Reports.{within-known, slots-tells}

@@ -7,7 +7,8 @@ use lib.Dec.{eqb}
 use lib.ListN.{length, getD, take, drop, replicate}
 use Rattle.model.specs.Words.{both, within}
 use Rattle.model.specs.Flows.{stride, flows}
-use Rattle.model.specs.Refusals.{clear, listChecks, levels, refusal}
+use Rattle.model.specs.Refusals.{clear, listChecks, refusal}
+use Rattle.model.specs.Frames.{levels}
 use Rattle.model.specs.Sheet.{text, decimal, pairLine, lines, Asked, loads, refused, readPairs, readSlots, readPorts}
 use Rattle.reading.specs.declared.NumberRead.{NumberRead}
 use Rattle.reading.specs.declared.NumberRead.the-variants.{Number, NoNumber}

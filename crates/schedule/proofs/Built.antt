@@ -9,15 +9,17 @@ use lib.Dec.{eqb}
 use lib.ListN.{length, getD}
 use borrow.Author.Tests.{eqb-true, not-false}
 use Rattle.model.specs.Flows.{countsOf}
-use Rattle.model.specs.Refusals.{report, refusal, accepted, answered, levels, bad-frame, overloads}
-use Rattle.model.specs.Schedule.{settled}
+use Rattle.model.specs.Refusals.{report, refusal, accepted, answered, bad-frame, overloads}
+use Rattle.model.specs.Frames.{levels}
+use Rattle.model.specs.OddShares.{settled}
 use Rattle.model.specs.Build.{buildChecks, buildAccepts, frameFor, acceptance, built, left}
 use Rattle.model.specs.declared.Refusal.{Refusal}
 use Rattle.model.specs.declared.Refusal.the-variants.{FrameLength}
 use Rattle.model.specs.declared.Answer.{Answer}
 use Rattle.model.specs.declared.Answer.the-variants.{Accepted, Refused}
 use Rattle.model.proofs.Reports.{report-clear, report-stops, clear-none, clear-some, refusal-number}
-use Rattle.model.proofs.Demand2.{past-load, past-frame, clear-allows, Accepts, accepts-yes}
+use Rattle.model.proofs.Demand2.{past-load, past-frame, clear-allows, accepts-yes}
+use Rattle.model.specs.Demand2.{Accepts}
 use Rattle.model.proofs.Work.{work-built}
 use Rattle.admission.specs.Lists.{ListAnswer, Taken}
 use Rattle.admission.specs.Overloads.{EveryLoad, decided}

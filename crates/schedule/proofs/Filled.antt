@@ -6,8 +6,9 @@ use native.Mathlib.Omega.{arith}
 use lib.ListN.{length, getD}
 use borrow.Author.Tests.{eq-eqb}
 use Rattle.model.specs.Flows.{flows, numberOf, inputs, portOf, countsOf, input}
-use Rattle.model.specs.Refusals.{levels}
-use Rattle.model.specs.Schedule.{settled, frameOf}
+use Rattle.model.specs.Frames.{levels}
+use Rattle.model.specs.OddShares.{settled}
+use Rattle.model.specs.Schedule.{frameOf}
 use Rattle.model.specs.Build.{frameFor}
 use Rattle.model.proofs.Levels.{pow-less, power-level}
 use Rattle.model.proofs.Flows.{counts-length, counts-at}

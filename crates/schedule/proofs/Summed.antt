@@ -9,7 +9,8 @@ use lib.ListN.{length, getD}
 use Rattle.model.specs.Words.{sumTo}
 use Rattle.model.specs.Flows.{Side}
 use Rattle.model.specs.Rules.{odd}
-use Rattle.model.specs.Schedule.{halfOf, oddShares, settled}
+use Rattle.model.specs.Schedule.{halfOf}
+use Rattle.model.specs.OddShares.{oddShares, settled}
 use Rattle.model.proofs.Cases.{byEq, is-yes, is-no}
 use Rattle.model.proofs.Sums.{sum-ext, sum-zero}
 use Rattle.model.proofs.Kept.{kept-length}

@@ -12,7 +12,7 @@ use borrow.Author.Fill.{fill-more}
 use Rattle.model.specs.Words.{upFrom, keep, Every}
 use Rattle.model.specs.Rules.{odd}
 use Rattle.model.specs.Schedule.{put, slotOf}
-use Rattle.model.proofs.Partners.{every-map}
+use Rattle.model.proofs.Lists.{every-map}
 use Rattle.planes.specs.Digits.{places}
 use Rattle.planes.specs.Planes.{counts, oddsIn, wordsOf, Ends}
 use Rattle.planes.proofs.Lowest.{rest, places-none, next-place, next-zeros, next-fits}

@@ -6,7 +6,7 @@ use lib.ListN.{length}
 use Rattle.model.specs.Words.{Every}
 use Rattle.model.specs.Flows.{Side, flows, portOf, countsOf, Fits}
 use Rattle.model.specs.Schedule.{put, slotOf}
-use Rattle.model.proofs.Demand2.{WellFormed}
+use Rattle.model.specs.Demand2.{WellFormed}
 use Rattle.planes.specs.Planes.{halves}
 use Rattle.planes.specs.Steps.{Others}
 use Rattle.split.specs.Steps.{lookup, tabled, Shared}

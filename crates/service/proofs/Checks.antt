@@ -10,9 +10,9 @@ use lib.Pow.{pow-pos}
 use borrow.Author.Tests.{ltb-false, not-false, eqb-true}
 use Rattle.model.specs.Words.{within}
 use Rattle.model.specs.Refusals.{Check, report, clear, refusal, answered, listChecks, bad-frame, bad-slot}
-use Rattle.model.specs.Service.{classOf, whoWithin, bad-who, bad-length, repeated, lead, served, countChecks, service}
+use Rattle.model.specs.Service.{classOf, whoWithin, bad-who, bad-length, lead, served, countChecks, service}
+use Rattle.model.specs.Frames.{repeated, cells}
 use Rattle.model.specs.Flows.{links}
-use Rattle.model.specs.Frames.{cells}
 use Rattle.model.specs.declared.Answer.{Answer}
 use Rattle.model.specs.declared.Answer.the-variants.{Accepted}
 use Rattle.model.specs.declared.Answer.the-variants as answer

@@ -7,8 +7,8 @@ use native.Mathlib.Nat.{mul-le-mul, mul-le-mul-right}
 use lib.IntN.{pos, _-ℤ_}
 use lib.ListN.{length, take, drop, length-take, length-drop}
 use Rattle.model.specs.Flows.{Class}
-use Rattle.model.specs.Frames.{cells, runOf}
-use Rattle.model.specs.Service.{classOf, repeated, lead}
+use Rattle.model.specs.Frames.{cells, runOf, repeated}
+use Rattle.model.specs.Service.{classOf, lead}
 use Rattle.model.specs.declared.Who.{Who}
 use Rattle.model.proofs.Runs.{cells-most, repeated-most, cells-turns}
 use Rattle.service.specs.Whom.{Framed, Asked}

@@ -8,7 +8,7 @@ use Rattle.model.specs.Flows.{flows, numberOf, Class, flow, input, output, link
 use Rattle.model.specs.Service.{whoWithin}
 use Rattle.model.specs.declared.Who.{Who}
 use Rattle.model.specs.declared.Who.the-variants.{Flow, Input, Output}
-use Rattle.model.proofs.Reports.{Linked}
+use Rattle.model.specs.Demand2.{Linked}
 
 -- Every flow of the list has an output from 1 on, and a link 1 to 4.
 pub record Sent (list : List ℕ) : Type 0 where

@@ -24,7 +24,8 @@ use Rattle.model.specs.declared.Built.the-variants as builds
 use Rattle.model.proofs.Levels.{power-most}
 use Rattle.model.proofs.Overloads.{slots-report}
 use Rattle.model.proofs.Reports.{Refuses, report-refused, refusal-number, clear-none, clear-some, clear-then, clear-parts, frame-tells}
-use Rattle.model.proofs.Demand2.{WellFormed, clear-well, past-frame}
+use Rattle.model.specs.Demand2.{WellFormed}
+use Rattle.model.proofs.Demand2.{clear-well, past-frame}
 use Rattle.model.proofs.Lengths.{response-most}
 use Rattle.reading.proofs.Reading.{the-type}
 use Rattle.reading.specs.Reading.{LoadsRead, SheetOf}

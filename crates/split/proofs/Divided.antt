@@ -11,7 +11,8 @@ use lib.Seq.{getD-take}
 use Rattle.model.specs.Words.{bit}
 use Rattle.model.specs.Schedule.{favours, halfBy, halfOf}
 use Rattle.model.proofs.Cases.{byEq, is-yes, is-no}
-use Rattle.model.proofs.Partners.{every-map, keep-every, keep-rising}
+use Rattle.model.proofs.Lists.{every-map}
+use Rattle.model.proofs.Kept.{keep-every, keep-rising}
 use Rattle.model.proofs.Settled.{favours-law}
 use Rattle.model.proofs.Splits.{half-at, half-length}
 use Rattle.planes.specs.Planes.{digitAt, countAt, each, counts, halves, oddAt, oddsIn}

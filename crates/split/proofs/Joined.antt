@@ -16,7 +16,8 @@ use Rattle.model.specs.Rules.{odd, oddsAt, single, singlesOf}
 use Rattle.model.specs.Schedule.{partnerIn, partner, outputPartner}
 use Rattle.model.proofs.Cases.{byBool, byEq}
 use Rattle.model.proofs.Kept.{keep-keep}
-use Rattle.model.proofs.Partners.{every-map, in-none, Apart, odd-lt}
+use Rattle.model.proofs.Lists.{every-map, Apart}
+use Rattle.model.proofs.Partners.{in-none, odd-lt}
 use Rattle.model.proofs.Singles.{every-both, Single, singles-every, singles-apart, output-linked, output-single, one-link}
 use Rattle.planes.specs.Digits.{digit}
 use Rattle.planes.proofs.Digits.{digit-most, digit-none, if-same, if-other}

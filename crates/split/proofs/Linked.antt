@@ -15,7 +15,8 @@ use Rattle.model.specs.Words.{if, keep, Every}
 use Rattle.model.specs.Rules.{single}
 use Rattle.model.specs.Schedule.{partnerIn}
 use Rattle.model.proofs.Cases.{byBool, byEq, byLt}
-use Rattle.model.proofs.Partners.{Rising, rising-apart, Apart, in-none, in-first, in-second, in-rest, rising-weaken, every-map}
+use Rattle.model.proofs.Lists.{Rising, rising-apart, Apart, rising-weaken, every-map}
+use Rattle.model.proofs.Partners.{in-none, in-first, in-second, in-rest}
 use Rattle.model.proofs.Singles.{single-every, every-both}
 use Rattle.planes.specs.Digits.{digit}
 use Rattle.planes.specs.Steps.{TurnedAt}

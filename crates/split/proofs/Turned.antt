@@ -10,7 +10,7 @@ use lib.ListN.{length, getD, set, take, length-set, List·getD-eq-default}
 use lib.Seq.{take-suc, take-suc-set, getD-set-same, getD-set-other, set-set, set-comm}
 use Rattle.model.specs.Words.{Every}
 use Rattle.model.proofs.Cases.{byBool, byEq, byLt}
-use Rattle.model.proofs.Partners.{every-map}
+use Rattle.model.proofs.Lists.{every-map}
 use Rattle.model.proofs.Favouring.{settled-less}
 use Rattle.split.specs.Steps.{Wide, Positions, otherHalf, turned, Listed}
 use Rattle.planes.proofs.Lists.{at-end}

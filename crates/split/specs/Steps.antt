@@ -10,7 +10,7 @@ use Rattle.model.specs.Words.{if, bit, upFrom, keep, Every}
 use Rattle.model.specs.Flows.{Side, inputs, links, outputOf}
 use Rattle.model.specs.Rules.{odd, single}
 use Rattle.model.specs.Schedule.{partnerIn, outputPartner, walk, favouring, level, favours}
-use Rattle.model.proofs.Partners.{Rising, Apart}
+use Rattle.model.proofs.Lists.{Rising, Apart}
 use Rattle.planes.specs.Digits.{digit}
 use Rattle.planes.specs.Planes.{digitAt, counts, Mask}
 

@@ -3,8 +3,7 @@ use widths::number;
 ghost use mathlib.Core.Path.{_≡_};
 ghost use Prim.Native.Nat.{_<_};
 ghost use lib.ListN.{take, replicate};
-ghost use Rattle.split.specs.Steps.{Wide, Positions, Odds, Mates, Listed, Walks, Turn, Settles, SettledBy};
-ghost use Rattle.split.specs.Steps.{otherHalf, turned, largerHalf};
+ghost use Rattle.split.specs.Steps.{Wide, Positions, Odds, Mates, Listed, Walks, Turn, Settles, SettledBy, otherHalf, turned, largerHalf};
 
 // The half that a count does not favour.
 fn other_half(half: u8) -> u8

@@ -9,7 +9,7 @@ use lib.ListN.{length, getD}
 use Rattle.model.specs.Words.{if, bit, within, upFrom, sumTo}
 use Rattle.model.specs.Flows.{flows, Class, flow, input, output, link, total}
 use Rattle.model.specs.Frames.{right, counts, cells}
-use Rattle.model.proofs.Reports.{Ported, Linked}
+use Rattle.model.specs.Demand2.{Ported, Linked}
 use Rattle.model.proofs.Inspected.{In}
 
 -- The flows stand in the order of the list, with room for 512, then the sixteen inputs, then the sixteen outputs,

@@ -9,7 +9,8 @@ use lib.Dec.{eqb}
 use lib.ListN.{length, getD, take, drop}
 use borrow.Author.Tests.{not-true, not-false, eqb-true, eqb-false}
 use Rattle.model.specs.Words.{both, within}
-use Rattle.model.specs.Refusals.{clear, accepted, answered, refusal, levels}
+use Rattle.model.specs.Refusals.{clear, accepted, answered, refusal}
+use Rattle.model.specs.Frames.{levels}
 use Rattle.model.specs.Service.{viewChecks, viewNumber, viewStart, viewSize, viewed}
 use Rattle.model.specs.declared.Answer.{Answer}
 use Rattle.model.specs.declared.Answer.the-variants.{Accepted, Refused}

@@ -1,8 +1,7 @@
 use Prim.Native.Nat.{_-_}
 use mathlib.Core.Path.{refl}
 use borrow.Author.Needs.{needs}
-use Rattle.admission.proofs.Adding.{Summed, summed-start, summed-in, input-from-one, input-low}
-use Rattle.admission.proofs.Adding.{summed-output, summed-link, in-fits, out-fits, line-fits, summed-on, summed-end}
+use Rattle.admission.proofs.Adding.{Summed, summed-start, summed-in, input-from-one, input-low, summed-output, summed-link, in-fits, out-fits, line-fits, summed-on, summed-end}
 use Rattle.admission.proofs.loads_of.Statement.{statement}
 use Rattle.admission.proofs.loads_of.Tie as tie
 

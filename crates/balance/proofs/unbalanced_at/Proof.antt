@@ -1,6 +1,5 @@
 use Rattle.tally.proofs.Tallies.{tally-size}
-use Rattle.balance.proofs.Blocks.{count-most, links-most, links-fit, links-end}
-use Rattle.balance.proofs.Blocks.{flow-far, input-far, output-far, link-far, total-far, none-far}
+use Rattle.balance.proofs.Blocks.{count-most, links-most, links-fit, links-end, flow-far, input-far, output-far, link-far, total-far, none-far}
 use borrow.Author.Needs.{needs}
 use native.Mathlib.Omega.{arith}
 use Rattle.balance.proofs.unbalanced_at.Statement.{statement}

@@ -1,7 +1,6 @@
 use native.Mathlib.Omega.{arith}
 use borrow.Author.Needs.{needs}
-use Rattle.tally.proofs.Tallies.{adds-idle, adds-cell, no-cell, one-cell, flow-low, output-number, link-number}
-use Rattle.tally.proofs.Tallies.{flow-place, input-place, room-less, room-one, room-two, room-three}
+use Rattle.tally.proofs.Tallies.{adds-idle, adds-cell, no-cell, one-cell, flow-low, output-number, link-number, flow-place, input-place, room-less, room-one, room-two, room-three}
 use Rattle.tally.proofs.add_entry.Statement.{statement}
 use Rattle.tally.proofs.add_entry.Tie as tie
 
