@@ -9,7 +9,7 @@ use lib.Pow.{pow-add}
 use Rattle.model.specs.Words.{Near}
 use Rattle.model.specs.Flows.{Class, Of, load}
 use Rattle.model.specs.Frames.{cells, runOf, Legal, Block, whole, front, back, Balanced}
-use Rattle.model.specs.Wire.{deviation}
+use Rattle.model.specs.Deviation.{deviation}
 use Rattle.model.proofs.Cells.{cells-none, cells-run, run-none, run-all}
 use Rattle.model.proofs.Blocks.{block-fits}
 use Rattle.model.proofs.Legal.{legal-exact}

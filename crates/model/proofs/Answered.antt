@@ -27,9 +27,9 @@ use Rattle.model.proofs.Integers.{minus-ahead, minus-behind}
 use Rattle.model.proofs.Overloads.{byOver, byPast}
 use Rattle.model.specs.Demand2.{WellFormed}
 use Rattle.model.proofs.Demand2.{well-clear, past-load, past-frame, well-frame, light-fits, admit-answers, build-answers, accepts-yes, build-keeps}
-use Rattle.model.proofs.Answers.{Exactly, exactly, RackRefused, ports-1, slots-2, LoadRefused, FrameRefused, SlotRefused, rack, list-3, flows-21, flow-22, link-23, load-refused, frame-4, slot-11, SlotFound, Admits, refused, input-5, output-6, link-24, accepted, Builds, Inspects, found, Views, seen, Names, of-flow, of-input, of-output, RunFound, Counts, start-11, who-12, length-13, counted-ahead, counted-behind, ByCases}
+use Rattle.model.specs.Answers.{Exactly, RackRefused, ports-1, slots-2, LoadRefused, FrameRefused, SlotRefused, rack, list-3, flows-21, flow-22, link-23, load-refused, frame-4, slot-11, SlotFound, Admits, refused, input-5, output-6, link-24, accepted, Builds, Inspects, found, Views, seen, Names, of-flow, of-input, of-output, RunFound, Counts, start-11, who-12, length-13, counted-ahead, counted-behind, ByCases}
+use Rattle.model.proofs.Answers.{exactly}
 use Rattle.model.proofs.Clean.{find-only, fault-means}
-use Rattle.model.proofs.Responses.{respond-exactly}
 
 -- ---- 1 to 4, 11, 21, 22 and 23, which calls have in common
 -- what a case says is reported, whatever conditions come after
@@ -316,7 +316,7 @@ module _ (ports slots : ℕ) (list entries : List ℕ) (who : Who) (start len : 
       (λ h. exactly count-only (counted-ahead f (n .1) l (had - share) (omega arith)))))))
 
 -- ---- all of them
--- Every call and the sheet program answer by their cases.
+-- Every call answers by its cases.
 pub by-cases : ByCases
 by-cases =
     record {
@@ -325,5 +325,4 @@ by-cases =
       inspect = inspect-exactly;
       view = view-exactly;
       count = count-exactly;
-      sheet = respond-exactly;
     }

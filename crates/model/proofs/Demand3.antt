@@ -1,4 +1,4 @@
--- Demand 3: every list of Build calls is accurate on the wire, by the sharp bound.
+-- Demand 3: every list of Build calls is accurate on the wire.
 use Prim.Native.Nat.{ℕ, suc, zero, _+_, _*_, _-_, _/_, _%_, _^_, _≤_, _<_, min}
 use mathlib.Core.Path.{_≡_, refl, ap, subst, sym, _∙_}
 use mathlib.Core.List.{List, [], _∷_, _++_}
@@ -12,7 +12,8 @@ use Rattle.model.specs.Words.{sumTo, Near, Every}
 use Rattle.model.specs.Flows.{Class, Of, load}
 use Rattle.model.specs.Frames.{cells, runOf, Legal, Balanced}
 use Rattle.model.specs.Build.{buildAccepts, left}
-use Rattle.model.specs.Wire.{Call, Carried, Last, none, last, carry, next, chain, cellsAt, cellsIn, inside, share, Shape, Accurate, Demand3, deviation, NearShare, SharpRun, SharpOn, Sharp}
+use Rattle.model.specs.Wire.{Call, Carried, Last, none, last, carry, next, chain, cellsAt, cellsIn, inside, share, Shape, Accurate, Demand3}
+use Rattle.model.specs.Deviation.{deviation}
 use Rattle.model.proofs.Lists.{every-append, every-replicate}
 use Rattle.model.proofs.Sums.{sum-none, sum-ext, sum-append}
 use Rattle.model.proofs.Cells.{cells-none, run-none, run-all}
@@ -156,47 +157,37 @@ module _ (c : Class) (ports k : ℕ) (of : Of ports c) where
 
   module _ (fs : List Carried) (good : Every (Good ports (2 ^ k)) fs) where
     -- the first t slots of the chain are off by at most gap
-    abbrev OffAt : ℕ → ℕ → Type 0
+    abbrev pub OffAt : ℕ → ℕ → Type 0
     OffAt gap t = Near gap (2 ^ k * cellsIn c fs 0 t) (share c 0 fs 0 t)
 
-    anywhere : (t : ℕ) → t ≤ length fs * 2 ^ k → OffAt (deviation k) t
+    pub anywhere : (t : ℕ) → t ≤ length fs * 2 ^ k → OffAt (deviation k) t
     anywhere t fits =
         let r = t % 2 ^ k in
         let less = mod-lt t (pow-pos k) in
         prefix-chain r (deviation k) (omega arith) (λ f g. prefix-sharp (g .legal) (g .balanced) c of k refl r (omega arith)) fs good
         (t / 2 ^ k) 0 0 t t (sym (div-add-mod' t (2 ^ k))) (omega arith) (omega arith) fits
 
-    at-seam : (b t : ℕ) → t ≡ b * 2 ^ k → t ≤ length fs * 2 ^ k → OffAt 0 t
+    pub at-seam : (b t : ℕ) → t ≡ b * 2 ^ k → t ≤ length fs * 2 ^ k → OffAt 0 t
     at-seam b t e fits =
         prefix-chain 0 0 (omega arith)
         (λ f g. omega (arith, ap (λ x. 2 ^ k * x) (ap (cells c ports (f .call .list)) (run-none ports 0 (f .entries)) ∙ cells-none ports (f .call .list) c))) fs good
         b 0 0 t t (omega arith) (omega arith) (omega arith) fits
 
     -- a run is what is left of one prefix after another
-    run-off : (start len x y gap : ℕ) → OffAt x start → OffAt y (start + len) → x + y ≤ gap → NearShare gap c k fs start len
+    pub run-off : (start len x y gap : ℕ) → OffAt x start → OffAt y (start + len) → x + y ≤ gap → Near gap (2 ^ k * cellsIn c fs start len) (share c 0 fs start len)
     run-off start len x y gap one two most =
         let sum : cellsIn c fs 0 (start + len) ≡ cellsIn c fs 0 start + cellsIn c fs start len = rw zero-add at (in-more c fs 0 start len) in
         omega (arith, ap (λ x. 2 ^ k * x) sum, share-split c fs 0 start len)
 
-    pub run-sharp : (start len : ℕ) → start + len ≤ length fs * 2 ^ k → SharpRun c k fs start len
-    run-sharp start len fits =
-        let one = anywhere start (omega arith) in
-        let two = anywhere (start + len) fits in
-        record {
-          any = run-off start len (deviation k) (deviation k) _ one two (omega arith);
-          begins-frame = λ b e. run-off start len 0 (deviation k) _ (at-seam b start e (omega arith)) two (omega arith);
-          ends-frame = λ b e. run-off start len (deviation k) 0 _ one (at-seam b (start + len) e fits) (omega arith);
-        }
+    -- a run is off by at most what its two ends are
+    pub run-near : (start len : ℕ) → start + len ≤ length fs * 2 ^ k → Near (2 * deviation k) (2 ^ k * cellsIn c fs start len) (share c 0 fs start len)
+    run-near start len fits =
+        run-off start len (deviation k) (deviation k) _ (anywhere start (omega arith)) (anywhere (start + len) fits) (omega arith)
 
--- Frames that are legal and balanced, whoever made them, keep the sharp bound end to end,
-pub sound-sharp : (ports k : ℕ) (fs : List Carried) → Every Sound fs → Every (Shape ports (2 ^ k)) fs → SharpOn ports k fs
-sound-sharp ports k fs sound shape start len fits c of = run-sharp c ports k of fs (good-of ports (2 ^ k) fs sound shape) start len fits
-
--- and so are accurate.
+-- Frames that are legal and balanced, whoever made them, are accurate end to end.
 pub sound-accurate : (ports k : ℕ) (fs : List Carried) → Every Sound fs → Every (Shape ports (2 ^ k)) fs → Accurate ports k fs
 sound-accurate ports k fs sound shape start len fits c of =
-    let law = sound-sharp ports k fs sound shape start len fits c of .any in
-    omega (arith, law, deviation-most k)
+    omega (arith, run-near c ports k of fs (good-of ports (2 ^ k) fs sound shape) start len fits, deviation-most k)
 
 -- ---- what holds of every frame that an accepted Build leaves holds of every one that a list of Build calls carries
 module _ (P : Carried → Type 0)
@@ -238,9 +229,6 @@ pub chain-allowed : (buffer : List ℕ) (calls : List Call) → Every Allowed (c
 chain-allowed buffer calls =
     chain-every Allowed (λ c buffer e. accepts-is (c .ports) (c .slots) (c .list) (c .limits) buffer e .allowed) none buffer calls tt
 
--- The sharp bound, and demand 3.
-pub sharp : Sharp
-sharp buffer calls ports k shape = sound-sharp ports k (chain none buffer calls) (chain-sound buffer calls) shape
-
+-- Demand 3.
 pub accurate : Demand3
 accurate buffer calls ports k shape = sound-accurate ports k (chain none buffer calls) (chain-sound buffer calls) shape

@@ -20,7 +20,7 @@ use Rattle.model.proofs.Levels.{pow-less, levels-power, power-known, de
 use Rattle.model.proofs.Blocks.{number-block, block-numbered}
 use Rattle.model.proofs.Reports.{Tells, search-tells}
 use Rattle.model.proofs.Inspected.{in-of, near-yes, unbalanced-no, balanced-near}
-use Rattle.model.proofs.Answers.{Each, FirstNot, Throughout, FirstWrong, HalvesNear, FirstUnbalanced, EntryRight, OutputOnce, CountRight}
+use Rattle.model.specs.Answers.{Each, FirstNot, Throughout, FirstWrong, HalvesNear, FirstUnbalanced, EntryRight, OutputOnce, CountRight}
 
 -- ---- a place
 -- each position below rows × width is a place

@@ -7,7 +7,8 @@ use native.Mathlib.Omega.{arith}
 use lib.Pow.{pow-pos, pow-add}
 use lib.ListN.{length}
 use Rattle.model.specs.Words.{Every}
-use Rattle.model.specs.Wire.{Carried, none, chain, cellsIn, Shape, deviation}
+use Rattle.model.specs.Wire.{Carried, none, chain, cellsIn, Shape}
+use Rattle.model.specs.Deviation.{deviation}
 use Rattle.model.specs.Wait.{HasAtLeast, byDemand3, bySharp, longest}
 use Rattle.model.proofs.Levels.{double}
 use Rattle.model.proofs.OneInput.{second, row-whole, row-parts, rows-framed}

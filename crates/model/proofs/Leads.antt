@@ -14,7 +14,7 @@ use Rattle.model.specs.Frames.{cells, runOf, Legal, Balanced, repeated}
 use Rattle.model.specs.Refusals.{clear}
 use Rattle.model.specs.Build.{left}
 use Rattle.model.specs.Service.{classOf, lead, countChecks, service}
-use Rattle.model.specs.Wire.{deviation}
+use Rattle.model.specs.Deviation.{deviation}
 use Rattle.model.specs.Lead.{Led, BuiltLead, AnsweredLead}
 use Rattle.model.proofs.Cases.{byBool, byEq}
 use Rattle.model.proofs.Runs.{cells-from, cells-rounds, cells-turns}

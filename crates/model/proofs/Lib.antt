@@ -28,8 +28,10 @@ pub mod Replies
 pub mod Overloads
 pub mod Demand2
 pub mod Work
+pub mod Budget
 pub mod Accuracy
 pub mod Demand3
+pub mod Sharp
 pub mod Tight
 pub mod OneInput
 pub mod Reached
@@ -46,6 +48,7 @@ pub mod Inspected
 pub mod Answers
 pub mod Faults
 pub mod Clean
+pub mod CleanChains
 pub mod Sheets
 pub mod Responses
 pub mod Answered

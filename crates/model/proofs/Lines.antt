@@ -7,9 +7,9 @@ use native.Mathlib.Omega.{arith}
 use lib.ListN.{length, getD}
 use Rattle.model.specs.Words.{Every}
 use Rattle.model.specs.Flows.{link, load}
-use Rattle.model.specs.Wire.{Carried, none, chain, cellsAt, Shape, deviation}
-use Rattle.model.specs.Queue.{waiting, arrived, Paced}
-use Rattle.model.specs.Row.{sent}
+use Rattle.model.specs.Wire.{Carried, none, chain, cellsAt, Shape}
+use Rattle.model.specs.Deviation.{deviation}
+use Rattle.model.specs.Queue.{waiting, arrived, Paced, sent}
 use Rattle.model.specs.Line.{Takes, LinkBuffers}
 use Rattle.model.proofs.Demand3.{Allowed, chain-allowed}
 use Rattle.model.proofs.Queues.{since, arrived-more, share-most}

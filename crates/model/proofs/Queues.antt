@@ -12,12 +12,14 @@ use Rattle.model.specs.Words.{sumTo, Every}
 use Rattle.model.specs.Flows.{Class, Of, load}
 use Rattle.model.specs.Frames.{cells, repeated}
 use Rattle.model.specs.Service.{lead}
-use Rattle.model.specs.Wire.{Carried, none, chain, cellsAt, cellsIn, inside, share, Shape, deviation}
+use Rattle.model.specs.Wire.{Carried, none, chain, cellsAt, cellsIn, inside, share, Shape}
+use Rattle.model.specs.Deviation.{deviation}
 use Rattle.model.specs.Queue.{waiting, arrived, Paced, HeldOn, Buffers, BuffersAtSeams, BuffersByLead}
 use Rattle.model.proofs.Sums.{sum-ext, sum-append}
 use Rattle.model.proofs.Runs.{cells-repeated, cells-once}
 use Rattle.model.proofs.Integers.{minus-least}
-use Rattle.model.proofs.Demand3.{Sound, Good, good-of, share-split, run-sharp, chain-sound}
+use Rattle.model.proofs.Demand3.{Sound, Good, good-of, share-split, chain-sound}
+use Rattle.model.proofs.Sharp.{run-sharp}
 
 -- ---- the run since the queue was last empty: what waits now arrived in it and has not left
 pub record Since (arrive scheduled : ℕ → ℕ) (t : ℕ) : Type 0 where

@@ -10,7 +10,8 @@ use Rattle.model.specs.Words.{sumTo, Near, Every}
 use Rattle.model.specs.Flows.{portOf, countsOf, Class, Of, load}
 use Rattle.model.specs.Frames.{cells, runOf}
 use Rattle.model.specs.Schedule.{slotOf, frameOf}
-use Rattle.model.specs.Wire.{Call, Carried, none, chain, cellsIn, inside, share, Shape, deviation}
+use Rattle.model.specs.Wire.{Call, Carried, none, chain, cellsIn, inside, share, Shape}
+use Rattle.model.specs.Deviation.{deviation}
 use Rattle.model.proofs.Cells.{run-first, run-second}
 use Rattle.model.proofs.Levels.{double}
 use Rattle.model.proofs.Halves.{load-flow}

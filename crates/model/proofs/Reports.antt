@@ -15,7 +15,6 @@ use Rattle.model.specs.Demand2.{Ported, Linked}
 use Rattle.model.specs.Refusals.{Check, report, clear, refusal, accepted, bad-ports, bad-slots, bad-list, bad-flows, portsWithin, bad-flow, linkWithin, bad-link, bad-frame, bad-slot}
 use Rattle.model.specs.Frames.{levels, Power}
 use Rattle.model.specs.Service.{bad-length}
-use Rattle.model.specs.Sheet.{bad-sheet}
 use Rattle.model.specs.declared.Refusal.{Refusal}
 use Rattle.model.specs.declared.Refusal.the-variants.{Ports, Slots, ListLength, FrameLength, InputLoad, OutputLoad, LineForm, LinePort, SheetLength, SlotNumber, FlowOrPort, RunLength, TooManyFlows, FlowPort, FlowLink, LinkLoad}
 use Rattle.model.proofs.Cases.{byBool, within-yes, within-true, both-true, both-yes}
@@ -122,7 +121,7 @@ size-tells : (size n : ℕ) (answer : List ℕ) → Tells (not (eqb size n), ans
 size-tells size n answer =
     record { met = λ f. ap not (eq-eqb size n f); known = λ e. eqb-true size n (not-false (eqb size n) e) }
 
-most-tells : (most n : ℕ) (answer : List ℕ) → Tells (ltb most n, answer) (n ≤ most)
+pub most-tells : (most n : ℕ) (answer : List ℕ) → Tells (ltb most n, answer) (n ≤ most)
 most-tells most n answer = record { met = le-ltb most n; known = ltb-false most n }
 
 -- a search among n that finds none
@@ -179,10 +178,6 @@ link-tells list =
 -- 4: the frame has slots × ports entries
 pub frame-tells : (ports slots : ℕ) (entries : List ℕ) → Tells (bad-frame ports slots entries) (length entries ≡ slots * ports)
 frame-tells ports slots entries = size-tells (length entries) (slots * ports) _
-
--- 10: the sheet has at most 32,768 bytes
-pub sheet-tells : (bytes : List ℕ) → Tells (bad-sheet bytes) (length bytes ≤ 32768)
-sheet-tells bytes = most-tells 32768 (length bytes) _
 
 -- 11: the slot is 1 to slots
 pub slot-tells : (slots slot : ℕ) → Tells (bad-slot slots slot) (Within 1 slots slot)

@@ -10,18 +10,24 @@ use Rattle.model.specs.Words.{within, Within}
 use Rattle.model.specs.Flows.{stride, flows, numberOf, inputs, links, portOf, countsOf, output, load, input}
 use Rattle.model.specs.Refusals.{Check, report, overload, portOverloads}
 use Rattle.model.specs.Schedule.{frameOf}
-use Rattle.model.specs.Sheet.{printFrame, digits, portsLine, slotsLine, pairLine, lines, bad-line-flow, bad-port, Asked, loads, readPairs, readPorts, readSheet, response}
+use Rattle.model.specs.Sheet.{bad-sheet, printFrame, digits, portsLine, slotsLine, pairLine, lines, bad-line-flow, bad-port, Asked, loads, readPairs, readPorts, readSheet, response}
 use Rattle.model.specs.Sheet as asked
 use Rattle.model.proofs.Cases.{byLt, both-true, within-yes, within-true}
 use Rattle.model.specs.Frames.{Power}
 use Rattle.model.proofs.Levels.{power-level, power-most}
 use Rattle.model.proofs.OneFrame.{only-frame}
 use Rattle.model.specs.Demand2.{Ported, Linked, Light, Over, WellFormed}
-use Rattle.model.proofs.Reports.{report-found, report-on, Tells, ports-tells, slots-tells, clear-some, broken, byFact, sheet-tells}
+use Rattle.model.proofs.Reports.{report-found, report-on, Tells, ports-tells, slots-tells, clear-some, broken, byFact, most-tells}
 use Rattle.model.proofs.Overloads.{over-reported, overload-tells, byOver}
 use Rattle.model.proofs.Demand2.{well-frame, light-fits, fits-clear}
-use Rattle.model.proofs.Answers.{Exactly, exactly, input-5, output-6, ReadsPairs, ended, form-7, flows-21, port-8, taken, Reads, line-1-7, line-1-1, line-2-7, line-2-2, from-3, Responds, sheet-10, lines-refused, frame}
+use Rattle.model.specs.Answers.{Exactly}
+use Rattle.model.proofs.Answers.{exactly}
+use Rattle.model.specs.Responds.{input-5, output-6, flows-21, ReadsPairs, ended, form-7, port-8, taken, Reads, line-1-7, line-1-1, line-2-7, line-2-2, from-3, Responds, sheet-10, lines-refused, frame}
 use Rattle.model.proofs.Sheets.{ports-yes, ports-no, byPortsLine, slots-yes, slots-no, bySlotsLine, pairs-yes, pairs-none, pairs-no, byPairLine, pair-lines, no-lines, some-lines}
+
+-- 10: the sheet has at most 32,768 bytes
+sheet-tells : (bytes : List ℕ) → Tells (bad-sheet bytes) (length bytes ≤ 32768)
+sheet-tells bytes = most-tells 32768 (length bytes) _
 
 -- ---- a list, flow by flow
 -- a flow more, on link 1

@@ -9,12 +9,14 @@ use lib.ListN.{length}
 use borrow.Author.Tests.{le-ltb, lt-ltb}
 use Rattle.model.specs.Words.{if, sumTo, Every}
 use Rattle.model.specs.Flows.{Class, Of}
-use Rattle.model.specs.Wire.{Carried, none, chain, cellsAt, share, deviation}
-use Rattle.model.specs.Queue.{waiting, arrived, Paced}
-use Rattle.model.specs.Row.{sent, Sends, Hop, framesAt, scheduledAt, Reserved, onward, HeldAlong, Row}
+use Rattle.model.specs.Wire.{Carried, none, chain, cellsAt, share}
+use Rattle.model.specs.Deviation.{deviation}
+use Rattle.model.specs.Queue.{waiting, arrived, Paced, sent}
+use Rattle.model.specs.Row.{Sends, Hop, framesAt, scheduledAt, Reserved, onward, HeldAlong, Row}
 use Rattle.model.proofs.Cases.{byLt}
 use Rattle.model.proofs.Sums.{sum-append, sum-le}
-use Rattle.model.proofs.Demand3.{Good, good-of, at-beyond, run-sharp, chain-sound}
+use Rattle.model.proofs.Demand3.{Good, good-of, at-beyond, chain-sound}
+use Rattle.model.proofs.Sharp.{run-sharp}
 use Rattle.model.proofs.Queues.{served, share-is, sound-steady}
 
 module _ (arrive scheduled : ℕ → ℕ) where

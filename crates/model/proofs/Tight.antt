@@ -12,7 +12,8 @@ use Rattle.model.specs.Frames.{cells, runOf}
 use Rattle.model.specs.Refusals.{slotsEach}
 use Rattle.model.specs.Schedule.{walk, settleAt, favours, slotOf, frameOf}
 use Rattle.model.specs.Build.{buildChecks}
-use Rattle.model.specs.Wire.{Call, Carried, none, chain, cellsAt, cellsIn, share, Shape, deviation}
+use Rattle.model.specs.Wire.{Call, Carried, none, chain, cellsAt, cellsIn, share, Shape}
+use Rattle.model.specs.Deviation.{deviation}
 use Rattle.model.specs.Queue.{waiting, queue, arrived, Paced}
 use Rattle.model.specs.Wait.{byDemand3, bySharp, longest}
 use Rattle.model.specs.Row.{Hop, scheduledAt, Reserved, onward}

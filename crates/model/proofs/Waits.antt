@@ -9,14 +9,14 @@ use lib.ListN.{length, getD, drop}
 use Rattle.model.specs.Words.{upFrom, sumTo, Every}
 use Rattle.model.specs.Flows.{Class, Of, load}
 use Rattle.model.specs.Wire.{Carried, none, chain, cellsAt, cellsIn, share, Shape}
-use Rattle.model.specs.Queue.{waiting, queue, arrived}
+use Rattle.model.specs.Queue.{waiting, queue, arrived, sent}
 use Rattle.model.specs.Wait.{HasAtLeast, byDemand3, bySharp, Leaves, Suffices, WaitsOn, LongestWait, longest, Least, LeastWait, PacedOn, PacedWait}
-use Rattle.model.specs.Row.{sent}
 use Rattle.model.proofs.Cases.{byLt}
 use Rattle.model.proofs.Sums.{sum-append}
 use Rattle.model.proofs.Legal.{legal-exact}
 use Rattle.model.proofs.Accuracy.{deviation-most}
-use Rattle.model.proofs.Demand3.{Sound, Good, good-of, run-sharp, chain-sound}
+use Rattle.model.proofs.Demand3.{Sound, Good, good-of, chain-sound}
+use Rattle.model.proofs.Sharp.{run-sharp}
 use Rattle.model.proofs.Queues.{since, share-least, share-more, arrived-append, served}
 use Rattle.model.proofs.Rows.{kept}
 

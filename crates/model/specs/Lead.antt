@@ -8,7 +8,7 @@ use Rattle.model.specs.Flows.{Class, Of, load}
 use Rattle.model.specs.Frames.{cells, repeated}
 use Rattle.model.specs.Build.{buildAccepts, left}
 use Rattle.model.specs.Service.{lead, service}
-use Rattle.model.specs.Wire.{deviation}
+use Rattle.model.specs.Deviation.{deviation}
 use Rattle.model.specs.declared.Who.{Who}
 
 -- The lead of a run of a frame of 2 ^ k slots and a list, the frame repeating for ever.

@@ -15,10 +15,14 @@ pub mod Demand2
 pub mod Budget
 pub mod Inspect
 pub mod Service
+pub mod Answers
 pub mod Wire
+pub mod Deviation
+pub mod Sharp
 pub mod Lead
 pub mod Queue
 pub mod Wait
 pub mod Row
 pub mod Line
 pub mod Sheet
+pub mod Responds

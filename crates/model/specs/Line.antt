@@ -3,9 +3,9 @@ use Prim.Native.Nat.{ℕ, suc, _+_, _*_, _^_, _≤_, _<_}
 use lib.ListN.{length, getD}
 use Rattle.model.specs.Words.{Every}
 use Rattle.model.specs.Flows.{link}
-use Rattle.model.specs.Wire.{cellsAt, EveryChain, deviation}
-use Rattle.model.specs.Queue.{waiting, arrived}
-use Rattle.model.specs.Row.{sent}
+use Rattle.model.specs.Wire.{cellsAt, EveryChain}
+use Rattle.model.specs.Deviation.{deviation}
+use Rattle.model.specs.Queue.{waiting, arrived, sent}
 
 -- A line takes m cells a frame: in no run of the first slots does it take fewer than the run's share of them, less an allowance b,
 -- both in parts of 1 / 2 ^ k of a cell.

@@ -1,5 +1,5 @@
 -- The queue of one flow at a line card, and how deep its buffer has to be.
-use Prim.Native.Nat.{ℕ, suc, zero, _+_, _*_, _-_, _^_, _≤_, _<_}
+use Prim.Native.Nat.{ℕ, suc, zero, _+_, _*_, _-_, _^_, _≤_, _<_, min}
 use mathlib.Core.Path.{_≡_}
 use mathlib.Core.List.{List, [], _++_}
 use lib.IntN.{pos, negℤ}
@@ -9,13 +9,18 @@ use Rattle.model.specs.Words.{upFrom, sumTo, Every}
 use Rattle.model.specs.Flows.{Class, Of, load}
 use Rattle.model.specs.Frames.{cells, repeated}
 use Rattle.model.specs.Service.{lead}
-use Rattle.model.specs.Wire.{Carried, cellsAt, share, EveryChain, deviation}
+use Rattle.model.specs.Wire.{Carried, cellsAt, share, EveryChain}
+use Rattle.model.specs.Deviation.{deviation}
 
 -- How many cells wait after the first t slots. The cells that arrive in a slot join before that slot's cell leaves, and a
 -- flow scheduled with none waiting sends nothing: what is taken away stops at 0.
 unfoldable pub waiting : (ℕ → ℕ) → (ℕ → ℕ) → ℕ → ℕ
 waiting arrive scheduled zero = 0
 waiting arrive scheduled (suc t) = waiting arrive scheduled t + arrive t - scheduled t
+
+-- What a switch sends of a flow in slot t: as many of the cells that wait, and of those that arrive in the slot, as are scheduled.
+abbrev pub sent : (ℕ → ℕ) → (ℕ → ℕ) → ℕ → ℕ
+sent arrive scheduled t = min (waiting arrive scheduled t + arrive t) (scheduled t)
 
 -- The same queue cell by cell, first in, first out: the cells that wait, in front the one that is next to leave. They are
 -- numbered as they arrive; those of a slot join at the back, and as many as are scheduled leave from the front.

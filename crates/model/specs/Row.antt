@@ -6,12 +6,9 @@ use lib.Dec.{ltb}
 use lib.ListN.{length}
 use Rattle.model.specs.Words.{if, Every}
 use Rattle.model.specs.Flows.{Class, Of, load}
-use Rattle.model.specs.Wire.{Call, Carried, none, chain, cellsAt, share, Shape, EveryChain, deviation}
-use Rattle.model.specs.Queue.{waiting, Paced, Held}
-
--- What a switch sends of a flow in slot t: as many of the cells that wait, and of those that arrive in the slot, as are scheduled.
-abbrev pub sent : (ℕ → ℕ) → (ℕ → ℕ) → ℕ → ℕ
-sent arrive scheduled t = min (waiting arrive scheduled t + arrive t) (scheduled t)
+use Rattle.model.specs.Wire.{Call, Carried, none, chain, cellsAt, share, Shape, EveryChain}
+use Rattle.model.specs.Deviation.{deviation}
+use Rattle.model.specs.Queue.{waiting, Paced, Held, sent}
 
 -- In no run of its chain does a switch send more than the run's share and 2 × deviation k, whatever came to it.
 abbrev pub Sends : Type 0

@@ -6,7 +6,8 @@ use lib.ListN.{length, getD}
 use Rattle.model.specs.Words.{Every}
 use Rattle.model.specs.Flows.{Class, Of}
 use Rattle.model.specs.Frames.{cells}
-use Rattle.model.specs.Wire.{Carried, cellsAt, cellsIn, share, EveryChain, deviation}
+use Rattle.model.specs.Wire.{Carried, cellsAt, cellsIn, share, EveryChain}
+use Rattle.model.specs.Deviation.{deviation}
 use Rattle.model.specs.Queue.{waiting, queue, Paced}
 
 -- The class has at least m cells in every frame of the chain.

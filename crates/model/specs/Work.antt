@@ -1,9 +1,10 @@
 -- Work: how many odd counts are settled for a frame, told by its entries and the list.
-use Prim.Native.Nat.{ℕ, _*_, _/_, _%_, _^_}
+use Prim.Native.Nat.{ℕ, _*_, _/_, _%_, _^_, _≤_, _<_}
+use mathlib.Core.Path.{_≡_}
 use mathlib.Core.List.{List}
 use Rattle.model.specs.Words.{sumTo}
 use Rattle.model.specs.Flows.{flows, flow}
-use Rattle.model.specs.Frames.{cells, runOf, levels}
+use Rattle.model.specs.Frames.{cells, runOf, levels, Block}
 
 -- The flows that have an odd number of cells in the entries of whole slots: n % 2 is 1 where n is odd, and 0 where it is even.
 abbrev pub oddFlows : ℕ → List ℕ → List ℕ → ℕ
@@ -18,3 +19,10 @@ blockOf ports size b entries = runOf ports (b * size) size entries
 unfoldable pub work : ℕ → ℕ → List ℕ → List ℕ → ℕ
 work ports slots list entries =
     sumTo (levels slots) (λ t. sumTo (2 ^ t) (λ b. oddFlows ports list (blockOf ports (slots / 2 ^ t) b entries)))
+
+-- Blocks by depth and number are those of rule 1 with two or more slots, each once.
+pub record EachOnce (slots k : ℕ) : Type 0 where
+  pub block : (t b : ℕ) → t < k → b < 2 ^ t → Block slots (b * (slots / 2 ^ t)) (slots / 2 ^ t) × (2 ≤ slots / 2 ^ t)
+  pub found : (start size : ℕ) → Block slots start size → 2 ≤ size
+      → (t : ℕ) × (b : ℕ) × (t < k) × (b < 2 ^ t) × (size ≡ slots / 2 ^ t) × (start ≡ b * (slots / 2 ^ t))
+  pub once : (t b u c : ℕ) → t < k → u < k → slots / 2 ^ t ≡ slots / 2 ^ u → b * (slots / 2 ^ t) ≡ c * (slots / 2 ^ u) → (t ≡ u) × (b ≡ c)
