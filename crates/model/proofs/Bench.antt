@@ -1,5 +1,5 @@
--- The nine bench loads of document 01 that are marked P: one list of cases, computed from the definitions. A second list
--- has a case for each answer that they do not reach. The seam load is in Tight.
+-- The bench loads of document 01 that are marked P, as far as the calls answer them: one list of cases, computed from the definitions. A
+-- second list has a case for each answer that they do not reach.
 use Prim.Native.Nat.{ℕ, suc, _*_}
 use Prim.Native.String.{String}
 use mathlib.Core.Path.{_≡_, refl}
@@ -67,10 +67,10 @@ abbrev ownFrame : List ℕ
 ownFrame = 1 ∷ 0 ∷ 0 ∷ 0 ∷ 0 ∷ 0 ∷ 3 ∷ 0 ∷ 0 ∷ 2 ∷ 0 ∷ 0 ∷ 0 ∷ 0 ∷ 0 ∷ 4 ∷ []
 
 -- the flows of the sheet, in the order of its lines
-abbrev table7 : List ℕ
+abbrev pub table7 : List ℕ
 table7 = 1 ∷ 1 ∷ 2 ∷ 1 ∷ 1 ∷ 2 ∷ 2 ∷ 1 ∷ 4 ∷ 1 ∷ 1 ∷ 1 ∷ 4 ∷ 2 ∷ 1 ∷ 1 ∷ 4 ∷ 4 ∷ 2 ∷ 1 ∷ []
 
-abbrev table7Frame : List ℕ
+abbrev pub table7Frame : List ℕ
 table7Frame = 1 ∷ 0 ∷ 0 ∷ 5 ∷ 2 ∷ 0 ∷ 0 ∷ 3 ∷ 1 ∷ 0 ∷ 0 ∷ 4 ∷ 2 ∷ 0 ∷ 0 ∷ 5 ∷ []
 
 -- four loads of 1, and their frame
@@ -80,17 +80,6 @@ four = 1 ∷ 1 ∷ 1 ∷ 1 ∷ 1 ∷ 2 ∷ 1 ∷ 1 ∷ 2 ∷ 1 ∷ 1 ∷ 1 ∷ 2
 abbrev crossed : List ℕ
 crossed = 1 ∷ 4 ∷ 2 ∷ 3 ∷ []
 
--- the sheet's frame, carried twice
-abbrev twice : List Carried
-twice = chain none (replicate 16 77) (record { ports = 4; slots = 4; list = table7; limits = slotsEach 4; times = 2 } ∷ [])
-
-sheet : List ℕ
-sheet =
-    text "(ports 4)\n(slots 4)\n(pair (in 1) (out 1) (cells 2))\n(pair (in 1) (out 2) (cells 2))\n(pair (in 4) (out 1) (cells 1))\n(pair (in 4) (out 2) (cells 1))\n(pair (in 4) (out 4) (cells 2))\n"
-
-printed : List ℕ
-printed = text "(frame (ports 4) (slots 4))\n(slot 1 1 5)\n(slot 2 2 3)\n(slot 3 1 4)\n(slot 4 2 5)\n"
-
 pub cases : List Case
 cases =
     frame 1 1 (1 ∷ 1 ∷ 1 ∷ 1 ∷ []) 0 (1 ∷ [])
@@ -98,22 +87,19 @@ cases =
     ∷ frame 2 2 four 4 crossed
     ∷ frame 4 4 own 8 ownFrame
     ∷ frame 4 4 table7 10 table7Frame
-    ∷ record { gives = response sheet; says = printed }
     ∷ turnedAway 2 4 (1 ∷ 1 ∷ 3 ∷ 1 ∷ 1 ∷ 2 ∷ 2 ∷ 1 ∷ []) (5 ∷ 1 ∷ 5 ∷ [])
     ∷ record { gives = admitted 2 4 (1 ∷ 1 ∷ 2 ∷ 1 ∷ 1 ∷ 2 ∷ 2 ∷ 1 ∷ []) (slotsEach 4); says = 0 ∷ [] }
     ∷ turnedAway 2 4 (1 ∷ 1 ∷ 3 ∷ 1 ∷ 2 ∷ 1 ∷ 2 ∷ 1 ∷ []) (6 ∷ 1 ∷ 5 ∷ [])
     ∷ turnedAway 2 4 (1 ∷ 1 ∷ 5 ∷ 1 ∷ []) (5 ∷ 1 ∷ 5 ∷ [])
     -- one cell more than its share: four parts of a quarter
     ∷ counting (service 4 4 table7 table7Frame (Flow 5) 4 2) (0 ∷ 2 ∷ []) 4 0
-    -- the same run on the wire: 2 cells, and a share of 1, which is 4 over 2 ^ k
-    ∷ record { gives = cellsIn (flow 4) twice 3 2 ∷ share (flow 4) 0 twice 3 2 ∷ []; says = 2 ∷ 4 ∷ [] }
     ∷ []
 
 -- ---- the frames of the lists, and what the sheet comes to
-abbrev frameAt : ℕ → ℕ → List ℕ → List ℕ
+abbrev pub frameAt : ℕ → ℕ → List ℕ → List ℕ
 frameAt ports k list = frameOf ports (portOf list) k (countsOf list)
 
-table7-framed : frameAt 4 2 table7 ≡ table7Frame
+pub table7-framed : frameAt 4 2 table7 ≡ table7Frame
 unfolding portOf countsOf walk settleAt favours slotOf frameOf
 table7-framed = refl
 
@@ -126,28 +112,11 @@ small-framed : (frameAt 1 0 (1 ∷ 1 ∷ 1 ∷ 1 ∷ []) ≡ 1 ∷ []) × (frame
 unfolding portOf countsOf walk settleAt favours slotOf frameOf
 small-framed = (refl, refl, refl)
 
-sheet-asks : readSheet sheet ≡ loads 4 4 table7
-unfolding sheet sumTo portOf countsOf loadIn digits portsLine slotsLine pairLine lines numbersFrom readPairs readSheet
-sheet-asks = refl
-
-sheet-printed : response sheet ≡ printed
-unfolding printed digits printSlots response
-sheet-printed = rw (sheet-asks, table7-framed)
-
 pub bench : map (λ c. c .gives) cases ≡ map (λ c. c .says) cases
-unfolding cases frame turnedAwayBy turnedAway counting sumTo portOf countsOf loadIn cells runOf work admitted buildChecks countChecks service repeated lead chain cellsAt cellsIn share walk settleAt favours slotOf frameOf
-bench = rw sheet-printed
-
--- the bound of that run for k = 2 is 5/3, which is 20 over 3 × 2 ^ k: 24 for the cells is within 20 of 12 for the share
-pub ninth-bound : Accurate 4 2 twice → Near 20 24 12
-unfolding chain cellsAt cellsIn share cells runOf buildChecks sumTo portOf countsOf loadIn walk settleAt favours slotOf frameOf
-ninth-bound a = a 3 2 (omega arith) (flow 4) tt
+unfolding cases frame turnedAwayBy turnedAway counting sumTo portOf countsOf loadIn cells runOf work admitted buildChecks countChecks service repeated lead walk settleAt favours slotOf frameOf
+bench = refl
 
 -- ---- an answer of each kind that the nine loads do not reach
--- A sheet, and the line that is printed for it.
-answers : List ℕ → String → Case
-answers asked line = record { gives = response asked; says = text line }
-
 -- A view of a frame: the number, where the part begins, its size and its bytes.
 views : ℕ → List ℕ → Case
 views slot says =
@@ -183,26 +152,8 @@ inspects entries says = record { gives = inspected 2 2 (1 ∷ 1 ∷ 1 ∷ 1 ∷ 
 
 pub others : List Case
 others =
-    -- each refusal of a sheet, by its printed line
-    answers (text "(ports 17)\n") "(refused 1)\n"
-    ∷ answers (text "(ports 2)\n(slots 3)\n") "(refused 2)\n"
-    ∷ answers (text "(ports 2)\n(slots 1)\n(pair (in 1) (out 1) (cells 2))\n(pair (in 2) (out 1) (cells 1))\n") "(refused 5 (port 1) (cells 2))\n"
-    ∷ answers (text "(ports 2)\n(slots 1)\n(pair (in 1) (out 2) (cells 1))\n(pair (in 2) (out 2) (cells 1))\n") "(refused 6 (port 2) (cells 2))\n"
-    ∷ answers (text "(ports 2)\n(slots 1)\n(pair (in 1) (out 1) (cells 01))\n") "(refused 7 (line 3))\n"
-    ∷ answers (text "(ports 2)\n(slots 1)\n(pair (in 1) (out 3) (cells 0))\n") "(refused 8 (line 3))\n"
-    -- a pair named twice is two flows
-    ∷ answers (text "(ports 2)\n(slots 2)\n(pair (in 1) (out 2) (cells 1))\n(pair (in 1) (out 2) (cells 1))\n") "(frame (ports 2) (slots 2))\n(slot 1 1)\n(slot 2 2)\n"
-    -- lines that break the form: a number above 65535, byte 13 before byte 10, no byte 10 at the end, an empty line, none
-    ∷ answers (text "(ports 65536)\n") "(refused 7 (line 1))\n"
-    ∷ answers (text "(ports 2)" ++ (13 ∷ 10 ∷ text "(slots 1)\n")) "(refused 7 (line 1))\n"
-    ∷ answers (text "(ports 2)\n(slots 1)") "(refused 7 (line 2))\n"
-    ∷ answers (text "(ports 2)\n(slots 1)\n\n") "(refused 7 (line 3))\n"
-    ∷ answers [] "(refused 7 (line 1))\n"
-    ∷ answers (text "(ports 2)\n") "(refused 7 (line 2))\n"
-    -- an idle slot
-    ∷ answers (text "(ports 1)\n(slots 1)\n") "(frame (ports 1) (slots 1))\n(slot 1)\n"
     -- slot 2 of a frame, and slots outside it
-    ∷ views 2 (0 ∷ 2 ∷ 2 ∷ 2 ∷ 3 ∷ [])
+    views 2 (0 ∷ 2 ∷ 2 ∷ 2 ∷ 3 ∷ [])
     ∷ views 0 (11 ∷ 0 ∷ 0 ∷ [])
     ∷ views 3 (11 ∷ 0 ∷ 0 ∷ [])
     -- each flow, an input, an output, over the whole frame
@@ -253,5 +204,5 @@ others =
     ∷ []
 
 pub others-answered : map (λ c. c .gives) others ≡ map (λ c. c .says) others
-unfolding others answers views frame turnedAwayBy turnedAway counting counts countsAny inspects inspected isWrong twiceIn usedTwice wrongCount unbalanced unbalancedNumber unbalancedAt digits portsLine slotsLine pairLine lines numbersFrom readPairs readSheet printSlots response sumTo portOf countsOf loadIn cells runOf work admitted buildChecks countChecks service repeated lead viewChecks walk settleAt favours slotOf frameOf
+unfolding others views frame turnedAwayBy turnedAway counting counts countsAny inspects inspected isWrong twiceIn usedTwice wrongCount unbalanced unbalancedNumber unbalancedAt sumTo portOf countsOf loadIn cells runOf work admitted buildChecks countChecks service repeated lead viewChecks walk settleAt favours slotOf frameOf
 others-answered = refl

@@ -54,3 +54,5 @@ pub mod Responses
 pub mod Answered
 pub mod Lengths
 pub mod Bench
+pub mod SheetBench
+pub mod WireBench

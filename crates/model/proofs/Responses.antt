@@ -22,7 +22,7 @@ use Rattle.model.proofs.Overloads.{over-reported, overload-tells, byOve
 use Rattle.model.proofs.Demand2.{well-frame, light-fits, fits-clear}
 use Rattle.model.specs.Answers.{Exactly}
 use Rattle.model.proofs.Answers.{exactly}
-use Rattle.model.specs.Responds.{input-5, output-6, flows-21, ReadsPairs, ended, form-7, port-8, taken, Reads, line-1-7, line-1-1, line-2-7, line-2-2, from-3, Responds, sheet-10, lines-refused, frame}
+use Rattle.model.specs.Responds.{input-5, output-6, flows-21, ReadsPairs, ended, form-7, port-8, taken, Reads, line-1-7, line-1-1, line-2-7, line-2-2, from-3, Responds, sheet-10, lines-refused, frame, RespondsByCases}
 use Rattle.model.proofs.Sheets.{ports-yes, ports-no, byPortsLine, slots-yes, slots-no, bySlotsLine, pairs-yes, pairs-none, pairs-no, byPairLine, pair-lines, no-lines, some-lines}
 
 -- 10: the sheet has at most 32,768 bytes
@@ -239,3 +239,7 @@ module _ (bytes : List ℕ) where
   respond-exactly =
       byFact (sheet-tells bytes) (λ b. exactly respond-only (sheet-10 (byLt 32768 (length bytes) (λ l. l) (λ l. absurd (b l)))))
       (λ h. let r = reads-some bytes in respond-some h (r .0) (r .1))
+
+-- The sheet program answers by its cases.
+pub sheet-by-cases : RespondsByCases
+sheet-by-cases = respond-exactly
