@@ -12,12 +12,12 @@ use lib.Dec.{eqb}
 use lib.ListN.{length, getD, set, replicate, length-set}
 use lib.Seq.{getD-set-same, getD-set-other}
 use borrow.Author.Tests.{eq-eqb, ne-eqb}
-use Rattle.model.specs.Words.{if, sumIf, Within}
-use Rattle.model.specs.Flows.{flows, numberOf, inputs, links, outputOf, portOf, countsOf, Class, input, output, link, isOf, loadIn, load}
-use Rattle.model.proofs.Cases.{byEq}
-use Rattle.model.proofs.Lists.{zero-at}
-use Rattle.model.proofs.Sums.{sum-none, sum-more, sum-ext, sum-zero}
-use Rattle.model.proofs.Flows.{counts-length, counts-at}
+use Rattle.rules.specs.Words.{if, sumIf, Within}
+use Rattle.rules.specs.Flows.{flows, numberOf, inputs, links, outputOf, portOf, countsOf, Class, input, output, link, isOf, loadIn, load}
+use Rattle.rules.proofs.Cases.{byEq}
+use Rattle.rules.proofs.Lists.{zero-at}
+use Rattle.rules.proofs.Sums.{sum-none, sum-more, sum-ext, sum-zero}
+use Rattle.rules.proofs.Flows.{counts-length, counts-at}
 use Rattle.admission.specs.Lists.{Taken}
 use Rattle.admission.specs.Overloads.{valueAt, Given, EveryLoad}
 

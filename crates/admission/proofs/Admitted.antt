@@ -2,11 +2,11 @@
 use Prim.Native.Nat.{ℕ}
 use mathlib.Core.Path.{_≡_, sym, _∙_}
 use mathlib.Core.List.{List}
-use Rattle.model.specs.Refusals.{refusal, accepted, answered, overloads, admitted}
-use Rattle.model.specs.declared.Refusal.{Refusal}
-use Rattle.model.specs.declared.Answer.{Answer}
-use Rattle.model.specs.declared.Answer.the-variants.{Accepted, Refused}
-use Rattle.model.proofs.Demand2.{past-load}
+use Rattle.calls.specs.Refusals.{refusal, accepted, answered, overloads, admitted}
+use Rattle.calls.specs.declared.Refusal.{Refusal}
+use Rattle.calls.specs.declared.Answer.{Answer}
+use Rattle.calls.specs.declared.Answer.the-variants.{Accepted, Refused}
+use Rattle.calls.proofs.Demand2.{past-load}
 use Rattle.admission.specs.Lists.{ListAnswer, Taken}
 use Rattle.admission.specs.Overloads.{EveryLoad, decided}
 use Rattle.admission.proofs.Listed.{list-refused, list-well, well-taken}

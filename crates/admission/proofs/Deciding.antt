@@ -2,11 +2,11 @@
 use Prim.Native.Nat.{ℕ, _+_, _%_, _≤_, _<_}
 use mathlib.Core.Path.{_≡_, sym, ap, _∙_}
 use mathlib.Core.List.{List, [], _∷_}
-use Rattle.model.specs.Words.{if}
-use Rattle.model.specs.Flows.{outputOf, input, output, link, load}
-use Rattle.model.specs.Refusals.{Check, report, accepted, lowestAbove, aboveSlots, lowestPast, aboveLimits, overload, overloads}
-use Rattle.model.proofs.Overloads.{above-found, above-none, above-same, past-found, past-none, past-same}
-use Rattle.model.proofs.Reports.{report-found, report-on}
+use Rattle.rules.specs.Words.{if}
+use Rattle.rules.specs.Flows.{outputOf, input, output, link, load}
+use Rattle.calls.specs.Refusals.{Check, report, accepted, lowestAbove, aboveSlots, lowestPast, aboveLimits, overload, overloads}
+use Rattle.calls.proofs.Overloads.{above-found, above-none, above-same, past-found, past-none, past-same}
+use Rattle.calls.proofs.Reports.{report-found, report-on}
 use Rattle.admission.specs.Lists.{Taken}
 use Rattle.admission.specs.Overloads.{valueAt, EveryLoad, decided}
 

@@ -7,7 +7,7 @@ use native.Mathlib.Omega.{arith}
 use native.Mathlib.Nat.{mul-mod-left, div-eq-of-eq-mul-left, div-add-mod'}
 use lib.Dec.{eqb}
 use borrow.Author.Tests.{eq-eqb, ne-eqb}
-use Rattle.model.proofs.Cases.{byEq}
+use Rattle.rules.proofs.Cases.{byEq}
 
 module _ (length rows columns : ℕ) where
   pub no-columns : columns ≡ 0 → not (eqb length 0) ≡ not (eqb length (rows * columns))

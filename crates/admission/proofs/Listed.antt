@@ -4,13 +4,13 @@ use mathlib.Core.Path.{_≡_, sym, ap, _∙_}
 use mathlib.Core.List.{List, _++_}
 use native.Mathlib.Omega.{arith}
 use lib.ListN.{getD}
-use Rattle.model.specs.Refusals.{Check, report, refusal, accepted, answered, listChecks}
-use Rattle.model.specs.declared.Refusal.{Refusal}
-use Rattle.model.specs.declared.Answer.{Answer}
-use Rattle.model.specs.declared.Answer.the-variants.{Accepted, Refused}
-use Rattle.model.proofs.Reports.{clear-none, report-stops}
-use Rattle.model.specs.Demand2.{WellFormed}
-use Rattle.model.proofs.Demand2.{clear-well}
+use Rattle.calls.specs.Refusals.{Check, report, refusal, accepted, answered, listChecks}
+use Rattle.calls.specs.declared.Refusal.{Refusal}
+use Rattle.calls.specs.declared.Answer.{Answer}
+use Rattle.calls.specs.declared.Answer.the-variants.{Accepted, Refused}
+use Rattle.calls.proofs.Reports.{clear-none, report-stops}
+use Rattle.calls.specs.Demand2.{WellFormed}
+use Rattle.calls.proofs.Demand2.{clear-well}
 use Rattle.admission.specs.Lists.{ListAnswer, Taken}
 
 module _ {ports slots : ℕ} {list : List ℕ} {a : Answer} (l : ListAnswer ports slots list (answered a)) where

@@ -6,10 +6,10 @@ use mathlib.Core.Bool.{Bool, true, false, not}
 use native.Mathlib.Omega.{arith}
 use lib.Dec.{ltb}
 use borrow.Author.Tests.{lt-ltb, le-ltb, not-true, not-false}
-use Rattle.model.specs.Words.{within, first}
-use Rattle.model.specs.Flows.{flows, numberOf}
-use Rattle.model.specs.Refusals.{portsWithin, linkWithin}
-use Rattle.model.proofs.Searches.{Passed, passed-start, passed-on, passed-found, passed-done}
+use Rattle.rules.specs.Words.{within, first}
+use Rattle.rules.specs.Flows.{flows, numberOf}
+use Rattle.calls.specs.Refusals.{portsWithin, linkWithin}
+use Rattle.rules.proofs.Searches.{Passed, passed-start, passed-on, passed-found, passed-done}
 
 -- ---- one flow, by its two ports
 module _ (ports f : ℕ) (list : List ℕ) {x : ℕ} {q : Bool} (input : x ≡ numberOf 0 list f) (one : q ≡ not (within 1 ports x)) where

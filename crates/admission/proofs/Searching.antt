@@ -7,9 +7,9 @@ use native.Mathlib.Nat.{pow-le-pow-right, two-pow-succ}
 use native.Mathlib.Numerals.{add-one}
 use lib.Dec.{eqb, ltb}
 use borrow.Author.Tests.{eq-eqb, ne-eqb, lt-ltb, le-ltb}
-use Rattle.model.specs.Words.{first}
-use Rattle.model.specs.Frames.{levels}
-use Rattle.model.proofs.Searches.{Passed, passed-start, passed-on, passed-found, passed-done}
+use Rattle.rules.specs.Words.{first}
+use Rattle.rules.specs.Frames.{levels}
+use Rattle.rules.proofs.Searches.{Passed, passed-start, passed-on, passed-found, passed-done}
 
 -- ---- the level of slots: power is 2 ^ k, and no lower power is slots
 pub record Climbing (slots k power : ℕ) : Type 0 where

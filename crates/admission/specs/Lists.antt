@@ -2,9 +2,9 @@
 use Prim.Native.Nat.{ℕ, _≤_}
 use mathlib.Core.Path.{_≡_}
 use mathlib.Core.List.{List}
-use Rattle.model.specs.Flows.{flows}
-use Rattle.model.specs.Refusals.{report, accepted, listChecks}
-use Rattle.model.specs.Demand2.{Ported, Linked}
+use Rattle.rules.specs.Flows.{flows}
+use Rattle.calls.specs.Refusals.{report, accepted, listChecks}
+use Rattle.calls.specs.Demand2.{Ported, Linked}
 
 -- The answer is theirs: 1, 2, 3, 21, 22, 23, or accepted.
 pub record ListAnswer (ports slots : ℕ) (list answer : List ℕ) : Type 0 where

@@ -3,8 +3,8 @@ use Prim.Native.Nat.{ℕ, _*_, _≤_, _<_}
 use mathlib.Core.Path.{_≡_}
 use mathlib.Core.List.{List, [], _∷_}
 use lib.ListN.{length, getD}
-use Rattle.model.specs.Flows.{input, output, link, load}
-use Rattle.model.specs.Refusals.{report, accepted, aboveSlots, aboveLimits}
+use Rattle.rules.specs.Flows.{input, output, link, load}
+use Rattle.calls.specs.Refusals.{report, accepted, aboveSlots, aboveLimits}
 
 -- What stands at a place of a list.
 abbrev pub valueAt : List ℕ → ℕ → ℕ

@@ -4,18 +4,18 @@ ghost use mathlib.Core.Bool.{not};
 ghost use Prim.Native.Nat.{_*_, _<_};
 ghost use lib.Dec.{eqb};
 ghost use lib.ListN.{length};
-ghost use Rattle.model.specs.Words.{within};
-ghost use Rattle.model.specs.Flows.{flows};
-ghost use Rattle.model.specs.Frames.{levels};
-ghost use Rattle.model.specs.Refusals.{portsWithin, bad-flow, bad-link, lowestAbove, lowestPast, answered, admitted};
+ghost use Rattle.rules.specs.Words.{within};
+ghost use Rattle.rules.specs.Flows.{flows};
+ghost use Rattle.rules.specs.Frames.{levels};
+ghost use Rattle.calls.specs.Refusals.{portsWithin, bad-flow, bad-link, lowestAbove, lowestPast, answered, admitted};
 ghost use Rattle.admission.specs.Lists.{ListAnswer, Taken};
 ghost use Rattle.admission.specs.Overloads.{valueAt, EveryLoad, decided};
 use flows::STRIDE;
 use flows::flows_of;
 use flows::link_of;
 use flows::number_of;
-use model::Answer;
-use model::Refusal;
+use calls::Answer;
+use calls::Refusal;
 
 // Not one of 1, 2, .., most: refusals 1, 11 and 12.
 pub fn outside(most: usize, n: usize) -> bool

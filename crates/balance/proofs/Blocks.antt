@@ -11,14 +11,14 @@ use native.Mathlib.Numerals.{add-one}
 use mir.Syntax.{w64}
 use mir.Val.{Fits}
 use borrow.Author.Tests.{lt-ltb, le-ltb, lt-leb, le-leb, not-true, not-false}
-use Rattle.model.specs.Words.{first, near}
-use Rattle.model.specs.Flows.{flows, Class, flow, input, output, link, total}
-use Rattle.model.specs.Frames.{runOf, levels}
-use Rattle.model.specs.Refusals.{report}
-use Rattle.model.specs.Inspect.{unbalanced, unbalancedNumber, firstAt, unbalancedAt, unbalancedBlock}
-use Rattle.model.proofs.Searches.{Passed, passed-start, passed-on, passed-found, passed-done, first-low, first-found, first-before}
-use Rattle.model.proofs.Levels.{levels-power, depth-half, depth-fill, double}
-use Rattle.model.proofs.Inspected.{In, nearFor, unbalanced-yes, unbalanced-no}
+use Rattle.rules.specs.Words.{first, near}
+use Rattle.rules.specs.Flows.{flows, Class, flow, input, output, link, total}
+use Rattle.rules.specs.Frames.{runOf, levels}
+use Rattle.calls.specs.Refusals.{report}
+use Rattle.calls.specs.Inspect.{unbalanced, unbalancedNumber, firstAt, unbalancedAt, unbalancedBlock}
+use Rattle.rules.proofs.Searches.{Passed, passed-start, passed-on, passed-found, passed-done, first-low, first-found, first-before}
+use Rattle.rules.proofs.Levels.{levels-power, depth-half, depth-fill, double}
+use Rattle.calls.proofs.Inspected.{In, nearFor, unbalanced-yes, unbalanced-no}
 use Rattle.tally.specs.Tally.{place, Readable, tallyOf}
 use Rattle.tally.proofs.Tallies.{tally-class}
 use Rattle.balance.specs.Balance.{far}

@@ -3,7 +3,7 @@ use Prim.Native.Nat.{ℕ}
 use mathlib.Core.List.{List}
 use mathlib.Core.Bool.{Bool, not}
 use lib.ListN.{getD}
-use Rattle.model.specs.Words.{near}
+use Rattle.rules.specs.Words.{near}
 
 -- At place x two tallies differ by more than 1.
 unfoldable pub far : List ℕ → List ℕ → ℕ → Bool

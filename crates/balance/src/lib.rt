@@ -3,15 +3,15 @@ ghost use mathlib.Core.Path.{_≡_};
 ghost use mathlib.Core.Bool.{not};
 ghost use Prim.Native.Nat.{_+_, _*_, _≤_, _<_};
 ghost use lib.ListN.{length};
-ghost use Rattle.model.specs.Words.{near, first};
-ghost use Rattle.model.specs.Frames.{levels};
-ghost use Rattle.model.specs.Refusals.{report};
+ghost use Rattle.rules.specs.Words.{near, first};
+ghost use Rattle.rules.specs.Frames.{levels};
+ghost use Rattle.calls.specs.Refusals.{report};
 ghost use mathlib.Core.List.{[], _∷_};
-ghost use Rattle.model.specs.Inspect.{finding, unbalanced, unbalancedNumber, unbalancedBlock};
+ghost use Rattle.calls.specs.Inspect.{finding, unbalanced, unbalancedNumber, unbalancedBlock};
 ghost use Rattle.tally.specs.Tally.{Readable};
 ghost use Rattle.balance.specs.Balance.{far};
 use flows::flows_of;
-use model::Inspection;
+use calls::Inspection;
 use tally::tally_run;
 
 // Two counts differ by more than 1.

@@ -1,7 +1,7 @@
 // Service counts that are answered.
 use crate::lists::fill;
 use crate::show::count;
-use model::Who;
+use calls::Who;
 
 // A count in the frame of document 01's sheet, its flows in the order of the sheet's lines.
 fn sheet(who: Who, start: usize, len: usize) {

@@ -2,7 +2,7 @@
 ghost use Prim.Native.Nat.{_≤_};
 use crate::lists::fill;
 use crate::show::count;
-use model::Who;
+use calls::Who;
 
 // A count with a list of flows in so many entries that are 0.
 fn listed(

@@ -2,10 +2,10 @@
 ghost use mathlib.Core.Path.{_≡_};
 ghost use Prim.Native.Nat.{_≤_};
 ghost use lib.IntN.{natAbs};
-use model::Answer;
-use model::Refusal;
-use model::Service;
-use model::Who;
+use calls::Answer;
+use calls::Refusal;
+use calls::Service;
+use calls::Who;
 
 // A number after a space.
 fn number(n: usize) {

@@ -1,13 +1,13 @@
 // The C interface: numbers, slices and the limits of links only. Each answer is document 01's number, 0 for none, and up to two
 // values, of Admit and Build up to three; a count's second is signed.
 ghost use mathlib.Core.Path.{_≡_};
-ghost use Rattle.model.specs.Refusals.{admitted};
-ghost use Rattle.model.specs.Build.{built, left};
-ghost use Rattle.model.specs.Inspect.{inspected};
-ghost use Rattle.model.specs.Service.{viewNumber, viewStart, viewSize, service};
+ghost use Rattle.calls.specs.Refusals.{admitted};
+ghost use Rattle.calls.specs.Build.{built, left};
+ghost use Rattle.calls.specs.Inspect.{inspected};
+ghost use Rattle.calls.specs.Service.{viewNumber, viewStart, viewSize, service};
 ghost use Rattle.numbers.specs.Numbers.{Three, Four, Replied};
-use model::Answer;
-use model::Who;
+use calls::Answer;
+use calls::Who;
 
 // Admit.
 #[no_mangle]

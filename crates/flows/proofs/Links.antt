@@ -3,8 +3,8 @@ use Prim.Native.Nat.{ℕ, _+_, _-_, _*_, _<_}
 use mathlib.Core.Path.{_≡_, sym}
 use mathlib.Core.List.{List}
 use native.Mathlib.Omega.{arith}
-use Rattle.model.specs.Flows.{numberOf, links, portOf}
-use Rattle.model.specs.Words.{Within}
+use Rattle.rules.specs.Flows.{numberOf, links, portOf}
+use Rattle.rules.specs.Words.{Within}
 
 module _ (list : List ℕ) (f o l : ℕ) (output : o ≡ numberOf 1 list f) (link : l ≡ numberOf 3 list f) where
   pub link-is : (o - 1) * 4 + (l - 1) ≡ portOf list links f

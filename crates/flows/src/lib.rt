@@ -4,8 +4,8 @@ ghost use mathlib.Core.List.{[], _∷_};
 ghost use Prim.Native.Nat.{_*_, _<_, _≤_};
 ghost use lib.ListN.{length};
 ghost use lib.Seq.{sets};
-ghost use Rattle.model.specs.Flows.{stride, flows, numberOf, links, portOf};
-ghost use Rattle.model.specs.Words.{Within};
+ghost use Rattle.rules.specs.Flows.{stride, flows, numberOf, links, portOf};
+ghost use Rattle.rules.specs.Words.{Within};
 
 // The numbers of a flow: its input, its output, its cells, its link.
 pub const STRIDE: usize = 4;

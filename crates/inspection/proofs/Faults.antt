@@ -11,16 +11,16 @@ use mir.Val.{Fits}
 use lib.Dec.{eqb}
 use lib.ListN.{length}
 use borrow.Author.Tests.{lt-ltb, le-ltb, not-false, eqb-true}
-use Rattle.model.specs.Words.{first}
-use Rattle.model.specs.Flows.{flows}
-use Rattle.model.specs.Refusals.{Check, report, refusal, answered, bad-frame}
-use Rattle.model.specs.Inspect.{firstPlace, isWrong, usedTwice, wrongCount, wrongEntry, outputTwice, flowCount, unbalancedBlock, inspected}
-use Rattle.model.proofs.Searches.{first-before}
-use Rattle.model.specs.declared.Refusal.{Refusal}
-use Rattle.model.specs.declared.Answer.{Answer}
-use Rattle.model.specs.declared.Answer.the-variants.{Accepted, Refused}
-use Rattle.model.proofs.Levels.{power-level}
-use Rattle.model.proofs.Demand2.{past-load, past-frame}
+use Rattle.rules.specs.Words.{first}
+use Rattle.rules.specs.Flows.{flows}
+use Rattle.calls.specs.Refusals.{Check, report, refusal, answered, bad-frame}
+use Rattle.calls.specs.Inspect.{firstPlace, isWrong, usedTwice, wrongCount, wrongEntry, outputTwice, flowCount, unbalancedBlock, inspected}
+use Rattle.rules.proofs.Searches.{first-before}
+use Rattle.calls.specs.declared.Refusal.{Refusal}
+use Rattle.calls.specs.declared.Answer.{Answer}
+use Rattle.calls.specs.declared.Answer.the-variants.{Accepted, Refused}
+use Rattle.rules.proofs.Levels.{power-level}
+use Rattle.calls.proofs.Demand2.{past-load, past-frame}
 use Rattle.admission.specs.Lists.{ListAnswer}
 use Rattle.admission.proofs.Listed.{list-refused, list-well}
 use Rattle.tally.specs.Tally.{Readable}

@@ -11,17 +11,17 @@ use lib.ListN.{length, getD}
 use mir.Syntax.{w64}
 use mir.Val.{Fits}
 use borrow.Author.Tests.{lt-ltb, le-ltb, eq-eqb, ne-eqb}
-use Rattle.model.specs.Words.{first}
-use Rattle.model.specs.Flows.{flows, numberOf, inputs, portOf, countsOf, flow, output, load}
-use Rattle.model.specs.Frames.{right, cells, runOf}
-use Rattle.model.specs.Inspect.{isWrong, twiceIn, usedTwice, wrongCount}
-use Rattle.model.proofs.Cases.{byEq, byLt, within-yes, within-above}
-use Rattle.model.proofs.Searches.{Passed, passed-start, passed-on, passed-found, passed-done, first-found, first-before}
-use Rattle.model.proofs.Levels.{levels-power}
-use Rattle.model.proofs.Halves.{load-flow}
-use Rattle.model.proofs.Flows.{counts-at}
-use Rattle.model.proofs.Cells.{run-all}
-use Rattle.model.specs.Demand2.{Ported}
+use Rattle.rules.specs.Words.{first}
+use Rattle.rules.specs.Flows.{flows, numberOf, inputs, portOf, countsOf, flow, output, load}
+use Rattle.rules.specs.Frames.{right, cells, runOf}
+use Rattle.calls.specs.Inspect.{isWrong, twiceIn, usedTwice, wrongCount}
+use Rattle.rules.proofs.Cases.{byEq, byLt, within-yes, within-above}
+use Rattle.rules.proofs.Searches.{Passed, passed-start, passed-on, passed-found, passed-done, first-found, first-before}
+use Rattle.rules.proofs.Levels.{levels-power}
+use Rattle.rules.proofs.Halves.{load-flow}
+use Rattle.rules.proofs.Flows.{counts-at}
+use Rattle.rules.proofs.Cells.{run-all}
+use Rattle.calls.specs.Demand2.{Ported}
 use Rattle.tally.specs.Tally.{Readable, tallyOf}
 use Rattle.tally.proofs.Tallies.{tally-class}
 use Rattle.inspection.specs.Faults.{Lent, wrongIn}

@@ -4,9 +4,9 @@ use mathlib.Core.Path.{_≡_}
 use mathlib.Core.List.{List, [], _∷_}
 use mathlib.Core.Bool.{Bool, not}
 use lib.ListN.{length, getD}
-use Rattle.model.specs.Frames.{right, levels}
-use Rattle.model.specs.Refusals.{report}
-use Rattle.model.specs.Inspect.{wrongEntry, outputTwice, flowCount, unbalancedBlock}
+use Rattle.rules.specs.Frames.{right, levels}
+use Rattle.calls.specs.Refusals.{report}
+use Rattle.calls.specs.Inspect.{wrongEntry, outputTwice, flowCount, unbalancedBlock}
 use Rattle.tally.specs.Tally.{Switch}
 
 -- What Inspect was given has its sizes: none of the refusals holds.

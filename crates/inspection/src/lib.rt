@@ -2,20 +2,20 @@
 ghost use mathlib.Core.Path.{_≡_};
 ghost use mathlib.Core.Bool.{not};
 ghost use Prim.Native.Nat.{_*_, _<_};
-ghost use Rattle.model.specs.Words.{first};
-ghost use Rattle.model.specs.Flows.{flows};
-ghost use Rattle.model.specs.Frames.{right, runOf};
-ghost use Rattle.model.specs.Inspect.{finding, isWrong, twiceIn, usedTwice, wrongCount, inspected};
-ghost use Rattle.model.specs.Demand2.{Ported};
+ghost use Rattle.rules.specs.Words.{first};
+ghost use Rattle.rules.specs.Flows.{flows};
+ghost use Rattle.rules.specs.Frames.{right, runOf};
+ghost use Rattle.calls.specs.Inspect.{finding, isWrong, twiceIn, usedTwice, wrongCount, inspected};
+ghost use Rattle.calls.specs.Demand2.{Ported};
 ghost use Rattle.tally.specs.Tally.{Readable};
 ghost use Rattle.inspection.specs.Faults.{Lent, wrongIn, faults};
 use admission::bad_length;
 use balance::unbalanced_block;
 use flows::flows_of;
 use flows::number_of;
-use model::Answer;
-use model::Inspection;
-use model::Refusal;
+use calls::Answer;
+use calls::Inspection;
+use calls::Refusal;
 use tally::tally_run;
 
 // An entry of an input is neither 0 nor the number of a flow of that input.

@@ -4,7 +4,7 @@ use mathlib.Core.Path.{_≡_, subst, _∙_}
 use mathlib.Core.List.{List}
 use lib.IntN.{ℤ}
 use lib.ListN.{getD}
-use Rattle.model.specs.Service.{Reply}
+use Rattle.calls.specs.Service.{Reply}
 use Rattle.numbers.specs.Numbers.{Three, Four, Replied}
 
 pub three-of : {a b : List ℕ} {number first second : ℕ} → Three a number first second → a ≡ b → Three b number first second

@@ -4,10 +4,10 @@ use mathlib.Core.Path.{_≡_, refl, sym}
 use mathlib.Core.List.{List, [], _∷_}
 use lib.Dec.{ltb}
 use lib.ListN.{getD}
-use Rattle.model.specs.Words.{if}
-use Rattle.model.specs.Refusals.{refusal}
-use Rattle.model.specs.declared.Refusal.{Refusal}
-use Rattle.model.specs.declared.Refusal.the-variants.{Ports, Slots, ListLength, FrameLength, InputLoad, OutputLoad, LineForm, LinePort, SheetLength, SlotNumber, FlowOrPort, RunLength, TooManyFlows, FlowPort, FlowLink, LinkLoad}
+use Rattle.rules.specs.Words.{if}
+use Rattle.calls.specs.Refusals.{refusal}
+use Rattle.calls.specs.declared.Refusal.{Refusal}
+use Rattle.calls.specs.declared.Refusal.the-variants.{Ports, Slots, ListLength, FrameLength, InputLoad, OutputLoad, LineForm, LinePort, SheetLength, SlotNumber, FlowOrPort, RunLength, TooManyFlows, FlowPort, FlowLink, LinkLoad}
 use Rattle.numbers.specs.Numbers.{Four}
 
 abbrev pub valued : ℕ → ℕ → ℕ → ℕ → List ℕ

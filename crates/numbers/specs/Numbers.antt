@@ -4,7 +4,7 @@ use mathlib.Core.Path.{_≡_}
 use mathlib.Core.List.{List}
 use lib.IntN.{ℤ}
 use lib.ListN.{getD}
-use Rattle.model.specs.Service.{Reply}
+use Rattle.calls.specs.Service.{Reply}
 
 -- The number of an answer and its first two values, one by one.
 pub record Three (answer : List ℕ) (number first second : ℕ) : Type 0 where

@@ -1,15 +1,15 @@
 // Document 01's number of each answer, and the values that it carries.
 ghost use mathlib.Core.Path.{_≡_};
-ghost use Rattle.model.specs.Refusals.{refusal, answered};
-ghost use Rattle.model.specs.Build.{outcome};
-ghost use Rattle.model.specs.Inspect.{finding};
-ghost use Rattle.model.specs.Service.{served};
+ghost use Rattle.calls.specs.Refusals.{refusal, answered};
+ghost use Rattle.calls.specs.Build.{outcome};
+ghost use Rattle.calls.specs.Inspect.{finding};
+ghost use Rattle.calls.specs.Service.{served};
 ghost use Rattle.numbers.specs.Numbers.{Four, Replied};
-use model::Answer;
-use model::Built;
-use model::Inspection;
-use model::Refusal;
-use model::Service;
+use calls::Answer;
+use calls::Built;
+use calls::Inspection;
+use calls::Refusal;
+use calls::Service;
 
 // An answer's number and its three values, 0 where it has none.
 pub struct Numbers {

@@ -7,9 +7,9 @@ use native.Mathlib.Omega.{arith}
 use lib.Dec.{eqb}
 use lib.ListN.{length, getD}
 use borrow.Author.Tests.{ne-eqb}
-use Rattle.model.specs.Words.{upFrom, keep}
-use Rattle.model.specs.Rules.{odd}
-use Rattle.model.proofs.Kept.{keep-same}
+use Rattle.rules.specs.Words.{upFrom, keep}
+use Rattle.rules.specs.Rules.{odd}
+use Rattle.rules.proofs.Kept.{keep-same}
 use Rattle.planes.specs.Digits.{digit, binary}
 use Rattle.planes.specs.Planes.{digitIn, digitAt, countAt, each, counts, oddAt, oddsIn, spanOf, Ends, Block}
 use Rattle.planes.proofs.Digits.{digit-most, binary-up}

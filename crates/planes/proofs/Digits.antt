@@ -9,7 +9,7 @@ use lib.Dec.{eqb, eqb·zero-suc, eqb·suc-zero, eqb·suc-suc}
 use lib.Bits.{bitAnd, bitOr, bitXor, and-shr, or-shr, xor-shr, and-mod, xor-mod, or-step, xor-add-and, shifted-half, shifted-even}
 use lib.Pow.{shr-shr, shl-exact}
 use borrow.Author.Tests.{eq-eqb, ne-eqb}
-use Rattle.model.specs.Words.{if}
+use Rattle.rules.specs.Words.{if}
 use Rattle.planes.specs.Digits.{digit, binary}
 use Rattle.planes.specs.Steps.{PutAt, TurnedAt}
 

@@ -9,7 +9,7 @@ use native.Mathlib.Numerals.{add-one}
 use lib.Bits.{bitAnd, bitXor}
 use lib.ListN.{length, getD, set, length-set}
 use lib.Seq.{getD-set-same, getD-set-other}
-use Rattle.model.proofs.Cases.{byEq, byLt}
+use Rattle.rules.proofs.Cases.{byEq, byLt}
 use Rattle.planes.specs.Digits.{digit, binary}
 use Rattle.planes.specs.Planes.{digitIn, digitAt, countAt, counts, halves, wordsOf, spanOf, Block, Mask}
 use Rattle.planes.specs.Steps.{Grown, Halved}

@@ -5,8 +5,8 @@ use mathlib.Core.List.{List, [], _∷_, _++_}
 use mathlib.Core.Bool.{Bool, false}
 use native.Mathlib.Omega.{arith}
 use lib.ListN.{length, getD, replicate}
-use Rattle.model.specs.Words.{upFrom, keep}
-use Rattle.model.proofs.Cases.{byBool}
+use Rattle.rules.specs.Words.{upFrom, keep}
+use Rattle.rules.proofs.Cases.{byBool}
 
 -- what holds after i turns holds after n, where the loop was left at n
 pub at-end : (P : ℕ → Type 0) {i n : ℕ} → P i → i ≤ n → n ≤ i → P n

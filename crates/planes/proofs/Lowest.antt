@@ -10,8 +10,8 @@ use lib.Dec.{eqb, eqb·zero-suc, eqb·suc-zero, eqb·suc-suc}
 use lib.Bits.{bitAnd, and-step, and-self, and-le-r}
 use lib.Count.{trailingZeros}
 use borrow.Author.Tests.{eq-eqb}
-use Rattle.model.specs.Words.{if, upFrom, keep}
-use Rattle.model.proofs.Cases.{byEq}
+use Rattle.rules.specs.Words.{if, upFrom, keep}
+use Rattle.rules.proofs.Cases.{byEq}
 use Rattle.planes.specs.Digits.{digit, places}
 use Rattle.planes.proofs.Digits.{digit-first, digit-half}
 

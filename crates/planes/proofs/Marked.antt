@@ -8,9 +8,9 @@ use lib.Bits.{bitXor}
 use lib.Count.{trailingZeros}
 use lib.ListN.{length, getD, set, length-set}
 use lib.Seq.{getD-set-same, getD-set-other}
-use Rattle.model.specs.Words.{Every}
-use Rattle.model.proofs.Cases.{byEq}
-use Rattle.model.proofs.Lists.{every-map}
+use Rattle.rules.specs.Words.{Every}
+use Rattle.rules.proofs.Cases.{byEq}
+use Rattle.rules.proofs.Lists.{every-map}
 use Rattle.planes.specs.Digits.{digit, places}
 use Rattle.planes.specs.Planes.{digitAt, wordsOf, spanOf, Ends, Mask}
 use Rattle.planes.specs.Steps.{PutAt, Picked, Marked, Others}

@@ -11,10 +11,10 @@ use lib.Count.{trailingZeros}
 use lib.ListN.{length, getD, set, take, length-set, length-append}
 use lib.Seq.{take-suc-set, append-snoc}
 use borrow.Author.Tests.{eqb-true}
-use Rattle.model.specs.Words.{upFrom, keep, Every}
-use Rattle.model.proofs.Cases.{byLt}
-use Rattle.model.proofs.Lists.{every-map}
-use Rattle.model.proofs.Kept.{keep-every}
+use Rattle.rules.specs.Words.{upFrom, keep, Every}
+use Rattle.rules.proofs.Cases.{byLt}
+use Rattle.rules.proofs.Lists.{every-map}
+use Rattle.rules.proofs.Kept.{keep-every}
 use Rattle.planes.specs.Digits.{digit, places}
 use Rattle.planes.specs.Planes.{digitAt, oddAt, oddsIn, wordsOf, spanOf, Ends}
 use Rattle.planes.specs.Steps.{Placed, Gathered}

@@ -9,10 +9,10 @@ use lib.Count.{trailingZeros}
 use lib.ListN.{length, getD, set, length-set, replicate, length-replicate}
 use lib.Seq.{getD-set-same, getD-set-other}
 use borrow.Author.Tests.{eq-eqb, ne-eqb}
-use Rattle.model.specs.Words.{if}
-use Rattle.model.specs.Flows.{flows, numberOf, countsOf}
-use Rattle.model.proofs.Cases.{byEq, byLt}
-use Rattle.model.proofs.Flows.{counts-length, counts-at}
+use Rattle.rules.specs.Words.{if}
+use Rattle.rules.specs.Flows.{flows, numberOf, countsOf}
+use Rattle.rules.proofs.Cases.{byEq, byLt}
+use Rattle.rules.proofs.Flows.{counts-length, counts-at}
 use Rattle.planes.specs.Digits.{digit}
 use Rattle.planes.specs.Planes.{digitIn, countAt, counts}
 use Rattle.planes.specs.Steps.{PutAt, Blank, Stored, Loaded}

@@ -2,7 +2,7 @@
 use Prim.Native.Nat.{ℕ, suc, zero, _+_, _*_, _/_, _%_, _^_}
 use mathlib.Core.List.{List, [], _∷_}
 use lib.Dec.{eqb}
-use Rattle.model.specs.Words.{if}
+use Rattle.rules.specs.Words.{if}
 
 -- Digit i of a number, 0 or 1.
 unfoldable pub digit : ℕ → ℕ → ℕ

@@ -5,7 +5,7 @@ use mathlib.Core.Bool.{Bool}
 use mathlib.Core.List.{List, [], _∷_}
 use lib.Dec.{eqb}
 use lib.ListN.{length, getD}
-use Rattle.model.specs.Words.{keep, upFrom}
+use Rattle.rules.specs.Words.{keep, upFrom}
 use Rattle.planes.specs.Digits.{digit, binary}
 
 -- The digit of plane b at a position.

@@ -5,8 +5,8 @@ use mathlib.Core.Logic.{_≢_}
 use mathlib.Core.List.{List, _++_}
 use lib.Dec.{eqb}
 use lib.ListN.{length, getD, take}
-use Rattle.model.specs.Words.{if}
-use Rattle.model.specs.Flows.{flows, numberOf, countsOf}
+use Rattle.rules.specs.Words.{if}
+use Rattle.rules.specs.Flows.{flows, numberOf, countsOf}
 use Rattle.planes.specs.Digits.{digit, binary, places}
 use Rattle.planes.specs.Planes.{digitIn, digitAt, countAt, counts, oddsIn, spanOf}
 

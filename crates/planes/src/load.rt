@@ -5,7 +5,7 @@ use flows::flows_of;
 ghost use Prim.Native.Nat.{ℕ, _%_, _^_, _<_, _≤_};
 ghost use mathlib.Core.Path.{_≡_};
 ghost use lib.ListN.{length};
-ghost use Rattle.model.specs.Flows.{flows, numberOf};
+ghost use Rattle.rules.specs.Flows.{flows, numberOf};
 ghost use Rattle.planes.specs.Steps.{Blank, Stored, Loaded};
 
 // The two lowest digits of a count, whatever they are.

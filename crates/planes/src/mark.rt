@@ -4,7 +4,7 @@ use crate::words::words_of;
 ghost use mathlib.Core.Path.{_≡_};
 ghost use Prim.Native.Nat.{_%_, _<_, _≤_};
 ghost use lib.ListN.{length};
-ghost use Rattle.model.specs.Words.{Every};
+ghost use Rattle.rules.specs.Words.{Every};
 ghost use Rattle.planes.specs.Digits.{places};
 ghost use Rattle.planes.specs.Planes.{Ends, Mask};
 ghost use Rattle.planes.specs.Steps.{Picked, Marked, Others};

@@ -12,12 +12,12 @@ use lib.Seq.{sets, length-sets, set-out, drop-cons, drop-drop}
 use mir.Syntax.{w64}
 use mir.Val.{Fits}
 use borrow.Author.Tests.{eq-eqb, ne-eqb, eqb-true, le-leb, lt-leb, leb-true, lt-ltb, le-ltb}
-use Rattle.model.specs.Words.{if, both}
-use Rattle.model.specs.Sheet.{text, decimal, printCells, printSlots, printFrame, printRefusal}
-use Rattle.model.specs.Refusals.{refusal}
-use Rattle.model.specs.declared.Refusal.{Refusal}
-use Rattle.model.proofs.Cases.{both-true}
-use Rattle.model.proofs.Sheets.{decimal-one, decimal-go, decimal-most}
+use Rattle.rules.specs.Words.{if, both}
+use Rattle.sheets.specs.Sheet.{text, decimal, printCells, printSlots, printFrame, printRefusal}
+use Rattle.calls.specs.Refusals.{refusal}
+use Rattle.calls.specs.declared.Refusal.{Refusal}
+use Rattle.rules.proofs.Cases.{both-true}
+use Rattle.sheets.proofs.Sheets.{decimal-one, decimal-go, decimal-most}
 use Rattle.numbers.specs.Numbers.{Four}
 use Rattle.numbers.proofs.Valued.{valued-is}
 use Rattle.printing.specs.Printing.{Printed, PrintedIn, Prints, Sized, ofSize, frameBytes, wordThen, cellOf, slotLine}

@@ -6,8 +6,8 @@ use mathlib.Core.Bool.{Bool}
 use lib.ListN.{length}
 use lib.Dec.{eqb, leb}
 use lib.Seq.{sets}
-use Rattle.model.specs.Words.{if, both}
-use Rattle.model.specs.Sheet.{text, decimal, printCells, printFrame}
+use Rattle.rules.specs.Words.{if, both}
+use Rattle.sheets.specs.Sheet.{text, decimal, printCells, printFrame}
 
 -- The bytes stand in the buffer from a place on, as far as they fit, and next is the place behind them.
 pub record Printed (out : List ℕ) (at : ℕ) (bytes new : List ℕ) (next : ℕ) : Type 0 where

@@ -3,10 +3,10 @@ ghost use mathlib.Core.Path.{_≡_};
 ghost use mathlib.Core.List.{[], _∷_};
 ghost use Prim.Native.Nat.{_+_, _≤_, _<_};
 ghost use lib.ListN.{length};
-ghost use Rattle.model.specs.Refusals.{refusal};
-ghost use Rattle.model.specs.Sheet.{decimal, printCells, printSlots, printFrame, printRefusal};
+ghost use Rattle.calls.specs.Refusals.{refusal};
+ghost use Rattle.sheets.specs.Sheet.{decimal, printCells, printSlots, printFrame, printRefusal};
 ghost use Rattle.printing.specs.Printing.{Printed, PrintedIn, Sized, ofSize, frameBytes, wordThen, cellOf, slotLine};
-use model::Refusal;
+use calls::Refusal;
 
 // Writes a byte where it fits, and answers the next place: past the end nothing is written, and the places are counted all the same.
 fn put(out: &mut [u8], at: usize, byte: u8) -> usize

@@ -8,16 +8,16 @@ use lib.Dec.{eqb}
 use lib.ListN.{length, take, drop, replicate, length-drop, length-append, length-replicate, drop-of-length-le, take-append-drop}
 use lib.Seq.{sets, length-sets, sets-eq, take-at, drop-at, drop-drop, length-take-le}
 use borrow.Author.Tests.{le-leb, lt-leb, not-true, not-false}
-use Rattle.model.specs.Words.{within}
-use Rattle.model.specs.Flows.{stride, flows}
-use Rattle.model.specs.Frames.{levels}
-use Rattle.model.specs.Refusals.{refusal, bad-ports, bad-slots}
-use Rattle.model.specs.declared.Refusal.{Refusal}
-use Rattle.model.specs.Sheet.{text, portsLine, slotsLine, pairLine, lines, bad-line-flow, bad-port, Asked, refused, unless, readPairs, readSlots, readPorts}
-use Rattle.model.proofs.Reports.{within-known, slots-tells}
-use Rattle.model.proofs.Demand2.{well-clear, clear-well}
-use Rattle.model.proofs.Responses.{well-none, well-more}
-use Rattle.model.proofs.Sheets.{ports-yes, ports-no, slots-yes, slots-no, pairs-yes, pairs-no, pairs-none}
+use Rattle.rules.specs.Words.{within}
+use Rattle.rules.specs.Flows.{stride, flows}
+use Rattle.rules.specs.Frames.{levels}
+use Rattle.calls.specs.Refusals.{refusal, bad-ports, bad-slots}
+use Rattle.calls.specs.declared.Refusal.{Refusal}
+use Rattle.sheets.specs.Sheet.{text, portsLine, slotsLine, pairLine, lines, bad-line-flow, bad-port, Asked, refused, unless, readPairs, readSlots, readPorts}
+use Rattle.calls.proofs.Reports.{within-known, slots-tells}
+use Rattle.calls.proofs.Demand2.{well-clear, clear-well}
+use Rattle.sheets.proofs.Responses.{well-none, well-more}
+use Rattle.sheets.proofs.Sheets.{ports-yes, ports-no, slots-yes, slots-no, pairs-yes, pairs-no, pairs-none}
 use Rattle.reading.specs.Reading.{LineAt, NoLineAt, LineOf, PairAt, NoPairAt, FormOf, PortsRead, PortsOf, SlotsRead, SlotsOf, PairRead, PairRefused, PairOf, LoadsRead, SheetOf, listLeft, Fresh, Reached}
 use types.Run.{OneOf, miss}
 use denote.Enum.Declared.{tagOf}

@@ -5,11 +5,11 @@ use mathlib.Core.List.{List, [], _∷_, _++_}
 use mathlib.Core.Bool.{Bool, true, false}
 use lib.Dec.{eqb}
 use lib.ListN.{length, getD, take, drop, replicate}
-use Rattle.model.specs.Words.{both, within}
-use Rattle.model.specs.Flows.{stride, flows}
-use Rattle.model.specs.Refusals.{clear, listChecks, refusal}
-use Rattle.model.specs.Frames.{levels}
-use Rattle.model.specs.Sheet.{text, decimal, pairLine, lines, Asked, loads, refused, readPairs, readSlots, readPorts}
+use Rattle.rules.specs.Words.{both, within}
+use Rattle.rules.specs.Flows.{stride, flows}
+use Rattle.calls.specs.Refusals.{clear, listChecks, refusal}
+use Rattle.rules.specs.Frames.{levels}
+use Rattle.sheets.specs.Sheet.{text, decimal, pairLine, lines, Asked, loads, refused, readPairs, readSlots, readPorts}
 use Rattle.reading.specs.declared.NumberRead.{NumberRead}
 use Rattle.reading.specs.declared.NumberRead.the-variants.{Number, NoNumber}
 use Rattle.reading.specs.declared.PairForm.{PairForm}

@@ -3,11 +3,11 @@ ghost use mathlib.Core.Path.{_≡_};
 ghost use mathlib.Core.List.{[]};
 ghost use Prim.Native.Nat.{_≤_, _<_};
 ghost use lib.ListN.{length, drop};
-ghost use Rattle.model.specs.Sheet.{lines, readPorts, readPairs};
+ghost use Rattle.sheets.specs.Sheet.{lines, readPorts, readPairs};
 ghost use Rattle.reading.specs.Reading.{starts, DigitAt, NumberOf, LineOf, FormOf, PortsOf, SlotsOf, PairOf, SheetOf, Fresh, listLeft};
 use flows::LIST_MOST;
 use flows::put_flow;
-use model::Refusal;
+use calls::Refusal;
 
 // A number at a place of the sheet, and the place behind it.
 enum NumberRead {

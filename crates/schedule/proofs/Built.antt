@@ -8,19 +8,19 @@ use native.Mathlib.Omega.{arith}
 use lib.Dec.{eqb}
 use lib.ListN.{length, getD}
 use borrow.Author.Tests.{eqb-true, not-false}
-use Rattle.model.specs.Flows.{countsOf}
-use Rattle.model.specs.Refusals.{report, refusal, accepted, answered, bad-frame, overloads}
-use Rattle.model.specs.Frames.{levels}
-use Rattle.model.specs.OddShares.{settled}
-use Rattle.model.specs.Build.{buildChecks, buildAccepts, frameFor, acceptance, built, left}
-use Rattle.model.specs.declared.Refusal.{Refusal}
-use Rattle.model.specs.declared.Refusal.the-variants.{FrameLength}
-use Rattle.model.specs.declared.Answer.{Answer}
-use Rattle.model.specs.declared.Answer.the-variants.{Accepted, Refused}
-use Rattle.model.proofs.Reports.{report-clear, report-stops, clear-none, clear-some, refusal-number}
-use Rattle.model.proofs.Demand2.{past-load, past-frame, clear-allows, accepts-yes}
-use Rattle.model.specs.Demand2.{Accepts}
-use Rattle.model.proofs.Work.{work-built}
+use Rattle.rules.specs.Flows.{countsOf}
+use Rattle.calls.specs.Refusals.{report, refusal, accepted, answered, bad-frame, overloads}
+use Rattle.rules.specs.Frames.{levels}
+use Rattle.rules.specs.OddShares.{settled}
+use Rattle.calls.specs.Build.{buildChecks, buildAccepts, frameFor, acceptance, built, left}
+use Rattle.calls.specs.declared.Refusal.{Refusal}
+use Rattle.calls.specs.declared.Refusal.the-variants.{FrameLength}
+use Rattle.calls.specs.declared.Answer.{Answer}
+use Rattle.calls.specs.declared.Answer.the-variants.{Accepted, Refused}
+use Rattle.calls.proofs.Reports.{report-clear, report-stops, clear-none, clear-some, refusal-number}
+use Rattle.calls.proofs.Demand2.{past-load, past-frame, clear-allows, accepts-yes}
+use Rattle.calls.specs.Demand2.{Accepts}
+use Rattle.calls.proofs.Work.{work-built}
 use Rattle.admission.specs.Lists.{ListAnswer, Taken}
 use Rattle.admission.specs.Overloads.{EveryLoad, decided}
 use Rattle.admission.proofs.Listed.{list-refused, list-well, well-taken}

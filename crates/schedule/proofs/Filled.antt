@@ -5,16 +5,16 @@ use mathlib.Core.List.{List}
 use native.Mathlib.Omega.{arith}
 use lib.ListN.{length, getD}
 use borrow.Author.Tests.{eq-eqb}
-use Rattle.model.specs.Flows.{flows, numberOf, inputs, portOf, countsOf, input}
-use Rattle.model.specs.Frames.{levels}
-use Rattle.model.specs.OddShares.{settled}
-use Rattle.model.specs.Schedule.{frameOf}
-use Rattle.model.specs.Build.{frameFor}
-use Rattle.model.proofs.Levels.{pow-less, power-level}
-use Rattle.model.proofs.Flows.{counts-length, counts-at}
-use Rattle.model.proofs.Halves.{load-has}
-use Rattle.model.proofs.Demand2.{well-placed}
-use Rattle.model.proofs.SamePorts.{frame-same}
+use Rattle.rules.specs.Flows.{flows, numberOf, inputs, portOf, countsOf, input}
+use Rattle.rules.specs.Frames.{levels}
+use Rattle.rules.specs.OddShares.{settled}
+use Rattle.rules.specs.Schedule.{frameOf}
+use Rattle.calls.specs.Build.{frameFor}
+use Rattle.rules.proofs.Levels.{pow-less, power-level}
+use Rattle.rules.proofs.Flows.{counts-length, counts-at}
+use Rattle.rules.proofs.Halves.{load-has}
+use Rattle.calls.proofs.Demand2.{well-placed}
+use Rattle.rules.proofs.SamePorts.{frame-same}
 use Rattle.planes.specs.Planes.{counts, Block}
 use Rattle.planes.specs.Steps.{Loaded}
 use Rattle.planes.proofs.Counts as in-planes

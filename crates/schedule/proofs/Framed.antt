@@ -10,12 +10,12 @@ use mir.Val.{Fits}
 use borrow.Rule.Slice.PartMut.{putMid}
 use lib.ListN.{length, take, drop, length-append, length-drop, drop-of-length-le}
 use lib.Seq.{take-at, length-take-le, length-front}
-use Rattle.model.specs.Flows.{Side}
-use Rattle.model.specs.Schedule.{halfOf, slotOf, frameOf}
-use Rattle.model.proofs.Levels.{pow-less}
-use Rattle.model.proofs.Slots.{slot-length}
-use Rattle.model.proofs.OneFrame.{frame-length}
-use Rattle.model.proofs.SamePorts.{slot-same}
+use Rattle.rules.specs.Flows.{Side}
+use Rattle.rules.specs.Schedule.{halfOf, slotOf, frameOf}
+use Rattle.rules.proofs.Levels.{pow-less}
+use Rattle.rules.proofs.Slots.{slot-length}
+use Rattle.rules.proofs.OneFrame.{frame-length}
+use Rattle.rules.proofs.SamePorts.{slot-same}
 use Rattle.planes.specs.Planes.{counts, halves, Ends, Block, Mask}
 use Rattle.planes.specs.Steps.{Halved, Others}
 use Rattle.planes.proofs.Counts.{block-ends}

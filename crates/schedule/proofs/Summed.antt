@@ -6,16 +6,16 @@ use mathlib.Core.List.{List}
 use native.Mathlib.Omega.{arith}
 use native.Mathlib.Nat.{mul-le-mul, pow-le-pow-right}
 use lib.ListN.{length, getD}
-use Rattle.model.specs.Words.{sumTo}
-use Rattle.model.specs.Flows.{Side}
-use Rattle.model.specs.Rules.{odd}
-use Rattle.model.specs.Schedule.{halfOf}
-use Rattle.model.specs.OddShares.{oddShares, settled}
-use Rattle.model.proofs.Cases.{byEq, is-yes, is-no}
-use Rattle.model.proofs.Sums.{sum-ext, sum-zero}
-use Rattle.model.proofs.Kept.{kept-length}
-use Rattle.model.proofs.Splits.{split-is}
-use Rattle.model.proofs.Work.{settled-halves, settled-room}
+use Rattle.rules.specs.Words.{sumTo}
+use Rattle.rules.specs.Flows.{Side}
+use Rattle.rules.specs.Rules.{odd}
+use Rattle.rules.specs.Schedule.{halfOf}
+use Rattle.rules.specs.OddShares.{oddShares, settled}
+use Rattle.rules.proofs.Cases.{byEq, is-yes, is-no}
+use Rattle.rules.proofs.Sums.{sum-ext, sum-zero}
+use Rattle.rules.proofs.Kept.{kept-length}
+use Rattle.rules.proofs.Splits.{split-is}
+use Rattle.calls.proofs.Work.{settled-halves, settled-room}
 use Rattle.planes.specs.Planes.{counts, oddAt, oddsIn}
 use Rattle.planes.proofs.Lists.{keep-most}
 use Rattle.planes.proofs.Counts.{counts-length, odds-are}

@@ -7,10 +7,10 @@ use lib.Dec.{eqb}
 use lib.ListN.{set, length, length-set}
 use lib.Seq.{getD-set-same, getD-set-other}
 use borrow.Author.Tests.{ne-eqb}
-use Rattle.model.specs.Words.{if, Within}
-use Rattle.model.specs.Flows.{Side, inputs, links, flows, outputOf, numberOf, portOf}
-use Rattle.model.proofs.Cases.{byEq}
-use Rattle.model.specs.Demand2.{Ported, Linked}
+use Rattle.rules.specs.Words.{if, Within}
+use Rattle.rules.specs.Flows.{Side, inputs, links, flows, outputOf, numberOf, portOf}
+use Rattle.rules.proofs.Cases.{byEq}
+use Rattle.calls.specs.Demand2.{Ported, Linked}
 use Rattle.admission.specs.Lists.{Taken}
 use Rattle.planes.specs.Digits.{digit}
 use Rattle.planes.specs.Steps.{PutAt}

@@ -9,10 +9,10 @@ use lib.Count.{trailingZeros}
 use lib.ListN.{length, getD, set, drop, replicate, length-set, length-replicate}
 use lib.Seq.{drop-length}
 use borrow.Author.Fill.{fill-more}
-use Rattle.model.specs.Words.{upFrom, keep, Every}
-use Rattle.model.specs.Rules.{odd}
-use Rattle.model.specs.Schedule.{put, slotOf}
-use Rattle.model.proofs.Lists.{every-map}
+use Rattle.rules.specs.Words.{upFrom, keep, Every}
+use Rattle.rules.specs.Rules.{odd}
+use Rattle.rules.specs.Schedule.{put, slotOf}
+use Rattle.rules.proofs.Lists.{every-map}
 use Rattle.planes.specs.Digits.{places}
 use Rattle.planes.specs.Planes.{counts, oddsIn, wordsOf, Ends}
 use Rattle.planes.proofs.Lowest.{rest, places-none, next-place, next-zeros, next-fits}

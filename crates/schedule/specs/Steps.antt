@@ -3,10 +3,10 @@ use Prim.Native.Nat.{ℕ, _*_, _≤_, _<_}
 use mathlib.Core.Path.{_≡_}
 use mathlib.Core.List.{List, _++_}
 use lib.ListN.{length}
-use Rattle.model.specs.Words.{Every}
-use Rattle.model.specs.Flows.{Side, flows, portOf, countsOf, Fits}
-use Rattle.model.specs.Schedule.{put, slotOf}
-use Rattle.model.specs.Demand2.{WellFormed}
+use Rattle.rules.specs.Words.{Every}
+use Rattle.rules.specs.Flows.{Side, flows, portOf, countsOf, Fits}
+use Rattle.rules.specs.Schedule.{put, slotOf}
+use Rattle.calls.specs.Demand2.{WellFormed}
 use Rattle.planes.specs.Planes.{halves}
 use Rattle.planes.specs.Steps.{Others}
 use Rattle.split.specs.Steps.{lookup, tabled, Shared}

@@ -6,7 +6,7 @@ use widths::byte;
 ghost use mathlib.Core.Path.{_≡_};
 ghost use Prim.Native.Nat.{_*_, _^_, _≤_};
 ghost use lib.ListN.{length, replicate};
-ghost use Rattle.model.specs.Schedule.{slotOf};
+ghost use Rattle.rules.specs.Schedule.{slotOf};
 ghost use Rattle.planes.specs.Digits.{places};
 ghost use Rattle.planes.specs.Planes.{counts, halves, Ends, Block, Mask};
 ghost use Rattle.schedule.specs.Steps.{Table, atInputs, Placed, PutBy, TwoSlots};

@@ -8,23 +8,23 @@ use lib.Dec.{eqb, ltb}
 use lib.ListN.{length}
 use lib.Pow.{pow-pos}
 use borrow.Author.Tests.{ltb-false, not-false, eqb-true}
-use Rattle.model.specs.Words.{within}
-use Rattle.model.specs.Refusals.{Check, report, clear, refusal, answered, listChecks, bad-frame, bad-slot}
-use Rattle.model.specs.Service.{classOf, whoWithin, bad-who, bad-length, lead, served, countChecks, service}
-use Rattle.model.specs.Frames.{repeated, cells}
-use Rattle.model.specs.Flows.{links}
-use Rattle.model.specs.declared.Answer.{Answer}
-use Rattle.model.specs.declared.Answer.the-variants.{Accepted}
-use Rattle.model.specs.declared.Answer.the-variants as answer
-use Rattle.model.specs.declared.Refusal.{Refusal}
-use Rattle.model.specs.declared.Refusal.the-variants.{FrameLength, SlotNumber, FlowOrPort, RunLength}
-use Rattle.model.specs.declared.Who.{Who}
-use Rattle.model.specs.declared.Count.{Count}
-use Rattle.model.specs.declared.Service.the-variants.{Counted, Refused}
-use Rattle.model.proofs.Levels.{power-most}
-use Rattle.model.proofs.Reports.{clear-then, refusal-number, within-known}
-use Rattle.model.proofs.Replies.{count, reply-refused, reply-counted}
-use Rattle.model.proofs.Demand2.{past-load, well-clear}
+use Rattle.rules.specs.Words.{within}
+use Rattle.calls.specs.Refusals.{Check, report, clear, refusal, answered, listChecks, bad-frame, bad-slot}
+use Rattle.calls.specs.Service.{classOf, whoWithin, bad-who, bad-length, lead, served, countChecks, service}
+use Rattle.rules.specs.Frames.{repeated, cells}
+use Rattle.rules.specs.Flows.{links}
+use Rattle.calls.specs.declared.Answer.{Answer}
+use Rattle.calls.specs.declared.Answer.the-variants.{Accepted}
+use Rattle.calls.specs.declared.Answer.the-variants as answer
+use Rattle.calls.specs.declared.Refusal.{Refusal}
+use Rattle.calls.specs.declared.Refusal.the-variants.{FrameLength, SlotNumber, FlowOrPort, RunLength}
+use Rattle.calls.specs.declared.Who.{Who}
+use Rattle.calls.specs.declared.Count.{Count}
+use Rattle.calls.specs.declared.Service.the-variants.{Counted, Refused}
+use Rattle.rules.proofs.Levels.{power-most}
+use Rattle.calls.proofs.Reports.{clear-then, refusal-number, within-known}
+use Rattle.calls.proofs.Replies.{count, reply-refused, reply-counted}
+use Rattle.calls.proofs.Demand2.{past-load, well-clear}
 use Rattle.admission.specs.Lists.{ListAnswer}
 use Rattle.admission.proofs.Listed.{list-refused, list-well}
 use Rattle.service.specs.Whom.{Sent, Asked}

@@ -9,13 +9,13 @@ use native.Mathlib.Nat.{mod-eq-of-lt, add-mod-right, div-add-mod', mul-le-mul-ri
 use lib.Dec.{eqb}
 use lib.ListN.{length, getD, List·getD-eq-default}
 use borrow.Author.Tests.{ne-eqb}
-use Rattle.model.specs.Words.{both, bit, sumTo}
-use Rattle.model.specs.Flows.{Class, flow, input, output, link, total}
-use Rattle.model.specs.Frames.{counts, cells}
-use Rattle.model.proofs.Cases.{byLt}
-use Rattle.model.proofs.Sums.{sum-zero, sum-one, sum-append}
-use Rattle.model.proofs.Runs.{sum-bits}
-use Rattle.model.proofs.Flows.{idle-counts}
+use Rattle.rules.specs.Words.{both, bit, sumTo}
+use Rattle.rules.specs.Flows.{Class, flow, input, output, link, total}
+use Rattle.rules.specs.Frames.{counts, cells}
+use Rattle.rules.proofs.Cases.{byLt}
+use Rattle.rules.proofs.Sums.{sum-zero, sum-one, sum-append}
+use Rattle.rules.proofs.Runs.{sum-bits}
+use Rattle.rules.proofs.Flows.{idle-counts}
 use Rattle.service.specs.Whom.{firstEntry, nextEntry}
 
 -- 1 for an entry that counts

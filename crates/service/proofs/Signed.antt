@@ -7,8 +7,8 @@ use lib.Signed.{mag}
 use mir.Syntax.{w64}
 use mir.Val.{SFits, ofZ, toZ}
 use mir.ValLaws.{toZ-pos, toZ-ofZ}
-use Rattle.model.proofs.Cases.{byLt}
-use Rattle.model.proofs.Integers.{minus-ahead, minus-behind}
+use Rattle.rules.proofs.Cases.{byLt}
+use Rattle.rules.proofs.Integers.{minus-ahead, minus-behind}
 
 module _ (a b : ℕ) (x : a < 2 ^ 63) (y : b < 2 ^ 63) where
   minus-small : mag (pos a -ℤ pos b) < 2 ^ 63

@@ -6,11 +6,11 @@ use native.Mathlib.Omega.{arith}
 use native.Mathlib.Nat.{mul-le-mul, mul-le-mul-right}
 use lib.IntN.{pos, _-ℤ_}
 use lib.ListN.{length, take, drop, length-take, length-drop}
-use Rattle.model.specs.Flows.{Class}
-use Rattle.model.specs.Frames.{cells, runOf, repeated}
-use Rattle.model.specs.Service.{classOf, lead}
-use Rattle.model.specs.declared.Who.{Who}
-use Rattle.model.proofs.Runs.{cells-most, repeated-most, cells-turns}
+use Rattle.rules.specs.Flows.{Class}
+use Rattle.rules.specs.Frames.{cells, runOf, repeated}
+use Rattle.calls.specs.Service.{classOf, lead}
+use Rattle.calls.specs.declared.Who.{Who}
+use Rattle.rules.proofs.Runs.{cells-most, repeated-most, cells-turns}
 use Rattle.service.specs.Whom.{Framed, Asked}
 
 -- the entries of a run inside a frame

@@ -6,15 +6,15 @@ use mathlib.Core.Bool.{Bool, true, false, not}
 use native.Mathlib.Omega.{arith}
 use lib.Dec.{eqb}
 use borrow.Author.Tests.{eq-eqb, ne-eqb}
-use Rattle.model.specs.Words.{bit, within}
-use Rattle.model.specs.Flows.{flows, numberOf, Class, flow, input, output, link, total, Of}
-use Rattle.model.specs.Frames.{counts}
-use Rattle.model.specs.Service.{classOf, whoWithin}
-use Rattle.model.specs.declared.Who.{Who}
-use Rattle.model.specs.declared.Who.the-variants.{Flow, Input, Output}
-use Rattle.model.proofs.Cases.{byEq, within-true, within-yes, within-above}
-use Rattle.model.proofs.Flows.{output-is, flow-counts}
-use Rattle.model.proofs.Replies.{who-of}
+use Rattle.rules.specs.Words.{bit, within}
+use Rattle.rules.specs.Flows.{flows, numberOf, Class, flow, input, output, link, total, Of}
+use Rattle.rules.specs.Frames.{counts}
+use Rattle.calls.specs.Service.{classOf, whoWithin}
+use Rattle.calls.specs.declared.Who.{Who}
+use Rattle.calls.specs.declared.Who.the-variants.{Flow, Input, Output}
+use Rattle.rules.proofs.Cases.{byEq, within-true, within-yes, within-above}
+use Rattle.rules.proofs.Flows.{output-is, flow-counts}
+use Rattle.calls.proofs.Replies.{who-of}
 use Rattle.service.specs.Whom.{Sent, whoNumber, Numbered, Named, firstEntry, nextEntry}
 
 -- ---- refusal 12

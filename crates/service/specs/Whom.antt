@@ -4,11 +4,11 @@ use mathlib.Core.Path.{_≡_}
 use mathlib.Core.List.{List}
 use mathlib.Core.Bool.{true}
 use lib.ListN.{length}
-use Rattle.model.specs.Flows.{flows, numberOf, Class, flow, input, output, link, total}
-use Rattle.model.specs.Service.{whoWithin}
-use Rattle.model.specs.declared.Who.{Who}
-use Rattle.model.specs.declared.Who.the-variants.{Flow, Input, Output}
-use Rattle.model.specs.Demand2.{Linked}
+use Rattle.rules.specs.Flows.{flows, numberOf, Class, flow, input, output, link, total}
+use Rattle.calls.specs.Service.{whoWithin}
+use Rattle.calls.specs.declared.Who.{Who}
+use Rattle.calls.specs.declared.Who.the-variants.{Flow, Input, Output}
+use Rattle.calls.specs.Demand2.{Linked}
 
 -- Every flow of the list has an output from 1 on, and a link 1 to 4.
 pub record Sent (list : List ℕ) : Type 0 where

@@ -5,18 +5,18 @@ ghost use Prim.Native.Nat.{_+_, _-_, _*_, _≤_, min};
 ghost use lib.Dec.{ltb};
 ghost use lib.IntN.{pos, _-ℤ_};
 ghost use lib.ListN.{length};
-ghost use Rattle.model.specs.Words.{bit};
-ghost use Rattle.model.specs.Flows.{output};
-ghost use Rattle.model.specs.Frames.{counts, cells, runOf, repeated};
-ghost use Rattle.model.specs.Service.{classOf, whoWithin, lead, served, service};
+ghost use Rattle.rules.specs.Words.{bit};
+ghost use Rattle.rules.specs.Flows.{output};
+ghost use Rattle.rules.specs.Frames.{counts, cells, runOf, repeated};
+ghost use Rattle.calls.specs.Service.{classOf, whoWithin, lead, served, service};
 ghost use Rattle.service.specs.Whom.{Sent, whoNumber, Numbered, Named, firstEntry, nextEntry, Framed, Asked};
 use flows::flows_of;
 use flows::number_of;
-use model::Answer;
-use model::Count;
-use model::Refusal;
-use model::Service;
-use model::Who;
+use calls::Answer;
+use calls::Count;
+use calls::Refusal;
+use calls::Service;
+use calls::Who;
 
 // The lesser of two numbers.
 fn lesser(a: usize, b: usize) -> usize

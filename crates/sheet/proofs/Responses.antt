@@ -12,21 +12,21 @@ use mir.Val.{Fits}
 use types.Run.{OneOf, miss}
 use denote.Enum.Declared.{tagOf}
 use borrow.Author.Tests.{lt-ltb, le-ltb}
-use Rattle.model.specs.Words.{if, both, Every}
-use Rattle.model.specs.Flows.{stride}
-use Rattle.model.specs.Refusals.{report, clear, listChecks, bad-frame, refusal, portOverloads, linkOverload, overloads, slotsEach}
-use Rattle.model.specs.Build.{buildChecks, frameFor, outcome, acceptance, built, left}
-use Rattle.model.specs.Sheet.{Asked, loads, refused, overloaded, lines, readPorts, readSheet, printed, printFrame, response}
-use Rattle.model.specs.declared.Refusal.{Refusal}
-use Rattle.model.specs.declared.Refusal.the-variants as variants
-use Rattle.model.specs.declared.Built.{Built}
-use Rattle.model.specs.declared.Built.the-variants as builds
-use Rattle.model.proofs.Levels.{power-most}
-use Rattle.model.proofs.Overloads.{slots-report}
-use Rattle.model.proofs.Reports.{Refuses, report-refused, refusal-number, clear-none, clear-some, clear-then, clear-parts, frame-tells}
-use Rattle.model.specs.Demand2.{WellFormed}
-use Rattle.model.proofs.Demand2.{clear-well, past-frame}
-use Rattle.model.proofs.Lengths.{response-most}
+use Rattle.rules.specs.Words.{if, both, Every}
+use Rattle.rules.specs.Flows.{stride}
+use Rattle.calls.specs.Refusals.{report, clear, listChecks, bad-frame, refusal, portOverloads, linkOverload, overloads, slotsEach}
+use Rattle.calls.specs.Build.{buildChecks, frameFor, outcome, acceptance, built, left}
+use Rattle.sheets.specs.Sheet.{Asked, loads, refused, overloaded, lines, readPorts, readSheet, printed, printFrame, response}
+use Rattle.calls.specs.declared.Refusal.{Refusal}
+use Rattle.calls.specs.declared.Refusal.the-variants as variants
+use Rattle.calls.specs.declared.Built.{Built}
+use Rattle.calls.specs.declared.Built.the-variants as builds
+use Rattle.rules.proofs.Levels.{power-most}
+use Rattle.calls.proofs.Overloads.{slots-report}
+use Rattle.calls.proofs.Reports.{Refuses, report-refused, refusal-number, clear-none, clear-some, clear-then, clear-parts, frame-tells}
+use Rattle.calls.specs.Demand2.{WellFormed}
+use Rattle.calls.proofs.Demand2.{clear-well, past-frame}
+use Rattle.sheets.proofs.Lengths.{response-most}
 use Rattle.reading.proofs.Reading.{the-type}
 use Rattle.reading.specs.Reading.{LoadsRead, SheetOf}
 use Rattle.printing.specs.Printing.{Printed, Sized, frameBytes}

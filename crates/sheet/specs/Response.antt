@@ -4,9 +4,9 @@ use mathlib.Core.Path.{_≡_}
 use mathlib.Core.List.{List, [], _++_}
 use mathlib.Core.Bool.{true}
 use lib.ListN.{length, take, drop}
-use Rattle.model.specs.Flows.{stride}
-use Rattle.model.specs.Refusals.{clear, listChecks, refusal}
-use Rattle.model.specs.Sheet.{Asked, printed, printFrame, printRefusal}
+use Rattle.rules.specs.Flows.{stride}
+use Rattle.calls.specs.Refusals.{clear, listChecks, refusal}
+use Rattle.sheets.specs.Sheet.{Asked, printed, printFrame, printRefusal}
 use Rattle.reading.specs.declared.Reading.{Reading}
 use Rattle.reading.specs.declared.Reading.the-variants.{Ports, Slots, Pair, Loads, Refused}
 

@@ -2,14 +2,14 @@
 ghost use mathlib.Core.Path.{_≡_};
 ghost use Prim.Native.Nat.{_*_};
 ghost use lib.ListN.{length, take};
-ghost use Rattle.model.specs.Flows.{stride};
-ghost use Rattle.model.specs.Sheet.{loads, overloaded, readSheet, response};
+ghost use Rattle.rules.specs.Flows.{stride};
+ghost use Rattle.sheets.specs.Sheet.{loads, overloaded, readSheet, response};
 ghost use Rattle.printing.specs.Printing.{Printed};
 ghost use Rattle.sheet.specs.Response.{Readable, bytesOf, Printable, Answered, Whole};
 use flows::LIST_MOST;
 use flows::STRIDE;
-use model::Built;
-use model::Refusal;
+use calls::Built;
+use calls::Refusal;
 use printing::put_frame;
 use printing::put_refusal;
 use reading::Reading;

@@ -8,13 +8,13 @@ use native.Mathlib.Omega.{arith}
 use lib.Dec.{eqb}
 use lib.ListN.{length, getD, replicate, length-replicate}
 use lib.Seq.{getD-take}
-use Rattle.model.specs.Words.{bit}
-use Rattle.model.specs.Schedule.{favours, halfBy, halfOf}
-use Rattle.model.proofs.Cases.{byEq, is-yes, is-no}
-use Rattle.model.proofs.Lists.{every-map}
-use Rattle.model.proofs.Kept.{keep-every, keep-rising}
-use Rattle.model.proofs.Settled.{favours-law}
-use Rattle.model.proofs.Splits.{half-at, half-length}
+use Rattle.rules.specs.Words.{bit}
+use Rattle.rules.specs.Schedule.{favours, halfBy, halfOf}
+use Rattle.rules.proofs.Cases.{byEq, is-yes, is-no}
+use Rattle.rules.proofs.Lists.{every-map}
+use Rattle.rules.proofs.Kept.{keep-every, keep-rising}
+use Rattle.rules.proofs.Settled.{favours-law}
+use Rattle.rules.proofs.Splits.{half-at, half-length}
 use Rattle.planes.specs.Planes.{digitAt, countAt, each, counts, halves, oddAt, oddsIn}
 use Rattle.planes.specs.Steps.{Gathered, Marked, Others}
 use Rattle.planes.proofs.Lists.{keep-most, zeros-at}

@@ -9,17 +9,17 @@ use lib.Dec.{eqb}
 use lib.ListN.{length, getD, set, take, drop, replicate, length-set, length-replicate}
 use lib.Seq.{length-take-le, getD-take, take-set-lt, drop-set-lt}
 use borrow.Author.Tests.{eq-eqb, ne-eqb}
-use Rattle.model.specs.Words.{both, upFrom, keep, Every}
-use Rattle.model.specs.Flows.{inputs, links}
-use Rattle.model.specs.Rules.{odd}
-use Rattle.model.specs.Schedule.{partnerIn, partner, outputPartner, walk, groupOf, favouring, level, settleAt, settle, favours}
-use Rattle.model.proofs.Cases.{byBool, byEq}
-use Rattle.model.proofs.Partners.{odd-lt, partner-at}
-use Rattle.model.proofs.Singles.{output-odd}
-use Rattle.model.proofs.SamePorts.{output-same}
-use Rattle.model.proofs.Kept.{keep-same, keep-keep}
-use Rattle.model.proofs.Favouring.{none-favour, settled-less, unsettled-most}
-use Rattle.model.proofs.Walks.{walk-on, walk-off, walk-length}
+use Rattle.rules.specs.Words.{both, upFrom, keep, Every}
+use Rattle.rules.specs.Flows.{inputs, links}
+use Rattle.rules.specs.Rules.{odd}
+use Rattle.rules.specs.Schedule.{partnerIn, partner, outputPartner, walk, groupOf, favouring, level, settleAt, settle, favours}
+use Rattle.rules.proofs.Cases.{byBool, byEq}
+use Rattle.rules.proofs.Partners.{odd-lt, partner-at}
+use Rattle.rules.proofs.Singles.{output-odd}
+use Rattle.rules.proofs.SamePorts.{output-same}
+use Rattle.rules.proofs.Kept.{keep-same, keep-keep}
+use Rattle.rules.proofs.Favouring.{none-favour, settled-less, unsettled-most}
+use Rattle.rules.proofs.Walks.{walk-on, walk-off, walk-length}
 use Rattle.split.specs.Steps.{lookup, tabled, Sides, Shared, portIn, thoseAt, mateAmong, Linked, LinkedOut, walked, bothWays, groupSettled, allSettled, SettledBy}
 use Rattle.split.proofs.Lists.{every-kept}
 use Rattle.split.proofs.Walked.{walk-end}

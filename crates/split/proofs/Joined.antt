@@ -10,15 +10,15 @@ use lib.Dec.{eqb}
 use lib.Count.{trailingZeros}
 use lib.ListN.{length, getD, set, take, length-set}
 use lib.Seq.{getD-set-same, getD-set-other}
-use Rattle.model.specs.Words.{if, upFrom, keep, Every}
-use Rattle.model.specs.Flows.{outputOf}
-use Rattle.model.specs.Rules.{odd, oddsAt, single, singlesOf}
-use Rattle.model.specs.Schedule.{partnerIn, partner, outputPartner}
-use Rattle.model.proofs.Cases.{byBool, byEq}
-use Rattle.model.proofs.Kept.{keep-keep}
-use Rattle.model.proofs.Lists.{every-map, Apart}
-use Rattle.model.proofs.Partners.{in-none, odd-lt}
-use Rattle.model.proofs.Singles.{every-both, Single, singles-every, singles-apart, output-linked, output-single, one-link}
+use Rattle.rules.specs.Words.{if, upFrom, keep, Every}
+use Rattle.rules.specs.Flows.{outputOf}
+use Rattle.rules.specs.Rules.{odd, oddsAt, single, singlesOf}
+use Rattle.rules.specs.Schedule.{partnerIn, partner, outputPartner}
+use Rattle.rules.proofs.Cases.{byBool, byEq}
+use Rattle.rules.proofs.Kept.{keep-keep}
+use Rattle.rules.proofs.Lists.{every-map, Apart}
+use Rattle.rules.proofs.Partners.{in-none, odd-lt}
+use Rattle.rules.proofs.Singles.{every-both, Single, singles-every, singles-apart, output-linked, output-single, one-link}
 use Rattle.planes.specs.Digits.{digit}
 use Rattle.planes.proofs.Digits.{digit-most, digit-none, if-same, if-other}
 use Rattle.planes.proofs.Lowest.{rest, next-zeros, next-digit, next-fits}

@@ -11,13 +11,13 @@ use lib.Dec.{eqb}
 use lib.ListN.{length, getD, set, take, replicate, length-set, length-replicate, getD-replicate, List·getD-eq-default}
 use lib.Seq.{take-suc, getD-set-same, getD-set-other}
 use borrow.Author.Tests.{eqb-true, eq-eqb, ne-eqb}
-use Rattle.model.specs.Words.{if, keep, Every}
-use Rattle.model.specs.Rules.{single}
-use Rattle.model.specs.Schedule.{partnerIn}
-use Rattle.model.proofs.Cases.{byBool, byEq, byLt}
-use Rattle.model.proofs.Lists.{Rising, rising-apart, Apart, rising-weaken, every-map}
-use Rattle.model.proofs.Partners.{in-none, in-first, in-second, in-rest}
-use Rattle.model.proofs.Singles.{single-every, every-both}
+use Rattle.rules.specs.Words.{if, keep, Every}
+use Rattle.rules.specs.Rules.{single}
+use Rattle.rules.specs.Schedule.{partnerIn}
+use Rattle.rules.proofs.Cases.{byBool, byEq, byLt}
+use Rattle.rules.proofs.Lists.{Rising, rising-apart, Apart, rising-weaken, every-map}
+use Rattle.rules.proofs.Partners.{in-none, in-first, in-second, in-rest}
+use Rattle.rules.proofs.Singles.{single-every, every-both}
 use Rattle.planes.specs.Digits.{digit}
 use Rattle.planes.specs.Steps.{TurnedAt}
 use Rattle.planes.proofs.Digits.{digit-most, digit-none}

@@ -5,8 +5,8 @@ use mathlib.Core.List.{List, [], _∷_, _++_}
 use mathlib.Core.Bool.{Bool, true}
 use native.Mathlib.Omega.{arith}
 use lib.ListN.{length, getD, take}
-use Rattle.model.specs.Words.{if, upFrom, keep, Every}
-use Rattle.model.proofs.Cases.{byBool, byEq}
+use Rattle.rules.specs.Words.{if, upFrom, keep, Every}
+use Rattle.rules.proofs.Cases.{byBool, byEq}
 use Rattle.split.specs.Steps.{Positions}
 
 -- ---- one more at the end

@@ -9,10 +9,10 @@ use native.Mathlib.Numerals.{add-one}
 use borrow.Author.Tests.{eq-eqb, ne-eqb}
 use lib.ListN.{length, getD, set, take, replicate, length-set}
 use lib.Seq.{take-suc, take-suc-set, getD-set-same, set-set}
-use Rattle.model.specs.Schedule.{favouring, level}
-use Rattle.model.proofs.Cases.{byEq, within-yes, within-below, within-above}
-use Rattle.model.proofs.Favouring.{settled-less, unsettled-most, favouring-more, favouring-same}
-use Rattle.model.proofs.Shares.{same-shares}
+use Rattle.rules.specs.Schedule.{favouring, level}
+use Rattle.rules.proofs.Cases.{byEq, within-yes, within-below, within-above}
+use Rattle.rules.proofs.Favouring.{settled-less, unsettled-most, favouring-more, favouring-same}
+use Rattle.rules.proofs.Shares.{same-shares}
 use Rattle.split.specs.Steps.{Wide, Odds, walked, Listed, Walks, turned, otherHalf, bothWays, groupSettled, largerHalf, Turn, Settles, allSettled, SettledBy}
 use Rattle.planes.proofs.Lists.{at-end}
 use Rattle.split.proofs.Turned.{turned-length}

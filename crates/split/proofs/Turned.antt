@@ -8,10 +8,10 @@ use native.Mathlib.Numerals.{add-one}
 use lib.Dec.{eqb}
 use lib.ListN.{length, getD, set, take, length-set, List·getD-eq-default}
 use lib.Seq.{take-suc, take-suc-set, getD-set-same, getD-set-other, set-set, set-comm}
-use Rattle.model.specs.Words.{Every}
-use Rattle.model.proofs.Cases.{byBool, byEq, byLt}
-use Rattle.model.proofs.Lists.{every-map}
-use Rattle.model.proofs.Favouring.{settled-less}
+use Rattle.rules.specs.Words.{Every}
+use Rattle.rules.proofs.Cases.{byBool, byEq, byLt}
+use Rattle.rules.proofs.Lists.{every-map}
+use Rattle.rules.proofs.Favouring.{settled-less}
 use Rattle.split.specs.Steps.{Wide, Positions, otherHalf, turned, Listed}
 use Rattle.planes.proofs.Lists.{at-end}
 use Rattle.split.proofs.Lists.{every-snoc}

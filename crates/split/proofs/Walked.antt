@@ -5,9 +5,9 @@ use mathlib.Core.Logic.{_≢_}
 use mathlib.Core.List.{List}
 use native.Mathlib.Omega.{arith}
 use lib.ListN.{length, getD, set, take, length-set}
-use Rattle.model.specs.Schedule.{walk, favouring}
-use Rattle.model.proofs.Favouring.{settled-less, unsettled-most, favouring-more, favouring-same}
-use Rattle.model.proofs.Walks.{walk-on, walk-off}
+use Rattle.rules.specs.Schedule.{walk, favouring}
+use Rattle.rules.proofs.Favouring.{settled-less, unsettled-most, favouring-more, favouring-same}
+use Rattle.rules.proofs.Walks.{walk-on, walk-off}
 use Rattle.split.specs.Steps.{Wide, Mates, lookup, walked, WalkedBy, turned, Listed, Walks}
 use Rattle.split.proofs.Turned.{turned-length, listed-not, listed-zero, listed-room, listed-on, listed-turned}
 

@@ -6,11 +6,11 @@ use mathlib.Core.List.{List, [], _∷_, _++_}
 use mathlib.Core.Bool.{Bool, true, false}
 use lib.Dec.{eqb}
 use lib.ListN.{length, getD, set, take}
-use Rattle.model.specs.Words.{if, bit, upFrom, keep, Every}
-use Rattle.model.specs.Flows.{Side, inputs, links, outputOf}
-use Rattle.model.specs.Rules.{odd, single}
-use Rattle.model.specs.Schedule.{partnerIn, outputPartner, walk, favouring, level, favours}
-use Rattle.model.proofs.Lists.{Rising, Apart}
+use Rattle.rules.specs.Words.{if, bit, upFrom, keep, Every}
+use Rattle.rules.specs.Flows.{Side, inputs, links, outputOf}
+use Rattle.rules.specs.Rules.{odd, single}
+use Rattle.rules.specs.Schedule.{partnerIn, outputPartner, walk, favouring, level, favours}
+use Rattle.rules.proofs.Lists.{Rising, Apart}
 use Rattle.planes.specs.Digits.{digit}
 use Rattle.planes.specs.Planes.{digitAt, counts, Mask}
 

@@ -7,7 +7,7 @@ use widths::number;
 ghost use mathlib.Core.Path.{_≡_};
 ghost use mathlib.Core.Bool.{not};
 ghost use Prim.Native.Nat.{_*_, _%_, _<_};
-ghost use Rattle.model.specs.Words.{if};
+ghost use Rattle.rules.specs.Words.{if};
 ghost use Rattle.split.specs.Steps.{Outputs, Odds, Mates, Free, Held, Linked, heldFrom, Waiting, LinkedBoth, Joins, LinkedOut};
 
 // A port or a link is an index of 64 without a test.

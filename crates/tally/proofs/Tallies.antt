@@ -13,15 +13,15 @@ use lib.Dec.{eqb}
 use lib.ListN.{length, getD, set, take, drop, replicate, length-set, length-replicate, length-take, length-drop}
 use lib.Seq.{getD-set-same, getD-set-other, getD-take, getD-drop, set-out, ext-getD}
 use borrow.Author.Tests.{eq-eqb, ne-eqb, lt-ltb, le-ltb}
-use Rattle.model.specs.Words.{bit, within, sumTo, Within}
-use Rattle.model.specs.Flows.{flows, numberOf, inputs, links, outputOf, portOf, Class, flow, input, output, link, total}
-use Rattle.model.specs.Frames.{counts, cells, runOf}
-use Rattle.model.proofs.Cases.{byBool, byEq, byLt, within-yes, within-above, within-true, is-yes, is-no}
-use Rattle.model.proofs.Sums.{sum-none, sum-more, sum-most, sum-zero}
-use Rattle.model.proofs.Lists.{zero-at}
-use Rattle.model.proofs.Flows.{map-length, map-at, output-low, by-entry, idle-counts, own-counts, flow-counts}
-use Rattle.model.proofs.Inspected.{In}
-use Rattle.model.proofs.Cells.{cells-slot, cells-none, cells-run, run-none, run-length}
+use Rattle.rules.specs.Words.{bit, within, sumTo, Within}
+use Rattle.rules.specs.Flows.{flows, numberOf, inputs, links, outputOf, portOf, Class, flow, input, output, link, total}
+use Rattle.rules.specs.Frames.{counts, cells, runOf}
+use Rattle.rules.proofs.Cases.{byBool, byEq, byLt, within-yes, within-above, within-true, is-yes, is-no}
+use Rattle.rules.proofs.Sums.{sum-none, sum-more, sum-most, sum-zero}
+use Rattle.rules.proofs.Lists.{zero-at}
+use Rattle.rules.proofs.Flows.{map-length, map-at, output-low, by-entry, idle-counts, own-counts, flow-counts}
+use Rattle.calls.proofs.Inspected.{In}
+use Rattle.rules.proofs.Cells.{cells-slot, cells-none, cells-run, run-none, run-length}
 use Rattle.tally.specs.Tally.{place, Vacant, Switch, Readable, RightAt, Room, Adds, ofEntry, partly, cellsOf, ofSlot, numberAt, tallyOf}
 
 -- ---- one more at a place

@@ -6,11 +6,11 @@ use mathlib.Core.Logic.{_≢_}
 use mathlib.Core.Bool.{true}
 use lib.Dec.{eqb, ltb}
 use lib.ListN.{length, getD}
-use Rattle.model.specs.Words.{if, bit, within, upFrom, sumTo}
-use Rattle.model.specs.Flows.{flows, Class, flow, input, output, link, total}
-use Rattle.model.specs.Frames.{right, counts, cells}
-use Rattle.model.specs.Demand2.{Ported, Linked}
-use Rattle.model.proofs.Inspected.{In}
+use Rattle.rules.specs.Words.{if, bit, within, upFrom, sumTo}
+use Rattle.rules.specs.Flows.{flows, Class, flow, input, output, link, total}
+use Rattle.rules.specs.Frames.{right, counts, cells}
+use Rattle.calls.specs.Demand2.{Ported, Linked}
+use Rattle.calls.proofs.Inspected.{In}
 
 -- The flows stand in the order of the list, with room for 512, then the sixteen inputs, then the sixteen outputs,
 -- then their links, then the total.

@@ -2,9 +2,9 @@
 ghost use mathlib.Core.Path.{_≡_};
 ghost use Prim.Native.Nat.{_+_, _≤_, _<_};
 ghost use lib.ListN.{getD, set, replicate};
-ghost use Rattle.model.specs.Words.{bit};
-ghost use Rattle.model.specs.Flows.{total};
-ghost use Rattle.model.specs.Frames.{counts, runOf};
+ghost use Rattle.rules.specs.Words.{bit};
+ghost use Rattle.rules.specs.Flows.{total};
+ghost use Rattle.rules.specs.Frames.{counts, runOf};
 ghost use Rattle.tally.specs.Tally.{Readable, RightAt, Room, Adds, ofEntry, ofSlot, tallyOf};
 
 // Counts one more at a place of a tally.

@@ -8,15 +8,15 @@ use native.Mathlib.Nat.{mul-le-mul, mul-le-mul-right}
 use lib.Dec.{eqb}
 use lib.ListN.{length, getD, take, drop}
 use borrow.Author.Tests.{not-true, not-false, eqb-true, eqb-false}
-use Rattle.model.specs.Words.{both, within}
-use Rattle.model.specs.Refusals.{clear, accepted, answered, refusal}
-use Rattle.model.specs.Frames.{levels}
-use Rattle.model.specs.Service.{viewChecks, viewNumber, viewStart, viewSize, viewed}
-use Rattle.model.specs.declared.Answer.{Answer}
-use Rattle.model.specs.declared.Answer.the-variants.{Accepted, Refused}
-use Rattle.model.specs.declared.Refusal.{Refusal}
-use Rattle.model.proofs.Cases.{both-true}
-use Rattle.model.proofs.Reports.{report-clear, clear-none, clear-some, within-known, slots-known, refusal-number}
+use Rattle.rules.specs.Words.{both, within}
+use Rattle.calls.specs.Refusals.{clear, accepted, answered, refusal}
+use Rattle.rules.specs.Frames.{levels}
+use Rattle.calls.specs.Service.{viewChecks, viewNumber, viewStart, viewSize, viewed}
+use Rattle.calls.specs.declared.Answer.{Answer}
+use Rattle.calls.specs.declared.Answer.the-variants.{Accepted, Refused}
+use Rattle.calls.specs.declared.Refusal.{Refusal}
+use Rattle.rules.proofs.Cases.{both-true}
+use Rattle.calls.proofs.Reports.{report-clear, clear-none, clear-some, within-known, slots-known, refusal-number}
 use Rattle.view.specs.Asked.{checked, onward}
 
 -- ---- the answers in their order

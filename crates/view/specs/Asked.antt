@@ -1,8 +1,8 @@
 -- What is known where a question about a frame is not refused.
 use Prim.Native.Nat.{ℕ, _+_, _*_}
 use mathlib.Core.List.{List}
-use Rattle.model.specs.Refusals.{report, accepted}
-use Rattle.model.specs.Service.{viewChecks}
+use Rattle.calls.specs.Refusals.{report, accepted}
+use Rattle.calls.specs.Service.{viewChecks}
 
 -- The answer of Slot view's checks.
 unfoldable pub checked : ℕ → ℕ → List ℕ → ℕ → List ℕ

@@ -1,11 +1,11 @@
 // Slot view: a slot's own part of the caller's frame.
 ghost use mathlib.Core.Path.{_≡_};
 ghost use denote.Ref.{ptr};
-ghost use Rattle.model.specs.Refusals.{answered};
-ghost use Rattle.model.specs.Service.{viewNumber, viewStart, viewed};
+ghost use Rattle.calls.specs.Refusals.{answered};
+ghost use Rattle.calls.specs.Service.{viewNumber, viewStart, viewed};
 ghost use Rattle.view.specs.Asked.{checked, onward};
-use model::Answer;
-use model::Refusal;
+use calls::Answer;
+use calls::Refusal;
 
 // Slot view's checks: 1, 2, 4, 11.
 pub fn check_frame(ports: usize, slots: usize, frame: &[u16], slot: usize) -> Answer

@@ -4,7 +4,7 @@ use native.Mathlib.Omega.{arith}
 use lib.ListN.{length}
 use borrow.Author.Needs.{needs}
 use borrow.Author.Tests.{eq-eqb, ne-eqb, lt-ltb, le-ltb}
-use Rattle.model.specs.Flows.{flows}
+use Rattle.rules.specs.Flows.{flows}
 use Rattle.admission.proofs.check_list.Statement.{statement}
 use Rattle.admission.proofs.check_list.Tie as tie
 

@@ -1,5 +1,5 @@
 use borrow.Author.Tests.{lt-ltb, le-ltb, le-leb, lt-leb}
-use Rattle.model.proofs.Cases.{byLt}
+use Rattle.rules.proofs.Cases.{byLt}
 use Rattle.admission.proofs.outside.Statement.{statement}
 use Rattle.admission.proofs.outside.Tie as tie
 

@@ -1,6 +1,6 @@
 use Prim.Native.Nat.{_+_, _-_}
 use mathlib.Core.Path.{_≡_, refl}
-use Rattle.model.proofs.Searches.{Passed, passed-start, passed-end}
+use Rattle.rules.proofs.Searches.{Passed, passed-start, passed-end}
 use Rattle.balance.specs.Balance.{far}
 use Rattle.balance.proofs.Blocks.{far-on, far-found}
 use borrow.Author.Needs.{needs}

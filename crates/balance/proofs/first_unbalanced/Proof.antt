@@ -1,6 +1,6 @@
 use Prim.Native.Nat.{_-_}
-use Rattle.model.specs.Inspect.{unbalancedNumber}
-use Rattle.model.proofs.Searches.{Passed, passed-start, passed-done}
+use Rattle.calls.specs.Inspect.{unbalancedNumber}
+use Rattle.rules.proofs.Searches.{Passed, passed-start, passed-done}
 use Rattle.balance.proofs.Blocks.{block-ends, half-fits, block-fits, number-on, number-found}
 use borrow.Author.Needs.{needs}
 use Rattle.balance.proofs.first_unbalanced.Statement.{statement}

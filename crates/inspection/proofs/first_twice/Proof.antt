@@ -1,8 +1,8 @@
 use Prim.Native.Nat.{_≤_, _-_, _*_}
 use borrow.Author.Needs.{needs}
 use native.Mathlib.Omega.{arith}
-use Rattle.model.specs.Inspect.{usedTwice}
-use Rattle.model.proofs.Searches.{Passed}
+use Rattle.calls.specs.Inspect.{usedTwice}
+use Rattle.rules.proofs.Searches.{Passed}
 use Rattle.inspection.proofs.Found.{slots-start, outputs-on, outputs-found, outputs-row, outputs-fits, slots-end, whole-fits}
 use Rattle.inspection.proofs.first_twice.Statement.{statement}
 use Rattle.inspection.proofs.first_twice.Tie as tie

@@ -1,8 +1,8 @@
 use Prim.Native.Nat.{_≤_, _-_, _*_}
 use borrow.Author.Needs.{needs}
 use native.Mathlib.Omega.{arith}
-use Rattle.model.specs.Inspect.{isWrong}
-use Rattle.model.proofs.Searches.{Passed}
+use Rattle.calls.specs.Inspect.{isWrong}
+use Rattle.rules.proofs.Searches.{Passed}
 use Rattle.inspection.proofs.Found.{slots-start, entries-on, entries-found, entries-row, entries-fits, slots-end, lent-fits}
 use Rattle.inspection.proofs.first_wrong.Statement.{statement}
 use Rattle.inspection.proofs.first_wrong.Tie as tie

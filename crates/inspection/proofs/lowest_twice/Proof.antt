@@ -1,9 +1,9 @@
 use Prim.Native.Nat.{_-_}
 use mathlib.Core.Path.{_≡_}
 use borrow.Author.Needs.{needs}
-use Rattle.model.specs.Frames.{runOf}
-use Rattle.model.specs.Inspect.{twiceIn}
-use Rattle.model.proofs.Searches.{Passed, passed-start, passed-done}
+use Rattle.rules.specs.Frames.{runOf}
+use Rattle.calls.specs.Inspect.{twiceIn}
+use Rattle.rules.proofs.Searches.{Passed, passed-start, passed-done}
 use Rattle.tally.specs.Tally.{tallyOf}
 use Rattle.inspection.proofs.Found.{twice-on, twice-found}
 use Rattle.inspection.proofs.lowest_twice.Statement.{statement}

@@ -1,6 +1,6 @@
 use Prim.Native.Nat.{_-_}
 use borrow.Author.Needs.{needs}
-use Rattle.model.proofs.Searches.{Passed, passed-start, passed-done}
+use Rattle.rules.proofs.Searches.{Passed, passed-start, passed-done}
 use Rattle.inspection.specs.Faults.{wrongIn}
 use Rattle.inspection.proofs.Found.{lent-ported, input-low, from-fits, place-low, place-fits, offset-fits, wrong-on, wrong-found}
 use Rattle.inspection.proofs.lowest_wrong.Statement.{statement}

@@ -1,4 +1,4 @@
-use Rattle.model.specs.Refusals.{answered}
+use Rattle.calls.specs.Refusals.{answered}
 use Rattle.numbers.proofs.Told.{told, passed}
 use borrow.Author.Needs.{needs}
 use Rattle.numbers.proofs.of_answer.Statement.{statement}

@@ -1,4 +1,4 @@
-use Rattle.model.specs.Build.{outcome}
+use Rattle.calls.specs.Build.{outcome}
 use Rattle.numbers.proofs.Told.{told, passed}
 use borrow.Author.Needs.{needs}
 use Rattle.numbers.proofs.of_built.Statement.{statement}

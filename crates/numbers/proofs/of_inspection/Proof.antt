@@ -1,4 +1,4 @@
-use Rattle.model.specs.Inspect.{finding}
+use Rattle.calls.specs.Inspect.{finding}
 use Rattle.numbers.proofs.Told.{told, passed}
 use borrow.Author.Needs.{needs}
 use Rattle.numbers.proofs.of_inspection.Statement.{statement}

@@ -1,4 +1,4 @@
-use Rattle.model.specs.Refusals.{refusal}
+use Rattle.calls.specs.Refusals.{refusal}
 use Rattle.numbers.proofs.Told.{told}
 use borrow.Author.Needs.{needs}
 use Rattle.numbers.proofs.of_refusal.Statement.{statement}

@@ -2,7 +2,7 @@ use mathlib.Core.Path.{_≡_, sym, ap, _∙_}
 use borrow.Author.Needs.{needs}
 use mir.Syntax.{w64}
 use mir.Val.{toZ, ofZ}
-use Rattle.model.specs.Service.{served}
+use Rattle.calls.specs.Service.{served}
 use Rattle.numbers.proofs.of_service.Statement.{statement}
 use Rattle.numbers.proofs.of_service.Tie as tie
 

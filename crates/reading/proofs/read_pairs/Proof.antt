@@ -1,7 +1,7 @@
 use Prim.Native.Nat.{_-_}
 use mathlib.Core.List.{[]}
 use lib.ListN.{length, drop}
-use Rattle.model.specs.Sheet.{lines, readPairs}
+use Rattle.sheets.specs.Sheet.{lines, readPairs}
 use Rattle.reading.specs.Reading.{PairRead, Reached}
 use Rattle.reading.proofs.Lines.{pair-known, reached-start, reached-on, reached-end, pair-passed}
 use borrow.Author.Needs.{needs}

@@ -3,7 +3,7 @@ use mathlib.Core.Path.{ap, _∙_}
 use native.Mathlib.Omega.{arith}
 use lib.ListN.{length}
 use borrow.Author.Needs.{needs}
-use Rattle.model.specs.Frames.{cells}
+use Rattle.rules.specs.Frames.{cells}
 use Rattle.service.proofs.Turns.{frame-short, part-run, part-short, run-inside}
 use Rattle.service.proofs.inside_cells.Statement.{statement}
 use Rattle.service.proofs.inside_cells.Tie as tie

@@ -2,7 +2,7 @@ use Prim.Native.Nat.{_-_, _+_, _≤_, _<_}
 use native.Mathlib.Omega.{arith}
 use lib.ListN.{length}
 use borrow.Author.Needs.{needs}
-use Rattle.model.specs.Service.{classOf}
+use Rattle.calls.specs.Service.{classOf}
 use Rattle.service.specs.Whom.{firstEntry, nextEntry}
 use Rattle.service.proofs.Whom.{named-from-one, named-numbered, who-placed}
 use Rattle.service.proofs.Counting.{Counting, counting-start, counting-on, counting-end, counting-most}

@@ -1,5 +1,5 @@
 use Prim.Native.Nat.{_≤_, _-_}
-use Rattle.model.specs.Frames.{runOf}
+use Rattle.rules.specs.Frames.{runOf}
 use Rattle.tally.proofs.Tallies.{Tally, tally-start, tally-on, tally-end, tally-room, part-ends, part-readable, from-fits, end-fits, offset-fits}
 use borrow.Author.Needs.{needs}
 use native.Mathlib.Omega.{arith}

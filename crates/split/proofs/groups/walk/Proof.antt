@@ -1,5 +1,5 @@
 use borrow.Author.Needs.{needs}
-use Rattle.model.specs.Schedule.{favouring}
+use Rattle.rules.specs.Schedule.{favouring}
 use Rattle.split.proofs.Walked.{Walking, walking-start, walking-at, walking-stop, walking-room, walking-at-2, walking-stop-2, walking-room-2, walking-on, walking-less}
 use Rattle.split.proofs.groups.walk.Statement.{statement}
 use Rattle.split.proofs.groups.walk.Tie as tie

@@ -1,0 +1,113 @@
+-- Leads: how far from zero that of a legal and balanced frame can be.
+use Prim.Native.Nat.{ℕ, _+_, _-_, _*_, _/_, _%_, _^_, _≤_, _<_, min}
+use mathlib.Core.Path.{_≡_, refl, ap, _∙_}
+use mathlib.Core.Logic.{_≢_}
+use mathlib.Core.List.{List}
+use native.Mathlib.Omega.{arith}
+use native.Mathlib.Nat.{mod-lt, div-add-mod'}
+use lib.IntN.{pos, _-ℤ_, natAbs}
+use lib.ListN.{length}
+use lib.Pow.{pow-pos}
+use Rattle.rules.specs.Words.{Near}
+use Rattle.rules.specs.Flows.{Class, Of, load}
+use Rattle.rules.specs.Frames.{cells, runOf, Legal, Balanced, repeated}
+use Rattle.calls.specs.Refusals.{clear}
+use Rattle.calls.specs.Build.{left}
+use Rattle.calls.specs.Service.{classOf, lead, countChecks, service}
+use Rattle.wire.specs.Deviation.{deviation}
+use Rattle.bounds.specs.Lead.{Led, BuiltLead, AnsweredLead}
+use Rattle.rules.proofs.Cases.{byBool, byEq}
+use Rattle.rules.proofs.Runs.{cells-from, cells-rounds, cells-turns}
+use Rattle.calls.proofs.Replies.{who-of, clear-who}
+use Rattle.rules.proofs.Integers.{minus-near, minus-same}
+use Rattle.rules.proofs.Legal.{legal-exact}
+use Rattle.wire.proofs.Accuracy.{deviation-most, before, before-more, before-all, before-none, prefix-sharp}
+use Rattle.calls.proofs.Demand2.{build-sound}
+
+-- whole turns are neither ahead nor behind
+pub lead-turns : (c : Class) (ports slots : ℕ) (list entries : List ℕ) → length entries ≡ slots * ports → 1 ≤ slots → (start w : ℕ)
+    → lead c ports slots list entries start (w * slots) ≡ pos 0
+unfolding lead
+lead-turns c ports slots list entries size h start w =
+    let e : slots * cells c ports list (repeated ports slots entries start (w * slots)) ≡ w * slots * cells c ports list entries
+    = omega (arith, ap (λ z. slots * z) (cells-rounds ports slots list entries size c h start w)) in
+    minus-same _ _ e
+
+-- ---- of a legal and balanced frame
+module _ {ports slots : ℕ} {list entries : List ℕ} (legal : Legal ports slots list entries) (balanced : Balanced ports slots list entries) (c : Class)
+    (of : Of ports c) (k : ℕ) (power : slots ≡ 2 ^ k) where
+  abbrev m : ℕ
+  m = load c list
+
+  whole : cells c ports list entries ≡ m
+  whole = legal-exact legal c
+
+  -- the cells of the first t slots
+  abbrev front : ℕ → ℕ
+  front = before legal balanced c of
+
+  -- what is left of a run after its whole turns: two of its ends are off by a deviation at most, and the others not at all
+  rest-near : (start head tail : ℕ) → start + head ≤ slots → tail ≤ slots → (tail ≢ 0 → start + head ≡ slots)
+      → Near (2 * deviation k) (slots * (cells c ports list (runOf ports start head entries) + front tail)) ((head + tail) * m)
+  rest-near start head tail fits low wraps =
+      let sharp = prefix-sharp legal balanced c of k power in
+      let one = sharp start (omega arith) in
+      let more = ap (λ z. slots * z) (before-more legal balanced c of start head (omega arith)) in
+      byEq tail 0
+      (λ e.
+      let none : front tail ≡ 0 = ap front e ∙ before-none legal balanced c of in
+      let two = sharp (start + head) fits in
+      omega (arith, one .0, one .1, two .0, two .1, more, ap (λ z. slots * z) none, ap (λ z. z * m) e))
+      (λ n.
+      let all : front (start + head) ≡ m = ap front (wraps n) ∙ before-all legal balanced c of in
+      let two = sharp tail low in
+      omega (arith, one .0, one .1, two .0, two .1, more, ap (λ z. slots * z) all, ap (λ z. z * m) (wraps n)))
+
+  run-near : (start len : ℕ) → Near (2 * deviation k) (slots * cells c ports list (repeated ports slots entries start len)) (len * m)
+  run-near start len =
+      let h : 1 ≤ slots = omega (arith, power, pow-pos k) in
+      let from = start % slots in
+      let turns = len / slots in
+      let head = min (len % slots) (slots - from) in
+      let tail = len % slots - head in
+      let low : from < slots = mod-lt start h in
+      let short : len % slots < slots = mod-lt len h in
+      let near = rest-near from head tail (omega arith) (omega arith) (λ n. omega arith) in
+      let sum : head + tail ≡ len % slots = omega arith in
+      let parts : cells c ports list (repeated ports slots entries start len) ≡ turns * m + (cells c ports list (runOf ports from head entries) + front tail)
+      = cells-from ports slots list entries (legal .size) c h start len
+      ∙ cells-turns ports slots list entries (legal .size) c from len turns head tail low refl refl sum
+      ∙ ap (λ z. turns * z + (cells c ports list (runOf ports from head entries) + front tail)) whole in
+      let length-is : len ≡ turns * slots + (head + tail) = omega (arith, div-add-mod' len slots) in
+      omega (arith, near .0, near .1, ap (λ z. slots * z) parts, ap (λ z. z * m) length-is)
+
+  pub sound-lead : (start len : ℕ) → Led c ports slots k list entries start len
+  unfolding lead
+  sound-lead start len =
+      let share : len * cells c ports list entries ≡ len * m = ap (λ z. len * z) whole in
+      let near : Near (2 * deviation k) (slots * cells c ports list (repeated ports slots entries start len)) (len * cells c ports list entries)
+      = rw share (run-near start len) in
+      let sharp : natAbs (lead c ports slots list entries start len) ≤ 2 * deviation k
+      = minus-near (2 * deviation k) _ _ near in
+      record {
+        near = omega (arith, sharp, deviation-most k, ap (λ z. (2 * k + 1) * z) power);
+        sharp = omega (arith, sharp);
+        from-share = ap (λ z. pos (slots * cells c ports list (repeated ports slots entries start len)) -ℤ pos z) share;
+        turns = λ w e. rw e (lead-turns c ports slots list entries (legal .size) (omega (arith, power, pow-pos k)) start w);
+      }
+
+-- ---- of what Build leaves
+pub built-lead : BuiltLead
+built-lead ports slots list limits buffer e k power c of =
+    let s = build-sound ports slots list limits buffer e in
+    sound-lead (s .0) (s .1) c of k power
+
+-- ---- of what Service count answers
+pub answered-lead : AnsweredLead
+unfolding service
+answered-lead ports slots list limits buffer e k power who start len =
+    let entries = left ports slots list limits buffer in
+    byBool (clear (countChecks ports slots list entries who start len))
+    (λ c. let of = who-of ports list who (clear-who ports slots list entries who start len c) in
+    rw c (built-lead ports slots list limits buffer e k power (classOf who) of (start - 1) len .near))
+    (λ c. rw c (omega arith))

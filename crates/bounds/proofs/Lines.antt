@@ -1,0 +1,56 @@
+-- Lines: what waits at the card of a link is bounded by what the frames may be ahead of the link's limit, and by what its line may be behind.
+use Prim.Native.Nat.{ℕ, suc, _+_, _*_, _^_, _≤_, _<_}
+use mathlib.Core.Path.{_≡_, ap}
+use mathlib.Core.List.{List, [], _∷_}
+use native.Mathlib.Nat.{mul-le-mul-left}
+use native.Mathlib.Omega.{arith}
+use lib.ListN.{length, getD}
+use Rattle.rules.specs.Words.{Every}
+use Rattle.rules.specs.Flows.{link, load}
+use Rattle.wire.specs.Wire.{Carried, none, chain, cellsAt, Shape}
+use Rattle.wire.specs.Deviation.{deviation}
+use Rattle.bounds.specs.Queue.{waiting, arrived, Paced, sent}
+use Rattle.bounds.specs.Line.{Takes, LinkBuffers}
+use Rattle.wire.proofs.Demand3.{Allowed, chain-allowed}
+use Rattle.bounds.proofs.Queues.{since, arrived-more, share-most}
+use Rattle.bounds.proofs.Rows.{sends}
+
+-- ---- a queue that is filled ahead of m cells a frame by at most a, and emptied behind it by at most b
+module _ (k m a b slots : ℕ) (come line : ℕ → ℕ) (paced : Paced k a slots (λ start len. len * m) come) (takes : Takes k m b slots line) where
+  drained : (t : ℕ) → t ≤ slots → 2 ^ k * waiting come line t ≤ b + a
+  drained t h =
+      let s = since come line t in
+      let fits : s .start + s .len ≤ slots = omega (arith, s .ends) in
+      omega (arith, paced (s .start) (s .len) fits, takes (s .start) (s .len) fits, mul-le-mul-left (2 ^ k) (s .waits))
+
+  filled : (t : ℕ) → t < slots → 2 ^ k * (waiting come line t + come t) ≤ b + a + m
+  filled t h =
+      let s = since come line t in
+      let fits : s .start + s .len ≤ slots = omega (arith, s .ends) in
+      let more : s .start + (s .len + 1) ≤ slots = omega (arith, s .ends) in
+      let now : come (s .start + s .len) ≡ come t = ap come (s .ends) in
+      let all : waiting come line t + come t + arrived line (s .start) (s .len) ≤ arrived come (s .start) (s .len + 1) =
+      omega (arith, s .waits, arrived-more come (s .start) (s .len)) in
+      omega (arith, paced (s .start) (s .len + 1) more, takes (s .start) (s .len) fits, mul-le-mul-left (2 ^ k) all)
+
+-- ---- a link
+-- its load is at most its limit, and that at most m
+limited : (ports slots x m : ℕ) → x < ports * 4 → (fs : List Carried) → Every (Shape ports slots) fs → Every Allowed fs
+    → Every (λ f. getD (f .call .limits) x 0 ≤ m) fs → Every (λ f. load (link x) (f .call .list) ≤ m) fs
+limited ports slots x m h [] shape allowed limits = tt
+limited ports slots x m h (f ∷ fs) shape allowed limits =
+    let at : x < f .call .ports * 4 = omega (arith, shape .0 .ports-are) in
+    (omega (arith, allowed .0 x at, limits .0), limited ports slots x m h fs (shape .1) (allowed .1) (limits .1))
+
+pub link-buffers : LinkBuffers
+link-buffers buffer calls ports k shape x m h limits b arrive line takes t low =
+    let fs = chain none buffer calls in
+    let slots = length fs * 2 ^ k in
+    let come = sent arrive (cellsAt (link x) fs) in
+    let loads = limited ports (2 ^ k) x m h fs shape (chain-allowed buffer calls) limits in
+    let paced : Paced k (2 * deviation k) slots (λ start len. len * m) come = λ start len fits.
+    omega (arith, sends buffer calls ports k shape (link x) h arrive start len fits, share-most (link x) ports k m fs shape loads start len fits) in
+    record {
+      after = drained k m (2 * deviation k) b slots come line paced takes (suc t) (omega arith);
+      before = filled k m (2 * deviation k) b slots come line paced takes t low;
+    }

@@ -1,0 +1,87 @@
+-- The longest wait: how many slots it takes until a flow has had w cells, and until a cell that waits has left.
+use Prim.Native.Nat.{ℕ, _+_, _*_, _/_, _-_, _^_, _≤_, _<_}
+use mathlib.Core.Logic.{_≢_}
+use mathlib.Core.List.{List}
+use lib.ListN.{length, getD}
+use Rattle.rules.specs.Words.{Every}
+use Rattle.rules.specs.Flows.{Class, Of}
+use Rattle.rules.specs.Frames.{cells}
+use Rattle.wire.specs.Wire.{Carried, cellsAt, cellsIn, share, EveryChain}
+use Rattle.wire.specs.Deviation.{deviation}
+use Rattle.bounds.specs.Queue.{waiting, queue, Paced}
+
+-- The class has at least m cells in every frame of the chain.
+abbrev pub HasAtLeast : ℕ → Class → ℕ → List Carried → Type 0
+HasAtLeast m c ports frames = Every (λ f. m ≤ cells c ports (f .call .list) (f .entries)) frames
+
+-- How far a run of a chain may be from its share, in parts of 1 / (3 × 2 ^ k) of a cell: by demand 3 (2k + 1)/3 cells,
+abbrev pub byDemand3 : ℕ → ℕ
+byDemand3 k = (2 * k + 1) * 2 ^ k
+
+-- and by the sharp bound 2 × deviation k / 2 ^ k of them.
+abbrev pub bySharp : ℕ → ℕ
+bySharp k = 6 * deviation k
+
+-- A run of len slots is long enough for w cells if 3 × len × m is more than gap + 3 × slots × (w − 1).
+abbrev pub Enough : ℕ → ℕ → ℕ → ℕ → ℕ → Type 0
+Enough gap k m w len = gap + 3 * 2 ^ k * (w - 1) < 3 * len * m
+
+-- The cell that is w-th in the queue after the first t slots has left after the next len: it is nowhere in the queue then.
+abbrev pub Leaves : (ℕ → ℕ) → (ℕ → ℕ) → ℕ → ℕ → ℕ → Type 0
+Leaves arrive scheduled t w len = Every (λ cell. cell ≢ getD (queue arrive scheduled t) (w - 1) 0) (queue arrive scheduled (t + len))
+
+-- On a chain of frames of 2 ^ k slots any run of len slots has at least w cells of the class; and whatever arrives, a cell that
+-- is w-th in the class's queue after some slot has left after the next len.
+pub record Suffices (c : Class) (k : ℕ) (frames : List Carried) (w len : ℕ) : Type 0 where
+  pub runs : (start : ℕ) → start + len ≤ length frames * 2 ^ k → w ≤ cellsIn c frames start len
+  pub leaves : (arrive : ℕ → ℕ) (t : ℕ) → t + len ≤ length frames * 2 ^ k → w ≤ waiting arrive (cellsAt c frames) t
+      → Leaves arrive (cellsAt c frames) t w len
+
+-- Of a class that has at least m cells in every frame of the chain, a length that is long enough for w cells suffices for them.
+abbrev pub WaitsOn : ℕ → ℕ → ℕ → List Carried → Type 0
+WaitsOn gap ports k frames =
+    (c : Class) → Of ports c → (m w : ℕ) → 1 ≤ m → 1 ≤ w → HasAtLeast m c ports frames
+    → (len : ℕ) → Enough gap k m w len → Suffices c k frames w len
+
+-- The longest wait, on every chain that demand 3 covers.
+abbrev pub LongestWait : (ℕ → ℕ) → Type 0
+LongestWait gap = EveryChain (λ ports k. WaitsOn (gap k) ports k)
+
+-- The least length that is long enough, by which a house goes,
+abbrev pub longest : ℕ → ℕ → ℕ → ℕ → ℕ
+longest gap k m w = (gap + 3 * 2 ^ k * (w - 1)) / (3 * m) + 1
+
+-- which is to say that it is long enough, and nothing that is long enough is less.
+pub record Least (gap k m w len : ℕ) : Type 0 where
+  pub enough : Enough gap k m w len
+  pub none-less : (other : ℕ) → Enough gap k m w other → len ≤ other
+
+-- So it suffices.
+abbrev pub LeastWait : (ℕ → ℕ) → Type 0
+LeastWait gap =
+    EveryChain
+    (λ ports k frames.
+    (c : Class) → Of ports c → (m w : ℕ) → 1 ≤ m → 1 ≤ w → HasAtLeast m c ports frames → Suffices c k frames w (longest (gap k) k m w))
+
+-- By blocks: where the class has at least 2 ^ j cells in every frame, each block of 2 ^ (k − j) slots has one, and a run of one slot
+-- less than w + 1 such blocks has w of them whole. At the head of the queue, where w is 1, that is exact.
+abbrev pub BlocksOn : ℕ → ℕ → List Carried → Type 0
+BlocksOn ports k frames =
+    (c : Class) → Of ports c → (j w : ℕ) → j ≤ k → 1 ≤ w → HasAtLeast (2 ^ j) c ports frames
+    → (len : ℕ) → (w + 1) * 2 ^ (k - j) ≤ len + 1 → Suffices c k frames w len
+
+abbrev pub BlockWait : Type 0
+BlockWait = EveryChain BlocksOn
+
+-- Of a flow that keeps to its share with an allowance a, in parts of 1 / 2 ^ k of a cell, every cell that waits after a slot, at
+-- whatever place, has left after the next len, if len × m + 2 ^ k is more than a + 2 × deviation k.
+abbrev pub PacedOn : ℕ → ℕ → List Carried → Type 0
+PacedOn ports k frames =
+    (c : Class) → Of ports c → (m : ℕ) → HasAtLeast m c ports frames
+    → (a : ℕ) (arrive : ℕ → ℕ) → Paced k a (length frames * 2 ^ k) (share c 0 frames) arrive
+    → (len : ℕ) → a + 2 * deviation k < len * m + 2 ^ k
+    → (t w : ℕ) → t + len ≤ length frames * 2 ^ k → 1 ≤ w → w ≤ waiting arrive (cellsAt c frames) t
+    → Leaves arrive (cellsAt c frames) t w len
+
+abbrev pub PacedWait : Type 0
+PacedWait = EveryChain PacedOn

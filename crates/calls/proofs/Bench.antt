@@ -1,0 +1,204 @@
+-- The bench loads of document 01 that are marked P, as far as the calls answer them: one list of cases, computed from the definitions. A
+-- second list has a case for each answer that they do not reach.
+use Prim.Native.Nat.{ℕ, suc, _*_}
+use mathlib.Core.Path.{_≡_, refl}
+use mathlib.Core.List.{List, [], _∷_, _++_, map}
+use lib.IntN.{ℤ, pos, negsuc}
+use lib.ListN.{replicate}
+use Rattle.rules.specs.Words.{sumTo}
+use Rattle.rules.specs.Flows.{portOf, countsOf, loadIn}
+use Rattle.rules.specs.Frames.{cells, runOf, repeated}
+use Rattle.calls.specs.Refusals.{slotsEach, admitted}
+use Rattle.rules.specs.Schedule.{walk, settleAt, favours, slotOf, frameOf}
+use Rattle.calls.specs.Work.{work}
+use Rattle.calls.specs.Build.{buildChecks, built, left}
+use Rattle.calls.specs.Inspect.{isWrong, twiceIn, usedTwice, wrongCount, unbalanced, unbalancedNumber, unbalancedAt, inspected}
+use Rattle.calls.specs.Service.{viewChecks, viewNumber, viewStart, viewSize, viewed, lead, Reply, countChecks, service}
+use Rattle.calls.specs.declared.Who.{Who}
+use Rattle.calls.specs.declared.Who.the-variants.{Flow, Input, Output}
+
+-- What the definitions give, and what document 01 says.
+pub record Case : Type 0 where
+  pub gives : List ℕ
+  pub says : List ℕ
+
+-- A list that is accepted where the limits are slots each, the odd counts settled, and the frame that stands in the buffer after.
+frame : ℕ → ℕ → List ℕ → ℕ → List ℕ → Case
+frame ports slots list settled entries =
+    let buffer : List ℕ = replicate (slots * ports) 77 in
+    let limits = slotsEach slots in
+    record { gives = built ports slots list limits buffer ++ left ports slots list limits buffer; says = 0 ∷ settled ∷ entries }
+
+-- A list that is refused, by Admit and by Build, and the buffer as it was: by limits that are given, and by those of slots each.
+turnedAwayBy : List ℕ → ℕ → ℕ → List ℕ → List ℕ → Case
+turnedAwayBy limits ports slots list refusal =
+    let buffer : List ℕ = replicate (slots * ports) 77 in
+    record {
+      gives = admitted ports slots list limits ++ (built ports slots list limits buffer ++ left ports slots list limits buffer);
+      says = refusal ++ (refusal ++ buffer);
+    }
+
+turnedAway : ℕ → ℕ → List ℕ → List ℕ → Case
+turnedAway ports slots list refusal = turnedAwayBy (slotsEach slots) ports slots list refusal
+
+-- A count's answer: its numbers, how far the run is ahead, and how far behind.
+abbrev aheadBy : ℤ → ℕ
+aheadBy (pos n) = n
+aheadBy (negsuc n) = 0
+
+abbrev behindBy : ℤ → ℕ
+behindBy (pos n) = 0
+behindBy (negsuc n) = suc n
+
+counting : Reply → List ℕ → ℕ → ℕ → Case
+counting reply numbers ahead behind =
+    record { gives = reply .numbers ++ (aheadBy (reply .ahead) ∷ behindBy (reply .ahead) ∷ []); says = numbers ++ (ahead ∷ behind ∷ []) }
+
+-- one cell from each port to its own number
+abbrev own : List ℕ
+own = 1 ∷ 1 ∷ 1 ∷ 1 ∷ 2 ∷ 2 ∷ 1 ∷ 1 ∷ 3 ∷ 3 ∷ 1 ∷ 1 ∷ 4 ∷ 4 ∷ 1 ∷ 1 ∷ []
+
+-- one of them in each slot: flow 1, 3, 2, 4
+abbrev ownFrame : List ℕ
+ownFrame = 1 ∷ 0 ∷ 0 ∷ 0 ∷ 0 ∷ 0 ∷ 3 ∷ 0 ∷ 0 ∷ 2 ∷ 0 ∷ 0 ∷ 0 ∷ 0 ∷ 0 ∷ 4 ∷ []
+
+-- the flows of the sheet, in the order of its lines
+abbrev pub table7 : List ℕ
+table7 = 1 ∷ 1 ∷ 2 ∷ 1 ∷ 1 ∷ 2 ∷ 2 ∷ 1 ∷ 4 ∷ 1 ∷ 1 ∷ 1 ∷ 4 ∷ 2 ∷ 1 ∷ 1 ∷ 4 ∷ 4 ∷ 2 ∷ 1 ∷ []
+
+abbrev pub table7Frame : List ℕ
+table7Frame = 1 ∷ 0 ∷ 0 ∷ 5 ∷ 2 ∷ 0 ∷ 0 ∷ 3 ∷ 1 ∷ 0 ∷ 0 ∷ 4 ∷ 2 ∷ 0 ∷ 0 ∷ 5 ∷ []
+
+-- four loads of 1, and their frame
+abbrev four : List ℕ
+four = 1 ∷ 1 ∷ 1 ∷ 1 ∷ 1 ∷ 2 ∷ 1 ∷ 1 ∷ 2 ∷ 1 ∷ 1 ∷ 1 ∷ 2 ∷ 2 ∷ 1 ∷ 1 ∷ []
+
+abbrev crossed : List ℕ
+crossed = 1 ∷ 4 ∷ 2 ∷ 3 ∷ []
+
+pub cases : List Case
+cases =
+    frame 1 1 (1 ∷ 1 ∷ 1 ∷ 1 ∷ []) 0 (1 ∷ [])
+    ∷ frame 1 4 (1 ∷ 1 ∷ 3 ∷ 1 ∷ []) 2 (1 ∷ 1 ∷ 1 ∷ 0 ∷ [])
+    ∷ frame 2 2 four 4 crossed
+    ∷ frame 4 4 own 8 ownFrame
+    ∷ frame 4 4 table7 10 table7Frame
+    ∷ turnedAway 2 4 (1 ∷ 1 ∷ 3 ∷ 1 ∷ 1 ∷ 2 ∷ 2 ∷ 1 ∷ []) (5 ∷ 1 ∷ 5 ∷ [])
+    ∷ record { gives = admitted 2 4 (1 ∷ 1 ∷ 2 ∷ 1 ∷ 1 ∷ 2 ∷ 2 ∷ 1 ∷ []) (slotsEach 4); says = 0 ∷ [] }
+    ∷ turnedAway 2 4 (1 ∷ 1 ∷ 3 ∷ 1 ∷ 2 ∷ 1 ∷ 2 ∷ 1 ∷ []) (6 ∷ 1 ∷ 5 ∷ [])
+    ∷ turnedAway 2 4 (1 ∷ 1 ∷ 5 ∷ 1 ∷ []) (5 ∷ 1 ∷ 5 ∷ [])
+    -- one cell more than its share: four parts of a quarter
+    ∷ counting (service 4 4 table7 table7Frame (Flow 5) 4 2) (0 ∷ 2 ∷ []) 4 0
+    ∷ []
+
+-- ---- the frames of the lists, and what the sheet comes to
+abbrev pub frameAt : ℕ → ℕ → List ℕ → List ℕ
+frameAt ports k list = frameOf ports (portOf list) k (countsOf list)
+
+pub table7-framed : frameAt 4 2 table7 ≡ table7Frame
+unfolding portOf countsOf walk settleAt favours slotOf frameOf
+table7-framed = refl
+
+own-framed : frameAt 4 2 own ≡ ownFrame
+unfolding portOf countsOf walk settleAt favours slotOf frameOf
+own-framed = refl
+
+small-framed : (frameAt 1 0 (1 ∷ 1 ∷ 1 ∷ 1 ∷ []) ≡ 1 ∷ []) × (frameAt 1 2 (1 ∷ 1 ∷ 3 ∷ 1 ∷ []) ≡ 1 ∷ 1 ∷ 1 ∷ 0 ∷ [])
+    × (frameAt 2 1 four ≡ crossed)
+unfolding portOf countsOf walk settleAt favours slotOf frameOf
+small-framed = (refl, refl, refl)
+
+pub bench : map (λ c. c .gives) cases ≡ map (λ c. c .says) cases
+unfolding cases frame turnedAwayBy turnedAway counting sumTo portOf countsOf loadIn cells runOf work admitted buildChecks countChecks service repeated lead walk settleAt favours slotOf frameOf
+bench = refl
+
+-- ---- an answer of each kind that the nine loads do not reach
+-- A view of a frame: the number, where the part begins, its size and its bytes.
+views : ℕ → List ℕ → Case
+views slot says =
+    record {
+      gives = viewNumber 2 2 crossed slot ∷ viewStart 2 2 crossed slot ∷ viewSize 2 2 crossed slot ∷ viewed 2 2 crossed slot;
+      says = says;
+    }
+
+-- A flow of two cells from input 1 to output 2, and one of one cell from input 2 to output 1.
+abbrev there : List ℕ
+there = 1 ∷ 2 ∷ 2 ∷ 1 ∷ 2 ∷ 1 ∷ 1 ∷ 1 ∷ []
+
+-- A count in a frame of two slots with those cells, and in one whose first slot has the second flow at input 1 and no flow at input 2.
+counts : Who → ℕ → ℕ → ℕ → ℕ → ℕ → Case
+counts who start len had ahead behind = counting (service 2 2 there (1 ∷ 0 ∷ 1 ∷ 2 ∷ []) who start len) (0 ∷ had ∷ []) ahead behind
+
+countsAny : Who → ℕ → Case
+countsAny who had = counting (service 2 2 there (2 ∷ 9 ∷ 1 ∷ 2 ∷ []) who 1 2) (0 ∷ had ∷ []) 0 0
+
+-- A cell from each of four inputs to output 1, the first and the third on link 2, the others on link 1: flow 1 is partnered with 3, and
+-- 2 with 4. By their numbers alone it were 1 with 2, and slots 2 and 3 were changed round.
+abbrev twoLinks : List ℕ
+twoLinks = 1 ∷ 1 ∷ 1 ∷ 2 ∷ 2 ∷ 1 ∷ 1 ∷ 1 ∷ 3 ∷ 1 ∷ 1 ∷ 2 ∷ 4 ∷ 1 ∷ 1 ∷ 1 ∷ []
+
+-- A cell from each of three inputs to output 1, on links 2, 3 and 1: by rising link flow 3 is partnered with 1, and 2 stays single. By
+-- their numbers, or by falling link, it were 1 with 2, and slots 2 and 3 were changed round.
+abbrev threeLinks : List ℕ
+threeLinks = 1 ∷ 1 ∷ 1 ∷ 2 ∷ 2 ∷ 1 ∷ 1 ∷ 3 ∷ 3 ∷ 1 ∷ 1 ∷ 1 ∷ []
+
+-- Inspect of a frame of two slots for one cell from each of two ports to its own number.
+inspects : List ℕ → List ℕ → Case
+inspects entries says = record { gives = inspected 2 2 (1 ∷ 1 ∷ 1 ∷ 1 ∷ 2 ∷ 2 ∷ 1 ∷ 1 ∷ []) entries; says = says }
+
+pub others : List Case
+others =
+    -- slot 2 of a frame, and slots outside it
+    views 2 (0 ∷ 2 ∷ 2 ∷ 2 ∷ 3 ∷ [])
+    ∷ views 0 (11 ∷ 0 ∷ 0 ∷ [])
+    ∷ views 3 (11 ∷ 0 ∷ 0 ∷ [])
+    -- each flow, an input, an output, over the whole frame
+    ∷ counts (Flow 1) 1 2 2 0 0
+    ∷ counts (Flow 2) 1 2 1 0 0
+    ∷ counts (Input 1) 1 2 2 0 0
+    ∷ counts (Output 1) 1 2 1 0 0
+    -- one behind after the first slot, one ahead after the second, two turns on too, and a run of no slots
+    ∷ counts (Flow 2) 1 1 0 0 1
+    ∷ counts (Input 2) 2 1 1 1 0
+    ∷ counts (Output 1) 2 5 3 1 0
+    ∷ counts (Output 2) 2 0 0 0 0
+    -- a flow counts for itself and its output wherever it stands, and what is no flow for its input only
+    ∷ countsAny (Flow 2) 2
+    ∷ countsAny (Output 1) 2
+    ∷ countsAny (Output 2) 1
+    ∷ countsAny (Input 2) 2
+    -- a flow that is not in the list
+    ∷ counting (service 2 2 there (1 ∷ 0 ∷ 1 ∷ 2 ∷ []) (Flow 3) 1 1) (12 ∷ []) 0 0
+    -- lists: not of whole flows, 513 flows, whose ports are outside too, a port outside, whose link is outside too, a link outside, none
+    ∷ turnedAway 2 2 (1 ∷ 1 ∷ 1 ∷ []) (3 ∷ [])
+    ∷ turnedAway 2 2 (replicate 2052 9) (21 ∷ [])
+    ∷ turnedAway 2 2 (1 ∷ 3 ∷ 0 ∷ 5 ∷ []) (22 ∷ [])
+    ∷ turnedAway 2 2 (1 ∷ 2 ∷ 9 ∷ 5 ∷ []) (23 ∷ [])
+    ∷ turnedAway 2 2 (1 ∷ 2 ∷ 9 ∷ 0 ∷ []) (23 ∷ [])
+    ∷ frame 1 2 [] 0 (0 ∷ 0 ∷ [])
+    -- two cells on link 2 of output 2, where each link may have one, where each may have two, and where an input has too many
+    ∷ turnedAwayBy (slotsEach 1) 2 2 (1 ∷ 2 ∷ 2 ∷ 2 ∷ []) (24 ∷ 2 ∷ 2 ∷ 2 ∷ [])
+    ∷ record { gives = admitted 2 4 (1 ∷ 2 ∷ 2 ∷ 2 ∷ []) (slotsEach 2); says = 0 ∷ [] }
+    ∷ turnedAwayBy (slotsEach 1) 2 2 (1 ∷ 2 ∷ 3 ∷ 2 ∷ []) (5 ∷ 1 ∷ 3 ∷ [])
+    -- the limits stand output by output: those of output 1 and of the first two links of output 2 are six
+    ∷ turnedAwayBy (replicate 6 2) 2 2 (1 ∷ 2 ∷ 2 ∷ 3 ∷ []) (24 ∷ 2 ∷ 3 ∷ 2 ∷ [])
+    -- partners on one link first, then the single ones by rising link
+    ∷ frame 4 4 twoLinks 8 (1 ∷ 0 ∷ 0 ∷ 0 ∷ 0 ∷ 2 ∷ 0 ∷ 0 ∷ 0 ∷ 0 ∷ 3 ∷ 0 ∷ 0 ∷ 0 ∷ 0 ∷ 4 ∷ [])
+    ∷ frame 3 4 threeLinks 6 (1 ∷ 0 ∷ 0 ∷ 0 ∷ 2 ∷ 0 ∷ 0 ∷ 0 ∷ 3 ∷ 0 ∷ 0 ∷ 0 ∷ [])
+    -- one cell in each slot, and both in the first: its halves differ by two cells in total, and by one for every flow and port
+    ∷ inspects (1 ∷ 0 ∷ 0 ∷ 2 ∷ []) (0 ∷ [])
+    ∷ inspects (1 ∷ 2 ∷ 0 ∷ 0 ∷ []) (104 ∷ 1 ∷ 2 ∷ [])
+    -- a number above the list, another input's flow, a flow that is missing
+    ∷ inspects (1 ∷ 0 ∷ 0 ∷ 3 ∷ []) (101 ∷ 2 ∷ 2 ∷ [])
+    ∷ inspects (2 ∷ 0 ∷ 0 ∷ 1 ∷ []) (101 ∷ 1 ∷ 1 ∷ [])
+    ∷ inspects (1 ∷ 0 ∷ 0 ∷ 0 ∷ []) (103 ∷ 2 ∷ [])
+    -- one cell in each of four slots to output 1, the first two on link 1: a link is unbalanced, and nothing else is
+    ∷ record {
+      gives = inspected 2 4 (1 ∷ 1 ∷ 1 ∷ 1 ∷ 2 ∷ 1 ∷ 1 ∷ 1 ∷ 1 ∷ 1 ∷ 1 ∷ 2 ∷ 2 ∷ 1 ∷ 1 ∷ 2 ∷ []) (1 ∷ 0 ∷ 0 ∷ 2 ∷ 3 ∷ 0 ∷ 0 ∷ 4 ∷ []);
+      says = 104 ∷ 1 ∷ 4 ∷ [];
+    }
+    ∷ []
+
+pub others-answered : map (λ c. c .gives) others ≡ map (λ c. c .says) others
+unfolding others views frame turnedAwayBy turnedAway counting counts countsAny inspects inspected isWrong twiceIn usedTwice wrongCount unbalanced unbalancedNumber unbalancedAt sumTo portOf countsOf loadIn cells runOf work admitted buildChecks countChecks service repeated lead viewChecks walk settleAt favours slotOf frameOf
+others-answered = refl

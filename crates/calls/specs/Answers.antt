@@ -1,0 +1,198 @@
+-- What each call answers, case by case, in document 01's order: a second reading of the calls. A case says what holds and what is answered
+-- then; of each call some case holds, and what a case says is the answer.
+use Prim.Native.Nat.{ℕ, suc, _+_, _*_, _%_, _≤_, _<_}
+use mathlib.Core.Path.{_≡_}
+use mathlib.Core.Bool.{true}
+use mathlib.Core.List.{List, [], _∷_}
+use lib.IntN.{pos, negsuc}
+use lib.ListN.{length, getD, take, drop}
+use Rattle.rules.specs.Words.{Near, Within}
+use Rattle.rules.specs.Flows.{stride, flows, outputOf, portOf, countsOf, Class, flow, input, output, link, Of, load, Fits}
+use Rattle.rules.specs.Frames.{right, cells, runOf, repeated, Power, Legal, Block, Balanced}
+use Rattle.rules.specs.Rules.{Scheduled}
+use Rattle.calls.specs.Refusals.{admitted}
+use Rattle.calls.specs.Work.{work}
+use Rattle.calls.specs.Build.{left, built}
+use Rattle.calls.specs.Demand2.{Ported, Linked, Light, Over, Allows, Past, WellFormed, Accepts}
+use Rattle.calls.specs.Inspect.{inspected}
+use Rattle.calls.specs.Service.{viewNumber, viewStart, viewSize, viewed, Reply, service}
+use Rattle.calls.specs.declared.Who.{Who}
+use Rattle.calls.specs.declared.Who.the-variants.{Flow, Input, Output}
+
+-- Some case holds of the answer, and what any case says is the answer.
+abbrev pub Exactly : {A : Type 0} → (A → Type 0) → A → Type 0
+Exactly {A} cases answer = cases answer × ((given : A) → cases given → given ≡ answer)
+
+-- ---- 1 to 4 and 11, which calls have in common
+-- 1, 2: every call begins with these.
+pub data RackRefused (ports slots : ℕ) : ℕ → Type 0 where
+  ports-1 : (Within 1 16 ports → ⊥) → RackRefused ports slots 1
+  slots-2 : Within 1 16 ports → (Power slots → ⊥) → RackRefused ports slots 2
+
+-- 1, 2, 3, 21, 22, 23: a call that is lent a list.
+pub data LoadRefused (ports slots : ℕ) (list : List ℕ) : ℕ → Type 0 where
+  rack : {n : ℕ} → RackRefused ports slots n → LoadRefused ports slots list n
+  list-3 : Within 1 16 ports → Power slots → (length list % stride ≡ 0 → ⊥) → LoadRefused ports slots list 3
+  flows-21 : Within 1 16 ports → Power slots → length list % stride ≡ 0 → (flows list ≤ 512 → ⊥) → LoadRefused ports slots list 21
+  flow-22 : Within 1 16 ports → Power slots → length list % stride ≡ 0 → flows list ≤ 512 → (Ported ports list → ⊥) → LoadRefused ports slots list 22
+  link-23 : Within 1 16 ports → Power slots → length list % stride ≡ 0 → flows list ≤ 512 → Ported ports list → (Linked list → ⊥)
+      → LoadRefused ports slots list 23
+
+-- 1, 2, 3, 21, 22, 23, 4: one that is lent a list and a frame.
+pub data FrameRefused (ports slots : ℕ) (list entries : List ℕ) : ℕ → Type 0 where
+  load-refused : {n : ℕ} → LoadRefused ports slots list n → FrameRefused ports slots list entries n
+  frame-4 : WellFormed ports slots list → (length entries ≡ slots * ports → ⊥) → FrameRefused ports slots list entries 4
+
+-- 1, 2, 4, 11: one that is lent a frame and asked about a slot of it.
+pub data SlotRefused (ports slots : ℕ) (entries : List ℕ) (slot : ℕ) : ℕ → Type 0 where
+  rack : {n : ℕ} → RackRefused ports slots n → SlotRefused ports slots entries slot n
+  frame-4 : Within 1 16 ports → Power slots → (length entries ≡ slots * ports → ⊥) → SlotRefused ports slots entries slot 4
+  slot-11 : Within 1 16 ports → Power slots → length entries ≡ slots * ports → (Within 1 slots slot → ⊥) → SlotRefused ports slots entries slot 11
+
+-- None of these: slot s + 1 is one of the frame's.
+pub record SlotFound (ports slots : ℕ) (entries : List ℕ) (slot s : ℕ) : Type 0 where
+  pub rack : Within 1 16 ports
+  pub power : Power slots
+  pub size : length entries ≡ slots * ports
+  pub low : s < slots
+  pub number : slot ≡ suc s
+
+-- ---- Admit
+-- 1, 2, 3, 21, 22, 23; 5 with the lowest input above slots and its load; 6 likewise with outputs; 24 with the lowest link above its limit,
+-- by its output and its number there, and its load; or accepted, which is 0.
+pub data Admits (ports slots : ℕ) (list limits : List ℕ) : List ℕ → Type 0 where
+  refused : {n : ℕ} → LoadRefused ports slots list n → Admits ports slots list limits (n ∷ [])
+  input-5 : WellFormed ports slots list → (x : ℕ) → Over input ports slots list x
+      → Admits ports slots list limits (5 ∷ suc x ∷ load (input x) list ∷ [])
+  output-6 : WellFormed ports slots list → Light input ports slots list → (x : ℕ) → Over output ports slots list x
+      → Admits ports slots list limits (6 ∷ suc x ∷ load (output x) list ∷ [])
+  link-24 : WellFormed ports slots list → Light input ports slots list → Light output ports slots list → (x : ℕ) → Past ports list limits x
+      → Admits ports slots list limits (24 ∷ suc (outputOf x) ∷ suc (x % 4) ∷ load (link x) list ∷ [])
+  accepted : WellFormed ports slots list → Fits ports slots (portOf list) (countsOf list) → Allows ports list limits
+      → Admits ports slots list limits (0 ∷ [])
+
+-- ---- Build
+-- The same with 4, each refusal with the entries that were lent; or accepted, which is 0 and the odd counts settled, with the entries
+-- that meet the rules.
+pub data Builds (ports slots : ℕ) (list limits buffer : List ℕ) : List ℕ × List ℕ → Type 0 where
+  refused : {n : ℕ} → FrameRefused ports slots list buffer n → Builds ports slots list limits buffer (n ∷ [], buffer)
+  input-5 : WellFormed ports slots list → length buffer ≡ slots * ports → (x : ℕ) → Over input ports slots list x
+      → Builds ports slots list limits buffer (5 ∷ suc x ∷ load (input x) list ∷ [], buffer)
+  output-6 : WellFormed ports slots list → length buffer ≡ slots * ports → Light input ports slots list → (x : ℕ) → Over output ports slots list x
+      → Builds ports slots list limits buffer (6 ∷ suc x ∷ load (output x) list ∷ [], buffer)
+  link-24 : WellFormed ports slots list → length buffer ≡ slots * ports → Light input ports slots list → Light output ports slots list
+      → (x : ℕ) → Past ports list limits x
+      → Builds ports slots list limits buffer (24 ∷ suc (outputOf x) ∷ suc (x % 4) ∷ load (link x) list ∷ [], buffer)
+  accepted : (a : Accepts ports slots list limits buffer) (entries : List ℕ)
+      → Scheduled ports (portOf list) (a .well .power .k) (countsOf list) entries
+      → Builds ports slots list limits buffer (0 ∷ work ports slots list entries ∷ [], entries)
+
+-- ---- Inspect
+-- A fact holds of each of n numbers, and x is the first of which it does not.
+abbrev pub Each : ℕ → (ℕ → Type 0) → Type 0
+Each n Fact = (x : ℕ) → x < n → Fact x
+
+pub record FirstNot (n : ℕ) (Fact : ℕ → Type 0) (x : ℕ) : Type 0 where
+  pub low : x < n
+  pub wrong : Fact x → ⊥
+  pub before : (y : ℕ) → y < x → Fact y
+
+-- A fact holds at each of rows × width places.
+abbrev pub Throughout : ℕ → ℕ → (ℕ → ℕ → Type 0) → Type 0
+Throughout rows width Fact = (r c : ℕ) → r < rows → c < width → Fact r c
+
+-- Row r, column c is the first place where it does not: lowest row, then column.
+pub record FirstWrong (rows width : ℕ) (Fact : ℕ → ℕ → Type 0) (r c : ℕ) : Type 0 where
+  pub row : r < rows
+  pub column : c < width
+  pub wrong : Fact r c → ⊥
+  pub rows-before : (y z : ℕ) → y < r → z < width → Fact y z
+  pub columns-before : (z : ℕ) → z < c → Fact r z
+
+-- The halves, half slots each from slot start on, differ by at most 1 for each flow, input, output and link and in total.
+abbrev pub HalvesNear : ℕ → List ℕ → List ℕ → ℕ → ℕ → Type 0
+HalvesNear ports list entries start half =
+    (c : Class) → Of ports c → Near 1 (cells c ports list (runOf ports start half entries)) (cells c ports list (runOf ports (start + half) half entries))
+
+-- The block of twice half slots from slot start on is the largest that is not so, and of those the earliest.
+pub record FirstUnbalanced (ports slots : ℕ) (list entries : List ℕ) (start half : ℕ) : Type 0 where
+  pub block : Block slots start (2 * half)
+  pub unbalanced : HalvesNear ports list entries start half → ⊥
+  pub larger : (a h : ℕ) → half < h → Block slots a (2 * h) → HalvesNear ports list entries a h
+  pub earlier : (a : ℕ) → a < start → Block slots a (2 * half) → HalvesNear ports list entries a half
+
+-- No entry is wrong, no slot uses an output twice, each flow is in its cells of slots: place by place, and flow by flow.
+abbrev pub EntryRight : ℕ → List ℕ → List ℕ → ℕ → ℕ → Type 0
+EntryRight ports list entries s i = right list i (getD entries (s * ports + i) 0) ≡ true
+
+abbrev pub OutputOnce : ℕ → List ℕ → List ℕ → ℕ → ℕ → Type 0
+OutputOnce ports list entries s o = cells (output o) ports list (runOf ports s 1 entries) ≤ 1
+
+abbrev pub CountRight : ℕ → List ℕ → List ℕ → ℕ → Type 0
+CountRight ports list entries f = cells (flow f) ports list entries ≡ load (flow f) list
+
+-- The first fault, in their order over the whole frame, with its place by numbers from 1; or clean, which is 0.
+pub data Finds (ports slots : ℕ) (list entries : List ℕ) : List ℕ → Type 0 where
+  entry-101 : {s i : ℕ} → FirstWrong slots ports (EntryRight ports list entries) s i → Finds ports slots list entries (101 ∷ suc s ∷ suc i ∷ [])
+  output-102 : {s o : ℕ} → Throughout slots ports (EntryRight ports list entries) → FirstWrong slots ports (OutputOnce ports list entries) s o
+      → Finds ports slots list entries (102 ∷ suc s ∷ suc o ∷ [])
+  flow-103 : {f : ℕ} → Throughout slots ports (EntryRight ports list entries) → Throughout slots ports (OutputOnce ports list entries)
+      → FirstNot (flows list) (CountRight ports list entries) f → Finds ports slots list entries (103 ∷ suc f ∷ [])
+  block-104 : {start half : ℕ} → Legal ports slots list entries → FirstUnbalanced ports slots list entries start half
+      → Finds ports slots list entries (104 ∷ suc start ∷ 2 * half ∷ [])
+  clean-0 : Legal ports slots list entries → Balanced ports slots list entries → Finds ports slots list entries (0 ∷ [])
+
+-- 1, 2, 3, 21, 22, 23, 4; or what is found in the frame: the first fault, or clean.
+pub data Inspects (ports slots : ℕ) (list entries : List ℕ) : List ℕ → Type 0 where
+  refused : {n : ℕ} → FrameRefused ports slots list entries n → Inspects ports slots list entries (n ∷ [])
+  found : {given : List ℕ} → WellFormed ports slots list → length entries ≡ slots * ports → Finds ports slots list entries given → Inspects ports slots list entries given
+
+-- ---- Slot view
+-- The number, where in the frame the part begins, how many entries it has, and the entries: none on refusal.
+pub data Views (ports slots : ℕ) (entries : List ℕ) (slot : ℕ) : ℕ × ℕ × ℕ × List ℕ → Type 0 where
+  refused : {n : ℕ} → SlotRefused ports slots entries slot n → Views ports slots entries slot (n, 0, 0, [])
+  seen : (s : ℕ) → SlotFound ports slots entries slot s → Views ports slots entries slot (0, s * ports, ports, take ports (drop (s * ports) entries))
+
+-- ---- Service count
+-- Whom a count is for, by numbers from 1, and what is counted, by numbers from 0.
+pub data Names (ports : ℕ) (list : List ℕ) : Who → Class → Type 0 where
+  of-flow : {f : ℕ} → f < flows list → Names ports list (Flow (suc f)) (flow f)
+  of-input : {i : ℕ} → i < ports → Names ports list (Input (suc i)) (input i)
+  of-output : {o : ℕ} → o < ports → Names ports list (Output (suc o)) (output o)
+
+-- A run of a frame of a list begins at slot s + 1.
+pub record RunFound (ports slots : ℕ) (list entries : List ℕ) (start s : ℕ) : Type 0 where
+  pub well : WellFormed ports slots list
+  pub size : length entries ≡ slots * ports
+  pub low : s < slots
+  pub number : start ≡ suc s
+
+-- 1, 2, 3, 21, 22, 23, 4; 11 of the start; 12 where no flow of the list and no port is named; 13; each with lead 0. Or 0 and the cells of
+-- the run, and the lead: n where slots × cells is n more than length × the cells of the whole frame, and −(n + 1), which is negsuc n,
+-- where it is n + 1 less.
+pub data Counts (ports slots : ℕ) (list entries : List ℕ) (who : Who) (start len : ℕ) : Reply → Type 0 where
+  refused : {n : ℕ} → FrameRefused ports slots list entries n → Counts ports slots list entries who start len (record { numbers = n ∷ []; ahead = pos 0 })
+  start-11 : WellFormed ports slots list → length entries ≡ slots * ports → (Within 1 slots start → ⊥)
+      → Counts ports slots list entries who start len (record { numbers = 11 ∷ []; ahead = pos 0 })
+  who-12 : {s : ℕ} → RunFound ports slots list entries start s → ((c : Class) → Names ports list who c → ⊥)
+      → Counts ports slots list entries who start len (record { numbers = 12 ∷ []; ahead = pos 0 })
+  length-13 : {s : ℕ} → RunFound ports slots list entries start s → {c : Class} → Names ports list who c → 1000000 < len
+      → Counts ports slots list entries who start len (record { numbers = 13 ∷ []; ahead = pos 0 })
+  counted-ahead : {s : ℕ} → RunFound ports slots list entries start s → {c : Class} → Names ports list who c → len ≤ 1000000
+      → (n : ℕ) → slots * cells c ports list (repeated ports slots entries s len) ≡ len * cells c ports list entries + n
+      → Counts ports slots list entries who start len (record { numbers = 0 ∷ cells c ports list (repeated ports slots entries s len) ∷ []; ahead = pos n })
+  counted-behind : {s : ℕ} → RunFound ports slots list entries start s → {c : Class} → Names ports list who c → len ≤ 1000000
+      → (n : ℕ) → slots * cells c ports list (repeated ports slots entries s len) + suc n ≡ len * cells c ports list entries
+      → Counts ports slots list entries who start len (record { numbers = 0 ∷ cells c ports list (repeated ports slots entries s len) ∷ []; ahead = negsuc n })
+
+-- ---- what is shown
+-- Of each call: its definition's answer is that of a case, and what any case says is that answer.
+pub record ByCases : Type 0 where
+  pub admit : (ports slots : ℕ) (list limits : List ℕ) → Exactly (Admits ports slots list limits) (admitted ports slots list limits)
+  pub build : (ports slots : ℕ) (list limits buffer : List ℕ)
+      → Exactly (Builds ports slots list limits buffer) (built ports slots list limits buffer, left ports slots list limits buffer)
+  pub inspect : (ports slots : ℕ) (list entries : List ℕ) → Exactly (Inspects ports slots list entries) (inspected ports slots list entries)
+  pub view : (ports slots : ℕ) (entries : List ℕ) (slot : ℕ)
+      → Exactly (Views ports slots entries slot) (viewNumber ports slots entries slot, viewStart ports slots entries slot, viewSize ports slots entries slot, viewed ports slots entries slot)
+  pub count : (ports slots : ℕ) (list entries : List ℕ) (who : Who) (start len : ℕ)
+      → Exactly (Counts ports slots list entries who start len) (service ports slots list entries who start len)

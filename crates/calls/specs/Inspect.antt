@@ -1,0 +1,100 @@
+-- Inspect: a frame from anywhere is clean, or has a first fault.
+use Prim.Native.Nat.{ℕ, suc, _+_, _*_, _/_, _%_, _^_}
+use mathlib.Core.List.{List, [], _∷_, _++_, map}
+use mathlib.Core.Bool.{Bool, true, not}
+use lib.Dec.{eqb, ltb}
+use lib.ListN.{getD}
+use Rattle.rules.specs.Words.{both, near, upFrom, first}
+use Rattle.rules.specs.Flows.{flows, Class, flow, input, output, link, total, load}
+use Rattle.rules.specs.Frames.{right, cells, runOf, levels}
+use Rattle.calls.specs.Refusals.{Check, report, refusal, listChecks, bad-frame}
+use Rattle.calls.specs.declared.Inspection.{Inspection}
+use Rattle.calls.specs.declared.Inspection.the-variants.{Clean, WrongEntry, OutputTwice, FlowCount, UnbalancedBlock, Refused}
+
+-- An answer as numbers: 0 for clean; a fault's number and its place. Document 01 orders the faults and does not number
+-- them: 101 to 104, in its order, are ours, clear of the refusals.
+abbrev pub finding : Inspection → List ℕ
+finding Clean = 0 ∷ []
+finding (WrongEntry s i) = 101 ∷ s ∷ i ∷ []
+finding (OutputTwice s o) = 102 ∷ s ∷ o ∷ []
+finding (FlowCount f) = 103 ∷ f ∷ []
+finding (UnbalancedBlock s size) = 104 ∷ s ∷ size ∷ []
+finding (Refused r) = refusal r
+
+-- The first of n places that a test names wrong, by two numbers from 1: its row and its column in rows of some width.
+abbrev pub firstPlace : ℕ → (ℕ → Bool) → ℕ → ℕ → Check
+firstPlace number wrong width n =
+    let q = first wrong 0 n in
+    (ltb q n, number ∷ suc (q / width) ∷ suc (q % width) ∷ [])
+
+-- A wrong entry: lowest slot, then input.
+unfoldable pub isWrong : ℕ → List ℕ → List ℕ → ℕ → Bool
+isWrong ports list entries q = not (right list (q % ports) (getD entries q 0))
+
+abbrev pub wrongEntry : ℕ → ℕ → List ℕ → List ℕ → Check
+wrongEntry ports slots list entries = firstPlace 101 (isWrong ports list entries) ports (slots * ports)
+
+-- An output used twice in a slot: lowest slot, then output.
+unfoldable pub twiceIn : ℕ → List ℕ → List ℕ → ℕ → Bool
+twiceIn ports list slot o = ltb 1 (cells (output o) ports list slot)
+
+unfoldable pub usedTwice : ℕ → List ℕ → List ℕ → ℕ → Bool
+usedTwice ports list entries q = twiceIn ports list (runOf ports (q / ports) 1 entries) (q % ports)
+
+abbrev pub outputTwice : ℕ → ℕ → List ℕ → List ℕ → Check
+outputTwice ports slots list entries = firstPlace 102 (usedTwice ports list entries) ports (slots * ports)
+
+-- A flow in the wrong number of slots: the first in the list.
+unfoldable pub wrongCount : ℕ → List ℕ → List ℕ → ℕ → Bool
+wrongCount ports list entries f = not (eqb (cells (flow f) ports list entries) (load (flow f) list))
+
+abbrev pub flowCount : ℕ → List ℕ → List ℕ → Check
+flowCount ports list entries =
+    let f = first (wrongCount ports list entries) 0 (flows list) in
+    (ltb f (flows list), 103 ∷ suc f ∷ [])
+
+-- All that is counted: each flow, each input, each output, each link, and the total.
+abbrev pub classes : ℕ → List ℕ → List Class
+classes ports list =
+    map flow (upFrom 0 (flows list))
+    ++ (map input (upFrom 0 ports) ++ (map output (upFrom 0 ports) ++ (map link (upFrom 0 (ports * 4)) ++ (total ∷ []))))
+
+abbrev pub all : (Class → Bool) → List Class → Bool
+all t [] = true
+all t (c ∷ l) = both (t c) (all t l)
+
+-- The two halves, half slots each from slot start on, differ by more than 1 for some flow, input, output or link, or in total.
+unfoldable pub unbalanced : ℕ → List ℕ → List ℕ → ℕ → ℕ → Bool
+unbalanced ports list entries start half =
+    not (all (λ c. near 1 (cells c ports list (runOf ports start half entries)) (cells c ports list (runOf ports (start + half) half entries))) (classes ports list))
+
+-- Block b of those of twice half slots, end to end.
+unfoldable pub unbalancedNumber : ℕ → List ℕ → List ℕ → ℕ → ℕ → Bool
+unbalancedNumber ports list entries half b = unbalanced ports list entries (b * (2 * half)) half
+
+-- An unbalanced block: largest size first, then earliest; its first slot and size. At depth t below the whole frame
+-- there are 2 ^ t blocks of slots / 2 ^ t slots.
+abbrev pub firstAt : ℕ → ℕ → List ℕ → List ℕ → ℕ → ℕ
+firstAt ports slots list entries t = first (unbalancedNumber ports list entries (slots / 2 ^ suc t)) 0 (2 ^ t)
+
+unfoldable pub unbalancedAt : ℕ → ℕ → List ℕ → List ℕ → ℕ → Bool
+unbalancedAt ports slots list entries t = ltb (firstAt ports slots list entries t) (2 ^ t)
+
+abbrev pub unbalancedBlock : ℕ → ℕ → List ℕ → List ℕ → Check
+unbalancedBlock ports slots list entries =
+    let t = first (unbalancedAt ports slots list entries) 0 (levels slots) in
+    let size = slots / 2 ^ t in
+    (ltb t (levels slots), 104 ∷ suc (firstAt ports slots list entries t * size) ∷ size ∷ [])
+
+-- Inspect: 1, 2, 3, 21, 22, 23, 4; then the faults, in their order over the whole frame.
+unfoldable pub inspected : ℕ → ℕ → List ℕ → List ℕ → List ℕ
+inspected ports slots list entries =
+    report (
+    listChecks ports slots list ++ (
+    bad-frame ports slots entries
+    ∷ wrongEntry ports slots list entries
+    ∷ outputTwice ports slots list entries
+    ∷ flowCount ports list entries
+    ∷ unbalancedBlock ports slots list entries
+    ∷ []
+    )) (0 ∷ [])

@@ -1,0 +1,8 @@
+-- What each call answers, one subject a page, and demand 2.
+pub mod Refusals
+pub mod Work
+pub mod Build
+pub mod Demand2
+pub mod Inspect
+pub mod Service
+pub mod Answers

@@ -1,0 +1,80 @@
+-- Cells: those of whole slots end to end add up, and runs of what is put end to end are runs of its parts.
+use Prim.Native.Nat.{ℕ, _+_, _*_, _%_, _≤_}
+use mathlib.Core.Path.{_≡_, refl, ap, _∙_}
+use mathlib.Core.List.{List, [], _++_}
+use native.Mathlib.Omega.{arith}
+use native.Mathlib.Nat.{mul-le-mul-right, mul-add-mod-self-right, mod-eq-of-lt}
+use lib.ListN.{length, getD, drop, length-append, length-take, length-drop, drop-of-length-le, List·getD-append}
+use lib.Seq.{getD-append-add, take-nil, take-add, drop-drop, take-all, take-append-le, drop-append-le, drop-append-add}
+use Rattle.rules.specs.Words.{bit, sumTo}
+use Rattle.rules.specs.Flows.{Class}
+use Rattle.rules.specs.Frames.{counts, cells, runOf}
+use Rattle.rules.proofs.Sums.{sum-ext, sum-append}
+
+module _ (ports : ℕ) where
+  module _ (list : List ℕ) where
+    pub cells-append : (c : Class) (n : ℕ) (v w : List ℕ) → length v ≡ n * ports → cells c ports list (v ++ w) ≡ cells c ports list v + cells c ports list w
+    unfolding cells
+    cells-append c n v w e =
+        let f : ℕ → ℕ = λ q. bit (counts c list (q % ports) (getD (v ++ w) q 0)) in
+        ap (λ z. sumTo z f) (length-append v w)
+        ∙ sum-append (length v) (length w) f
+        ∙ ap (λ z. z + sumTo (length w) (λ t. f (length v + t))) (sum-ext (length v) f _ (λ q h. ap (λ b. bit (counts c list (q % ports) b)) (List·getD-append v w 0 q h)))
+        ∙ ap (λ z. cells c ports list v + z) (sum-ext (length w) (λ t. f (length v + t)) _ (λ q h.
+        let k : (length v + q) % ports ≡ q % ports = ap (λ z. (z + q) % ports) e ∙ mul-add-mod-self-right n ports q in
+        ap (λ z. bit (counts c list z (getD (v ++ w) (length v + q) 0))) k ∙ ap (λ b. bit (counts c list (q % ports) b)) (getD-append-add v w q 0)))
+
+    pub cells-none : (c : Class) → cells c ports list [] ≡ 0
+    unfolding cells sumTo
+    cells-none c = refl
+
+    -- the entries of one slot are those of its inputs in turn
+    pub cells-slot : (c : Class) (slot : List ℕ) → length slot ≡ ports → cells c ports list slot ≡ sumTo ports (λ i. bit (counts c list i (getD slot i 0)))
+    unfolding cells
+    cells-slot c slot e =
+        ap (λ n. sumTo n (λ q. bit (counts c list (q % ports) (getD slot q 0)))) e
+        ∙ sum-ext ports _ _ (λ q h. ap (λ x. bit (counts c list x (getD slot q 0))) (mod-eq-of-lt h))
+
+  pub run-append : (start a b : ℕ) (entries : List ℕ) → runOf ports start (a + b) entries ≡ runOf ports start a entries ++ runOf ports (start + a) b entries
+  unfolding runOf
+  run-append start a b entries =
+      let e : (a + b) * ports ≡ a * ports + b * ports = omega arith in
+      let f : (start + a) * ports ≡ start * ports + a * ports = omega arith in
+      rw (e, f, take-add (a * ports) (b * ports) (drop (start * ports) entries), drop-drop (a * ports) (start * ports) entries)
+
+  pub run-none : (start : ℕ) (entries : List ℕ) → runOf ports start 0 entries ≡ []
+  unfolding runOf
+  run-none start entries = let e : 0 * ports ≡ 0 = omega arith in rw e
+
+  pub run-length : (start len : ℕ) (entries : List ℕ) → (start + len) * ports ≤ length entries → length (runOf ports start len entries) ≡ len * ports
+  unfolding runOf
+  run-length start len entries h = simp (length-take, length-drop) (omega arith)
+
+  pub run-all : (n : ℕ) (entries : List ℕ) → length entries ≡ n * ports → runOf ports 0 n entries ≡ entries
+  unfolding runOf
+  run-all n entries e = let z : 0 * ports ≡ 0 = omega arith in rw z (take-all (n * ports) entries (omega arith))
+
+  pub run-first : (n start len : ℕ) (v w : List ℕ) → length v ≡ n * ports → start + len ≤ n → runOf ports start len (v ++ w) ≡ runOf ports start len v
+  unfolding runOf
+  run-first n start len v w e h =
+      let k = mul-le-mul-right ports h in
+      rw (drop-append-le (start * ports) v w (omega arith)) (take-append-le (len * ports) (drop (start * ports) v) w (simp length-drop (omega arith)))
+
+  pub run-second : (n start len : ℕ) (v w : List ℕ) → length v ≡ n * ports → runOf ports (n + start) len (v ++ w) ≡ runOf ports start len w
+  unfolding runOf
+  run-second n start len v w e =
+      let f : (n + start) * ports ≡ length v + start * ports = omega arith in
+      rw (f, drop-append-add v w (start * ports))
+
+  module _ (list : List ℕ) where
+    -- beyond the last slot there are no cells
+    pub cells-beyond : (c : Class) (start len : ℕ) (entries : List ℕ) → length entries ≤ start * ports → cells c ports list (runOf ports start len entries) ≡ 0
+    unfolding runOf
+    cells-beyond c start len entries h = rw (drop-of-length-le entries h, take-nil) (cells-none list c)
+
+    -- the cells of a run that is two runs end to end
+    pub cells-run : (c : Class) (start a b : ℕ) (entries : List ℕ) → (start + a) * ports ≤ length entries
+        → cells c ports list (runOf ports start (a + b) entries) ≡ cells c ports list (runOf ports start a entries) + cells c ports list (runOf ports (start + a) b entries)
+    cells-run c start a b entries h =
+        ap (cells c ports list) (run-append start a b entries)
+        ∙ cells-append list c a (runOf ports start a entries) (runOf ports (start + a) b entries) (run-length start a entries h)

@@ -1,0 +1,27 @@
+-- Laws of the definitions, one file for each that they are about.
+pub mod Cases
+pub mod Lists
+pub mod Sums
+pub mod Kept
+pub mod Searches
+pub mod Integers
+pub mod Levels
+pub mod Partners
+pub mod Singles
+pub mod Favouring
+pub mod Walks
+pub mod Shares
+pub mod Settled
+pub mod Groups
+pub mod Ties
+pub mod Splits
+pub mod SamePorts
+pub mod Halves
+pub mod Cells
+pub mod Flows
+pub mod Slots
+pub mod Runs
+pub mod Blocks
+pub mod Legal
+pub mod OneFrame
+pub mod Pairs

@@ -1,0 +1,5 @@
+-- Laws of the definitions, one file for each that they are about.
+pub mod Sheets
+pub mod Responses
+pub mod Lengths
+pub mod Bench

@@ -1,0 +1,3 @@
+-- The sheet and its response.
+pub mod Sheet
+pub mod Responds

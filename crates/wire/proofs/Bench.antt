@@ -1,0 +1,27 @@
+-- The ninth bench load that is marked P, on the wire: its cells, its share and its bound. The seam load is in Tight.
+use mathlib.Core.Path.{_≡_, refl}
+use mathlib.Core.List.{List, [], _∷_}
+use native.Mathlib.Omega.{arith}
+use lib.ListN.{replicate}
+use Rattle.rules.specs.Words.{Near, sumTo}
+use Rattle.rules.specs.Flows.{portOf, countsOf, flow, loadIn}
+use Rattle.rules.specs.Frames.{cells, runOf}
+use Rattle.rules.specs.Schedule.{walk, settleAt, favours, slotOf, frameOf}
+use Rattle.calls.specs.Refusals.{slotsEach}
+use Rattle.calls.specs.Build.{buildChecks}
+use Rattle.wire.specs.Wire.{Carried, none, chain, cellsAt, cellsIn, share, Accurate}
+use Rattle.calls.proofs.Bench.{table7}
+
+-- the sheet's frame, carried twice
+abbrev twice : List Carried
+twice = chain none (replicate 16 77) (record { ports = 4; slots = 4; list = table7; limits = slotsEach 4; times = 2 } ∷ [])
+
+-- the run of flow 5 from slot 4 on over two slots: 2 cells, and a share of 1, which is 4 over 2 ^ k
+pub ninth : (cellsIn (flow 4) twice 3 2 ≡ 2) × (share (flow 4) 0 twice 3 2 ≡ 4)
+unfolding chain cellsAt cellsIn share cells runOf buildChecks sumTo portOf countsOf loadIn walk settleAt favours slotOf frameOf
+ninth = (refl, refl)
+
+-- the bound of that run for k = 2 is 5/3, which is 20 over 3 × 2 ^ k: 24 for the cells is within 20 of 12 for the share
+pub ninth-bound : Accurate 4 2 twice → Near 20 24 12
+unfolding chain cellsAt cellsIn share cells runOf buildChecks sumTo portOf countsOf loadIn walk settleAt favours slotOf frameOf
+ninth-bound a = a 3 2 (omega arith) (flow 4) tt

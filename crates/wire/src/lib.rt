@@ -1,0 +1,1 @@
+// The wire and demand 3: definitions (specs/) and their laws (proofs/), no code.
