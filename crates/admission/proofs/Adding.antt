@@ -13,12 +13,12 @@ use lib.ListN.{length, getD, set, replicate, length-set}
 use lib.Seq.{getD-set-same, getD-set-other}
 use borrow.Author.Tests.{eq-eqb, ne-eqb}
 use Rattle.rules.specs.Words.{if, sumIf, Within}
-use Rattle.rules.specs.Flows.{flows, numberOf, inputs, links, outputOf, portOf, countsOf, Class, input, output, link, isOf, loadIn, load}
+use Rattle.rules.specs.Flows.{flows, numberOf, inputs, links, outputOf, portOf, countsOf, Class, portOn, input, output, link, isOf, loadIn, load}
 use Rattle.rules.proofs.Cases.{byEq}
 use Rattle.rules.proofs.Lists.{zero-at}
 use Rattle.rules.proofs.Sums.{sum-none, sum-more, sum-ext, sum-zero}
 use Rattle.rules.proofs.Flows.{counts-length, counts-at}
-use Rattle.admission.specs.Lists.{Taken}
+use Rattle.admission.specs.Lists.{ListFits}
 use Rattle.admission.specs.Overloads.{valueAt, Given, EveryLoad}
 
 -- the cells of those of the first f flows that are of port or link x of a kind
@@ -75,7 +75,7 @@ kind-end kind size places list sums off a =
     }
 
 -- ---- the ports and the link of a flow of a list that is taken
-module _ {ports : ℕ} {list : List ℕ} (t : Taken ports list) (f : ℕ) (here : f < flows list) where
+module _ {ports : ℕ} {list : List ℕ} (t : ListFits ports list) (f : ℕ) (here : f < flows list) where
   taken-input : portOf list inputs f < ports
   unfolding portOf
   taken-input = let w = t .ported inputs f here in omega arith
@@ -91,8 +91,8 @@ module _ {ports : ℕ} {list : List ℕ} (t : Taken ports list) (f : ℕ) (here 
 pub record Summed (list : List ℕ) (n f : ℕ) (ins outs lines : List ℕ) : Type 0 where
   pub all : n ≡ flows list
   pub most : f ≤ flows list
-  pub of-inputs : Kind-summed input 16 list f ins
-  pub of-outputs : Kind-summed output 16 list f outs
+  pub of-inputs : Kind-summed (portOn input) 16 list f ins
+  pub of-outputs : Kind-summed (portOn output) 16 list f outs
   pub of-links : Kind-summed link 64 list f lines
 
 pub summed-start : {n : ℕ} {list ins outs lines : List ℕ} → n ≡ flows list → ins ≡ replicate 16 0 → outs ≡ replicate 16 0
@@ -101,15 +101,15 @@ summed-start {n} {list} {ins} {outs} {lines} all e d g =
     record {
       all = all;
       most = omega arith;
-      of-inputs = kind-start input 16 list ins (rw e) (λ x. rw e (zero-at 16 x));
-      of-outputs = kind-start output 16 list outs (rw d) (λ x. rw d (zero-at 16 x));
+      of-inputs = kind-start (portOn input) 16 list ins (rw e) (λ x. rw e (zero-at 16 x));
+      of-outputs = kind-start (portOn output) 16 list outs (rw d) (λ x. rw d (zero-at 16 x));
       of-links = kind-start link 64 list lines (rw g) (λ x. rw g (zero-at 64 x));
     }
 
 pub summed-in : {n f : ℕ} {list ins outs lines : List ℕ} → Summed list n f ins outs lines → f < n → f < flows list
 summed-in a h = omega (arith, a .all)
 
-module _ {ports n f : ℕ} {list ins outs lines : List ℕ} (t : Taken ports list) (a : Summed list n f ins outs lines) (here : f < n) where
+module _ {ports n f : ℕ} {list ins outs lines : List ℕ} (t : ListFits ports list) (a : Summed list n f ins outs lines) (here : f < n) where
   pub input-from-one : {x : ℕ} → x ≡ numberOf 0 list f → 1 ≤ x
   input-from-one e = omega (arith, e, t .ported inputs f (summed-in a here) .0)
 
@@ -144,9 +144,9 @@ module _ {ports n f : ℕ} {list ins outs lines : List ℕ} (t : Taken ports lis
         record {
           all = a .all;
           most = omega (arith, a .all);
-          of-inputs = rw e (kind-on input 16 list ins f i cells (a .of-inputs) (λ z. ap (λ w. eqb w z) (sym at))
+          of-inputs = rw e (kind-on (portOn input) 16 list ins f i cells (a .of-inputs) (λ z. ap (λ w. eqb w z) (sym at))
               (input-low ex pi) is small);
-          of-outputs = rw d (kind-on output 16 list outs f (outputOf y) cells (a .of-outputs) (λ z. ap (λ w. eqb (outputOf w) z) (sym py))
+          of-outputs = rw d (kind-on (portOn output) 16 list outs f (outputOf y) cells (a .of-outputs) (λ z. ap (λ w. eqb (outputOf w) z) (sym py))
               (omega arith) is small);
           of-links = rw g (kind-on link 64 list lines f y cells (a .of-links) (λ z. ap (λ w. eqb w z) (sym py)) low is small);
         }
@@ -154,14 +154,14 @@ module _ {ports n f : ℕ} {list ins outs lines : List ℕ} (t : Taken ports lis
         at : i ≡ portOf list inputs f
         at = omega (arith, ex, pi)
 
-pub summed-end : {ports n f : ℕ} {list ins outs lines : List ℕ} → Taken ports list → Summed list n f ins outs lines → n ≤ f
+pub summed-end : {ports n f : ℕ} {list ins outs lines : List ℕ} → ListFits ports list → Summed list n f ins outs lines → n ≤ f
     → EveryLoad ports list ins outs lines
 summed-end {ports} {n} {f} {list} {ins} {outs} {lines} t a h =
     let e : f ≡ flows list = omega (arith, a .most, a .all) in
     record {
-      of-inputs = kind-end input 16 ports list ins
+      of-inputs = kind-end (portOn input) 16 ports list ins
           (λ x g l k. ne-eqb (portOf list inputs g) x (omega (arith, taken-input t g k))) (rw e at (a .of-inputs));
-      of-outputs = kind-end output 16 ports list outs
+      of-outputs = kind-end (portOn output) 16 ports list outs
           (λ x g l k. ne-eqb (outputOf (portOf list links g)) x (omega (arith, taken-link t g k))) (rw e at (a .of-outputs));
       of-links = kind-end link 64 (ports * 4) list lines
           (λ x g l k. ne-eqb (portOf list links g) x (omega (arith, taken-link t g k))) (rw e at (a .of-links));

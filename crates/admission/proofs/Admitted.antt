@@ -7,7 +7,7 @@ use Rattle.calls.specs.declared.Refusal.{Refusal}
 use Rattle.calls.specs.declared.Answer.{Answer}
 use Rattle.calls.specs.declared.Answer.the-variants.{Accepted, Refused}
 use Rattle.calls.proofs.Demand2.{past-load}
-use Rattle.admission.specs.Lists.{ListAnswer, Taken}
+use Rattle.admission.specs.Lists.{ListAnswer, ListFits}
 use Rattle.admission.specs.Overloads.{EveryLoad, decided}
 use Rattle.admission.proofs.Listed.{list-refused, list-well, well-taken}
 use Rattle.admission.proofs.Deciding.{decided-loads}
@@ -17,7 +17,7 @@ module _ {ports slots : ℕ} {list : List ℕ} {a : Answer} (l : ListAnswer port
   unfolding admitted
   admit-refused e limits = list-refused l e (overloads ports slots list limits) accepted
 
-  pub admit-taken : a ≡ Accepted → Taken ports list
+  pub admit-taken : a ≡ Accepted → ListFits ports list
   admit-taken e = well-taken (list-well l e)
 
   pub admit-decided : a ≡ Accepted → {ins outs lines : List ℕ} → EveryLoad ports list ins outs lines

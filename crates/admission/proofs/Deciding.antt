@@ -3,11 +3,11 @@ use Prim.Native.Nat.{ℕ, _+_, _%_, _≤_, _<_}
 use mathlib.Core.Path.{_≡_, sym, ap, _∙_}
 use mathlib.Core.List.{List, [], _∷_}
 use Rattle.rules.specs.Words.{if}
-use Rattle.rules.specs.Flows.{outputOf, input, output, link, load}
+use Rattle.rules.specs.Flows.{outputOf, portOn, input, output, link, load}
 use Rattle.calls.specs.Refusals.{Check, report, accepted, lowestAbove, aboveSlots, lowestPast, aboveLimits, overload, overloads}
 use Rattle.calls.proofs.Overloads.{above-found, above-none, above-same, past-found, past-none, past-same}
 use Rattle.calls.proofs.Reports.{report-found, report-on}
-use Rattle.admission.specs.Lists.{Taken}
+use Rattle.admission.specs.Lists.{ListFits}
 use Rattle.admission.specs.Overloads.{valueAt, EveryLoad, decided}
 
 module _ (slots : ℕ) (ins outs lines limits : List ℕ) where
@@ -52,15 +52,15 @@ module _ (slots : ℕ) (ins outs lines limits : List ℕ) where
         none-past l = sym (report-on last [] accepted (past-none 16 limits (valueAt lines) z third l)) ∙ no-output k
 
   -- where the numbers are every load, the answer is that of the loads
-  pub decided-loads : {ports : ℕ} {list : List ℕ} → Taken ports list → EveryLoad ports list ins outs lines
+  pub decided-loads : {ports : ℕ} {list : List ℕ} → ListFits ports list → EveryLoad ports list ins outs lines
       → decided slots ins outs lines limits ≡ report (overloads ports slots list limits) accepted
   decided-loads {ports} {list} t e =
-      let five = overload 5 input ports slots list in
-      let six = overload 6 output ports slots list in
-      above-same 5 ports 16 slots (λ x. load (input x) list) (valueAt ins) (t .most) (e .of-inputs .each) (e .of-inputs .none)
+      let five = overload 5 (portOn input) ports slots list in
+      let six = overload 6 (portOn output) ports slots list in
+      above-same 5 ports 16 slots (λ x. load (portOn input x) list) (valueAt ins) (t .most) (e .of-inputs .each) (e .of-inputs .none)
       (sixth ∷ last ∷ []) accepted
       ∙ ap (λ (l : List ℕ). if (five .0) (five .1) l)
-      (above-same 6 ports 16 slots (λ x. load (output x) list) (valueAt outs) (t .most) (e .of-outputs .each) (e .of-outputs .none)
+      (above-same 6 ports 16 slots (λ x. load (portOn output x) list) (valueAt outs) (t .most) (e .of-outputs .each) (e .of-outputs .none)
       (last ∷ []) accepted
       ∙ ap (λ (l : List ℕ). if (six .0) (six .1) l)
       (past-same ports 16 limits (λ x. load (link x) list) (valueAt lines) (t .most) (e .of-links .each) (e .of-links .none) [] accepted))

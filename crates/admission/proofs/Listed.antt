@@ -11,7 +11,7 @@ use Rattle.calls.specs.declared.Answer.the-variants.{Accepted, Refused}
 use Rattle.calls.proofs.Reports.{clear-none, report-stops}
 use Rattle.calls.specs.Demand2.{WellFormed}
 use Rattle.calls.proofs.Demand2.{clear-well}
-use Rattle.admission.specs.Lists.{ListAnswer, Taken}
+use Rattle.admission.specs.Lists.{ListAnswer, ListFits}
 
 module _ {ports slots : ℕ} {list : List ℕ} {a : Answer} (l : ListAnswer ports slots list (answered a)) where
   pub list-refused : {x : Refusal} → a ≡ Refused x → (cs : List Check) (asked : List ℕ) → refusal x ≡ report (listChecks ports slots list ++ cs) asked
@@ -24,5 +24,5 @@ module _ {ports slots : ℕ} {list : List ℕ} {a : Answer} (l : ListAnswer port
       (omega arith, (omega arith, (omega arith, (omega arith, (omega arith, (omega arith, tt))))))
       (ap (λ (l : List ℕ). getD l 0 0) (sym (l .is) ∙ ap answered e)))
 
-pub well-taken : {ports slots : ℕ} {list : List ℕ} → WellFormed ports slots list → Taken ports list
+pub well-taken : {ports slots : ℕ} {list : List ℕ} → WellFormed ports slots list → ListFits ports list
 well-taken w = record { most = w .rack .1; few = w .few; ported = w .ported; linked = w .linked }

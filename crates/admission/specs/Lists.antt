@@ -11,7 +11,7 @@ pub record ListAnswer (ports slots : ℕ) (list answer : List ℕ) : Type 0 wher
   pub is : answer ≡ report (listChecks ports slots list) accepted
 
 -- A list that none of refusals 1, 21, 22 and 23 turns away.
-pub record Taken (ports : ℕ) (list : List ℕ) : Type 0 where
+pub record ListFits (ports : ℕ) (list : List ℕ) : Type 0 where
   pub most : ports ≤ 16
   pub few : flows list ≤ 512
   pub ported : Ported ports list

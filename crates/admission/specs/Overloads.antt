@@ -3,7 +3,7 @@ use Prim.Native.Nat.{ℕ, _*_, _≤_, _<_}
 use mathlib.Core.Path.{_≡_}
 use mathlib.Core.List.{List, [], _∷_}
 use lib.ListN.{length, getD}
-use Rattle.rules.specs.Flows.{input, output, link, load}
+use Rattle.rules.specs.Flows.{portOn, input, output, link, load}
 use Rattle.calls.specs.Refusals.{report, accepted, aboveSlots, aboveLimits}
 
 -- What stands at a place of a list.
@@ -18,8 +18,8 @@ pub record Given (size places : ℕ) (given : ℕ → ℕ) (sums : List ℕ) : T
 
 -- For every input, every output and every link, the number at its place is its load, of no width; at a place of no port it is 0.
 pub record EveryLoad (ports : ℕ) (list ins outs lines : List ℕ) : Type 0 where
-  pub of-inputs : Given 16 ports (λ i. load (input i) list) ins
-  pub of-outputs : Given 16 ports (λ o. load (output o) list) outs
+  pub of-inputs : Given 16 ports (λ i. load (portOn input i) list) ins
+  pub of-outputs : Given 16 ports (λ o. load (portOn output o) list) outs
   pub of-links : Given 64 (ports * 4) (λ x. load (link x) list) lines
 
 -- The answer of 5, 6 and 24, in their order, from slots, the loads of sixteen inputs, sixteen outputs and their links, and the limits;

@@ -7,8 +7,8 @@ ghost use lib.ListN.{length};
 ghost use Rattle.rules.specs.Words.{within};
 ghost use Rattle.rules.specs.Flows.{flows};
 ghost use Rattle.rules.specs.Frames.{levels};
-ghost use Rattle.calls.specs.Refusals.{portsWithin, bad-flow, bad-link, lowestAbove, lowestPast, answered, admitted};
-ghost use Rattle.admission.specs.Lists.{ListAnswer, Taken};
+ghost use Rattle.calls.specs.Refusals.{portsWithin, port-outside, link-outside, lowestAbove, lowestPast, answered, admitted};
+ghost use Rattle.admission.specs.Lists.{ListAnswer, ListFits};
 ghost use Rattle.admission.specs.Overloads.{valueAt, EveryLoad, decided};
 use flows::STRIDE;
 use flows::flows_of;
@@ -76,7 +76,7 @@ fn port_outside(ports: usize, list: &[u16], f: usize) -> bool
 
 // Refusal 22: that is so of some flow.
 fn bad_port(ports: usize, list: &[u16]) -> bool
-    ensures { λ r. ⌜ r ≡ bad-flow ports (now (list .entry)) .0 ⌝ }
+    ensures { λ r. ⌜ r ≡ port-outside ports (now (list .entry)) .0 ⌝ }
 {
     let count = flows_of(list);
     let mut f: usize = 0;
@@ -91,7 +91,7 @@ fn bad_port(ports: usize, list: &[u16]) -> bool
 
 // Refusal 23: the link of some flow is not one of 1, 2, 3, 4.
 fn bad_link(list: &[u16]) -> bool
-    ensures { λ r. ⌜ r ≡ bad-link (now (list .entry)) .0 ⌝ }
+    ensures { λ r. ⌜ r ≡ link-outside (now (list .entry)) .0 ⌝ }
 {
     let count = flows_of(list);
     let mut f: usize = 0;
@@ -138,7 +138,7 @@ pub struct Loads {
 
 // Every port's and every link's load, in one pass over the list.
 pub fn loads_of(ports: usize, list: &[u16]) -> Loads
-    requires { ⌜ Taken ports (now list) ⌝ }
+    requires { ⌜ ListFits ports (now list) ⌝ }
     ensures { λ r. ⌜ EveryLoad ports (now (list .entry)) (r .inputs) (r .outputs) (r .links) ⌝ }
 {
     let mut loads = Loads {

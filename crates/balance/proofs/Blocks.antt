@@ -12,14 +12,14 @@ use mir.Syntax.{w64}
 use mir.Val.{Fits}
 use borrow.Author.Tests.{lt-ltb, le-ltb, lt-leb, le-leb, not-true, not-false}
 use Rattle.rules.specs.Words.{first, near}
-use Rattle.rules.specs.Flows.{flows, Class, flow, input, output, link, total}
+use Rattle.rules.specs.Flows.{flows, Class, flow, portOn, input, output, link, total}
 use Rattle.rules.specs.Frames.{runOf, levels}
 use Rattle.calls.specs.Refusals.{report}
 use Rattle.calls.specs.Inspect.{unbalanced, unbalancedNumber, firstAt, unbalancedAt, unbalancedBlock}
 use Rattle.rules.proofs.Searches.{Passed, passed-start, passed-on, passed-found, passed-done, first-low, first-found, first-before}
 use Rattle.rules.proofs.Levels.{levels-power, depth-half, depth-fill, double}
-use Rattle.calls.proofs.Inspected.{In, nearFor, unbalanced-yes, unbalanced-no}
-use Rattle.tally.specs.Tally.{place, Readable, tallyOf}
+use Rattle.calls.proofs.Inspected.{InList, nearFor, unbalanced-yes, unbalanced-no}
+use Rattle.tally.specs.Tally.{place, RightFrame, tallyOf}
 use Rattle.tally.proofs.Tallies.{tally-class}
 use Rattle.balance.specs.Balance.{far}
 
@@ -45,7 +45,7 @@ module _ (a b : List ℕ) (from count x u v : ℕ) (r : Bool) where
   far-found p h e f g k = passed-found p h (rw (sym e, sym f) (sym g ∙ k))
 
 -- ---- blocks
-module _ (ports slots half count b : ℕ) (list frame : List ℕ) (r : Readable ports slots list frame) (room : count * (2 * half) ≤ slots) (l : b < count) where
+module _ (ports slots half count b : ℕ) (list frame : List ℕ) (r : RightFrame ports slots list frame) (room : count * (2 * half) ≤ slots) (l : b < count) where
   pub block-ends : b * (2 * half) + half + half ≤ slots
   block-ends = let k = mul-le-mul-right {m = suc b} {n = count} (2 * half) l in omega arith
 
@@ -67,13 +67,13 @@ module _ (ports half count b : ℕ) (list frame : List ℕ) (u : Bool) where
   number-found p h e f = passed-found p (omega arith) (sym e ∙ f)
 
 -- ---- one block: where the tallies of its halves are apart, its classes are
-module _ (ports slots start half : ℕ) (list frame a b : List ℕ) (r : Readable ports slots list frame) (ya : a ≡ tallyOf ports list (runOf ports start half frame))
+module _ (ports slots start half : ℕ) (list frame a b : List ℕ) (r : RightFrame ports slots list frame) (ya : a ≡ tallyOf ports list (runOf ports start half frame))
     (yb : b ≡ tallyOf ports list (runOf ports (start + half) half frame)) where
-  far-class : (c : Class) → In ports list c → far a b (place c) ≡ not (nearFor ports list frame start half c)
+  far-class : (c : Class) → InList ports list c → far a b (place c) ≡ not (nearFor ports list frame start half c)
   unfolding far
   far-class c of = rw (tally-class ports list (runOf ports start half frame) a (r .switch) ya c of, tally-class ports list (runOf ports (start + half) half frame) b (r .switch) yb c of)
 
-  class-far : (c : Class) → In ports list c → far a b (place c) ≡ true → true ≡ unbalanced ports list frame start half
+  class-far : (c : Class) → InList ports list c → far a b (place c) ≡ true → true ≡ unbalanced ports list frame start half
   class-far c of e = sym (unbalanced-yes ports list frame start half c of (not-true _ (sym (far-class c of) ∙ e)))
 
   pub flow-far : (n x : ℕ) → n ≡ flows list → x ≡ first (far a b) 0 n → x < n → true ≡ unbalanced ports list frame start half
@@ -85,7 +85,7 @@ module _ (ports slots start half : ℕ) (list frame a b : List ℕ) (r : Readabl
       let l = first-low (far a b) ports 512 in
       let i = x - 512 in
       let d : 512 + i ≡ x = omega arith in
-      class-far (input i) (omega arith) (ap (far a b) (d ∙ e) ∙ f)
+      class-far (portOn input i) (omega arith) (ap (far a b) (d ∙ e) ∙ f)
 
   pub output-far : (x : ℕ) → x ≡ first (far a b) 528 ports → x < 528 + ports → true ≡ unbalanced ports list frame start half
   output-far x e h =
@@ -93,7 +93,7 @@ module _ (ports slots start half : ℕ) (list frame a b : List ℕ) (r : Readabl
       let l = first-low (far a b) ports 528 in
       let i = x - 528 in
       let d : 528 + i ≡ x = omega arith in
-      class-far (output i) (omega arith) (ap (far a b) (d ∙ e) ∙ f)
+      class-far (portOn output i) (omega arith) (ap (far a b) (d ∙ e) ∙ f)
 
   pub link-far : (x : ℕ) → x ≡ first (far a b) 544 (ports * 4) → x < 544 + ports * 4 → true ≡ unbalanced ports list frame start half
   link-far x e h =
@@ -117,17 +117,17 @@ module _ (ports slots start half : ℕ) (list frame a b : List ℕ) (r : Readabl
   none-far n x y z w t d ex ey ez ew et hx hy hz hw ht =
       sym (unbalanced-no ports list frame start half (λ c of. not-false _ (sym (far-class c of) ∙ near-at c of)))
     where
-      near-at : (c : Class) → In ports list c → far a b (place c) ≡ false
+      near-at : (c : Class) → InList ports list c → far a b (place c) ≡ false
       near-at (flow f) of = first-before (far a b) n 0 f (omega arith) (omega arith)
-      near-at (input i) of = first-before (far a b) ports 512 (512 + i) (omega arith) (omega arith)
-      near-at (output o) of = first-before (far a b) ports 528 (528 + o) (omega arith) (omega arith)
+      near-at (portOn input i) of = first-before (far a b) ports 512 (512 + i) (omega arith) (omega arith)
+      near-at (portOn output o) of = first-before (far a b) ports 528 (528 + o) (omega arith) (omega arith)
       near-at (link k) of = first-before (far a b) (ports * 4) 544 (544 + k) (omega arith) (omega arith)
       near-at total of = first-before (far a b) 1 608 608 (omega arith) (omega arith)
 
-pub count-most : {ports slots n : ℕ} {list frame : List ℕ} → Readable ports slots list frame → n ≡ flows list → 0 + n ≤ 609
+pub count-most : {ports slots n : ℕ} {list frame : List ℕ} → RightFrame ports slots list frame → n ≡ flows list → 0 + n ≤ 609
 count-most r e = omega (arith, r .switch .few)
 
-module _ {ports slots : ℕ} {list frame : List ℕ} (r : Readable ports slots list frame) where
+module _ {ports slots : ℕ} {list frame : List ℕ} (r : RightFrame ports slots list frame) where
   pub links-most : 544 + ports * 4 ≤ 609
   links-most = omega (arith, r .switch .high)
 

@@ -8,7 +8,7 @@ ghost use Rattle.rules.specs.Frames.{levels};
 ghost use Rattle.calls.specs.Refusals.{report};
 ghost use mathlib.Core.List.{[], _∷_};
 ghost use Rattle.calls.specs.Inspect.{finding, unbalanced, unbalancedNumber, unbalancedBlock};
-ghost use Rattle.tally.specs.Tally.{Readable};
+ghost use Rattle.tally.specs.Tally.{RightFrame};
 ghost use Rattle.balance.specs.Balance.{far};
 use flows::flows_of;
 use calls::Inspection;
@@ -53,7 +53,7 @@ fn unbalanced_at(
     start: usize,
     half: usize,
 ) -> bool
-    requires { ⌜ Readable ports slots (now list) (now frame) × (start + half + half ≤ slots) ⌝ }
+    requires { ⌜ RightFrame ports slots (now list) (now frame) × (start + half + half ≤ slots) ⌝ }
     ensures { λ r. ⌜ r ≡ unbalanced ports (now (list .entry)) (now (frame .entry)) start half ⌝ }
 {
     let mut front = [0u16; 609];
@@ -88,7 +88,7 @@ fn first_unbalanced(
     half: usize,
     count: usize,
 ) -> usize
-    requires { ⌜ Readable ports slots (now list) (now frame) × (count * (2 * half) ≤ slots) ⌝ }
+    requires { ⌜ RightFrame ports slots (now list) (now frame) × (count * (2 * half) ≤ slots) ⌝ }
     ensures { λ r. ⌜ r ≡ first (unbalancedNumber ports (now (list .entry)) (now (frame .entry)) half) 0 count ⌝ }
 {
     let mut b: usize = 0;
@@ -109,7 +109,7 @@ pub fn unbalanced_block(
     list: &[u16],
     frame: &[u16],
 ) -> Inspection
-    requires { ⌜ Readable ports slots (now list) (now frame) × (depths ≡ levels slots) × (depths < 11) ⌝ }
+    requires { ⌜ RightFrame ports slots (now list) (now frame) × (depths ≡ levels slots) × (depths < 11) ⌝ }
     ensures { λ r. ⌜ finding r ≡ report (unbalancedBlock ports slots (now (list .entry)) (now (frame .entry)) ∷ []) (0 ∷ []) ⌝ }
 {
     let mut depth: usize = 0;

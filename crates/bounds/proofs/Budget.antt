@@ -12,12 +12,12 @@ use lib.Pow.{pow-pos}
 use lib.ListN.{length, getD, replicate, length-replicate, getD-replicate}
 use borrow.Author.Tests.{eq-eqb, ne-eqb}
 use Rattle.rules.specs.Words.{if, bit, sumTo, sumIf}
-use Rattle.rules.specs.Flows.{stride, flows, Side, inputs, links, outputOf, portOf, countsOf, flow, input, output, total, loadIn, load, Fits}
+use Rattle.rules.specs.Flows.{stride, flows, End, inputs, links, outputOf, portOf, countsOf, flow, portOn, input, output, total, loadIn, load, Fits}
 use Rattle.rules.specs.Frames.{counts, cells, Power}
 use Rattle.calls.specs.Refusals.{slotsEach}
 use Rattle.rules.specs.OddShares.{oddShares, settled}
 use Rattle.calls.specs.Work.{oddFlows, blockOf, work}
-use Rattle.calls.specs.Build.{buildAccepts, left}
+use Rattle.calls.specs.Build.{buildAccepts, frameAfter}
 use Rattle.bounds.specs.Budget.{WorkMost, WorkByDepth, ones, WorkReached}
 use Rattle.rules.proofs.Cases.{byEq, byLt, is-yes, is-no}
 use Rattle.rules.proofs.Sums.{sum-none, sum-more, sum-ext, sum-le, sum-most, sum-zero, sum-one, sum-swap, sum-rows, sum-times, sum-ones}
@@ -54,7 +54,7 @@ unfolding oddShares
 shares-one zero = refl
 shares-one (suc k) = omega (arith, shares-none k, shares-one k)
 
-settled-most : (port : Side → ℕ → ℕ) (k : ℕ) (m : List ℕ) → settled k m ≤ k * loadIn total port m
+settled-most : (port : End → ℕ → ℕ) (k : ℕ) (m : List ℕ) → settled k m ≤ k * loadIn total port m
 unfolding loadIn settled
 settled-most port k m =
     let each = sum-le (length m) (λ p. oddShares k (getD m p 0)) (λ p. k * getD m p 0) (λ p h. shares-most k (getD m p 0)) in
@@ -63,7 +63,7 @@ settled-most port k m =
 -- No load that Build accepts settles more than k for each of its cells.
 pub work-cells : (ports slots : ℕ) (list limits buffer : List ℕ)
     → buildAccepts ports slots list limits buffer ≡ true → (k : ℕ) → slots ≡ 2 ^ k
-    → work ports slots list (left ports slots list limits buffer) ≤ k * load total list
+    → work ports slots list (frameAfter ports slots list limits buffer) ≤ k * load total list
 work-cells ports slots list limits buffer e k power =
     let a = accepts-is ports slots list limits buffer e in
     rw (work-built ports slots list limits buffer e, level-is (a .well .power) power) (settled-most (portOf list) k (countsOf list))
@@ -113,7 +113,7 @@ frame-most ports slots k list entries p power size =
 
 pub work-by-depth : WorkByDepth
 work-by-depth ports slots list limits buffer e k power =
-    frame-most ports slots k list (left ports slots list limits buffer) (accepts-is ports slots list limits buffer e .well .power) power
+    frame-most ports slots k list (frameAfter ports slots list limits buffer) (accepts-is ports slots list limits buffer e .well .power) power
     (build-sound ports slots list limits buffer e .0 .size)
 
 -- Nor more than ports × slots × k.
@@ -126,7 +126,7 @@ work-most ports slots list limits buffer e k power =
 -- Where no flow has more than one cell, each cell settles k.
 pub work-single : (ports slots : ℕ) (list limits buffer : List ℕ)
     → buildAccepts ports slots list limits buffer ≡ true → (k : ℕ) → slots ≡ 2 ^ k
-    → ((f : ℕ) → getD (countsOf list) f 0 ≤ 1) → work ports slots list (left ports slots list limits buffer) ≡ k * load total list
+    → ((f : ℕ) → getD (countsOf list) f 0 ≤ 1) → work ports slots list (frameAfter ports slots list limits buffer) ≡ k * load total list
 unfolding loadIn settled
 work-single ports slots list limits buffer e k power low =
     let a = accepts-is ports slots list limits buffer e in
@@ -183,7 +183,7 @@ module _ (k : ℕ) (low : k ≤ 4) where
       omega (arith, sum-rows n n (λ p. if (eqb (p % n) x) (getD each p 0) 0))
 
   -- the list has the same ports
-  input-load : (x : ℕ) → x < n → loadIn (input x) (portOf (ones k)) each ≤ n
+  input-load : (x : ℕ) → x < n → loadIn (portOn input x) (portOf (ones k)) each ≤ n
   unfolding loadIn
   input-load x h =
       rw size
@@ -194,7 +194,7 @@ module _ (k : ℕ) (low : k ≤ 4) where
             (λ p l. ap (λ z. if (eqb z x) (getD each p 0) 0) (order-input n each p (omega (arith, size)))),
       ))
 
-  output-load : (x : ℕ) → loadIn (output x) (portOf (ones k)) each ≤ n
+  output-load : (x : ℕ) → loadIn (portOn output x) (portOf (ones k)) each ≤ n
   unfolding loadIn
   output-load x =
       rw size

@@ -4,7 +4,7 @@ use mathlib.Core.Path.{_≡_}
 use mathlib.Core.List.{List, [], _∷_}
 use lib.ListN.{length}
 use Rattle.rules.specs.Words.{Every}
-use Rattle.rules.specs.Flows.{Class, Of}
+use Rattle.rules.specs.Flows.{Class, OnSwitch}
 use Rattle.calls.specs.Inspect.{inspected}
 use Rattle.wire.specs.Wire.{Carried, share, Shape, Accurate}
 use Rattle.bounds.specs.Sharp.{SharpOn}
@@ -39,7 +39,7 @@ pub clean-accurate : (ports k : ℕ) (frames : List Carried) → Every Inspected
 clean-accurate ports k frames clean shape = sound-accurate ports k frames (all-sound frames clean) shape
 
 -- and hold a flow that keeps to its share;
-pub clean-held : (ports k : ℕ) (frames : List Carried) → Every Inspected frames → Every (Shape ports (2 ^ k)) frames → (c : Class) → Of ports c
+pub clean-held : (ports k : ℕ) (frames : List Carried) → Every Inspected frames → Every (Shape ports (2 ^ k)) frames → (c : Class) → OnSwitch ports c
     → HeldOn c k frames (share c 0 frames)
 clean-held ports k frames clean shape c of = sound-held ports k frames (all-sound frames clean) shape c of
 
@@ -57,7 +57,7 @@ pub clean-paced : (ports k : ℕ) (frames : List Carried) → Every Inspected fr
 clean-paced ports k frames clean shape = sound-paced ports k frames (all-sound frames clean) shape
 
 -- one of them that repeats for ever has the leads of a built frame.
-pub clean-lead : (f : Carried) → Inspected f → (k : ℕ) → f .call .slots ≡ 2 ^ k → (c : Class) → Of (f .call .ports) c → (start len : ℕ)
+pub clean-lead : (f : Carried) → Inspected f → (k : ℕ) → f .call .slots ≡ 2 ^ k → (c : Class) → OnSwitch (f .call .ports) c → (start len : ℕ)
     → Led c (f .call .ports) (f .call .slots) k (f .call .list) (f .entries) start len
 clean-lead f h k power c of =
     let s = clean-sound (f .call .ports) (f .call .slots) (f .call .list) (f .entries) (h .well) (h .size) (h .clean) in

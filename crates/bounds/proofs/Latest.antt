@@ -9,7 +9,7 @@ use lib.ListN.{length}
 use Rattle.rules.specs.Words.{Every}
 use Rattle.wire.specs.Wire.{Carried, none, chain, cellsIn, Shape}
 use Rattle.wire.specs.Deviation.{deviation}
-use Rattle.bounds.specs.Wait.{HasAtLeast, byDemand3, bySharp, longest}
+use Rattle.bounds.specs.Wait.{HasAtLeast, byDemand3, bySharp, leastEnough}
 use Rattle.rules.proofs.Levels.{double}
 use Rattle.bounds.proofs.OneInput.{second, row-whole, row-parts, rows-framed}
 use Rattle.bounds.proofs.Reached.{count, edge, count-less, Leans, others, first-of, last-of, first-leans, last-leans, seam, seam-shape, over-cells, frames-short, aloneCall, behindCall}
@@ -103,7 +103,7 @@ seam-has k m h = (omega (arith, row-whole 0 m k 0 m (omega arith)), (omega (arit
 
 -- the run that is short by all of the bound is one slot shorter than the longest wait for one cell more than it has
 frames-wait : (k gap : ℕ) → 1 ≤ k → bySharp k ≤ gap → gap ≤ byDemand3 k
-    → (w : ℕ) × (1 ≤ w) × Fewer k (count k) w (edge k) (longest gap k (count k) w - 1) (seam k (count k) 0 (others k (count k)))
+    → (w : ℕ) × (1 ≤ w) × Fewer k (count k) w (edge k) (leastEnough gap k (count k) w - 1) (seam k (count k) 0 (others k (count k)))
 frames-wait k gap h low high =
     let m = count k in
     let rest = 2 ^ k - edge k in
@@ -115,7 +115,7 @@ frames-wait k gap h low high =
     let near = near-count k h in
     let before : 3 * 2 ^ k * (suc n - 1) ≡ 3 * 2 ^ k * n = ap (λ z. 3 * 2 ^ k * z) (omega arith) in
     let same : (gap + 3 * 2 ^ k * (suc n - 1)) / (3 * m) ≡ len = div-eq-of-lt-le (3 * m) (omega (arith, short .1)) (omega (arith, short .1)) in
-    let is : longest gap k m (suc n) - 1 ≡ len = omega arith in
+    let is : leastEnough gap k m (suc n) - 1 ≡ len = omega arith in
     let small = count-less k in (
       suc n,
       omega arith,
@@ -153,7 +153,7 @@ frames-head i d h =
 -- flow, and a run over their seam that is one slot shorter and has fewer than w.
 pub wait-reached : (k : ℕ) → 1 ≤ k → k ≤ 10 → (buffer : List ℕ) → length buffer ≡ 2 ^ k * 2 → (gap : ℕ) → bySharp k ≤ gap → gap ≤ byDemand3 k
     → let m = count k in
-    (w : ℕ) × (1 ≤ w) × Fewer k m w (edge k) (longest gap k m w - 1) (chain none buffer (aloneCall k m ∷ behindCall k m ∷ []))
+    (w : ℕ) × (1 ≤ w) × Fewer k m w (edge k) (leastEnough gap k m w - 1) (chain none buffer (aloneCall k m ∷ behindCall k m ∷ []))
 wait-reached k least h buffer e gap low high =
     let small = count-less k in
     rw (rows-framed k 0 (count k) (2 ^ k - count k) (count k) buffer h (omega arith) (omega arith) e) (frames-wait k gap least low high)

@@ -9,10 +9,10 @@ use lib.IntN.{pos, _-ℤ_, natAbs}
 use lib.ListN.{length}
 use lib.Pow.{pow-pos}
 use Rattle.rules.specs.Words.{Near}
-use Rattle.rules.specs.Flows.{Class, Of, load}
+use Rattle.rules.specs.Flows.{Class, OnSwitch, load}
 use Rattle.rules.specs.Frames.{cells, runOf, Legal, Balanced, repeated}
-use Rattle.calls.specs.Refusals.{clear}
-use Rattle.calls.specs.Build.{left}
+use Rattle.calls.specs.Refusals.{none-holds}
+use Rattle.calls.specs.Build.{frameAfter}
 use Rattle.calls.specs.Service.{classOf, lead, countChecks, service}
 use Rattle.wire.specs.Deviation.{deviation}
 use Rattle.bounds.specs.Lead.{Led, BuiltLead, AnsweredLead}
@@ -35,7 +35,7 @@ lead-turns c ports slots list entries size h start w =
 
 -- ---- of a legal and balanced frame
 module _ {ports slots : ℕ} {list entries : List ℕ} (legal : Legal ports slots list entries) (balanced : Balanced ports slots list entries) (c : Class)
-    (of : Of ports c) (k : ℕ) (power : slots ≡ 2 ^ k) where
+    (of : OnSwitch ports c) (k : ℕ) (power : slots ≡ 2 ^ k) where
   abbrev m : ℕ
   m = load c list
 
@@ -106,8 +106,8 @@ built-lead ports slots list limits buffer e k power c of =
 pub answered-lead : AnsweredLead
 unfolding service
 answered-lead ports slots list limits buffer e k power who start len =
-    let entries = left ports slots list limits buffer in
-    byBool (clear (countChecks ports slots list entries who start len))
+    let entries = frameAfter ports slots list limits buffer in
+    byBool (none-holds (countChecks ports slots list entries who start len))
     (λ c. let of = who-of ports list who (clear-who ports slots list entries who start len c) in
     rw c (built-lead ports slots list limits buffer e k power (classOf who) of (start - 1) len .near))
     (λ c. rw c (omega arith))

@@ -10,7 +10,7 @@ use native.Mathlib.Nat.{add-zero, zero-add}
 use lib.Dec.{eqb}
 use lib.ListN.{length, getD, replicate, length-append}
 use Rattle.rules.specs.Words.{if, both, sumTo, upFrom}
-use Rattle.rules.specs.Flows.{Side, inputs, links, portOf, countsOf, Class, flow, link, isOf, loadIn, Fits}
+use Rattle.rules.specs.Flows.{End, inputs, links, portOf, countsOf, Class, flow, link, isOf, loadIn, Fits}
 use Rattle.rules.specs.Frames.{cells, runOf}
 use Rattle.calls.specs.Refusals.{slotsEach}
 use Rattle.rules.specs.Rules.{odd}
@@ -22,7 +22,7 @@ use Rattle.rules.proofs.Levels.{levels-of}
 use Rattle.rules.proofs.Walks.{walk-on, walk-off}
 use Rattle.rules.proofs.Cells.{cells-run, run-first, run-second, run-all}
 use Rattle.rules.proofs.OneFrame.{frame-is, frame-length, rules-sound}
-use Rattle.rules.proofs.Slots.{Placed}
+use Rattle.rules.proofs.Slots.{AtInputs}
 use Rattle.calls.specs.Demand2.{Ported, Linked}
 use Rattle.calls.proofs.Overloads.{each-allows}
 use Rattle.calls.proofs.Demand2.{accepts-yes}
@@ -75,7 +75,7 @@ full-settled i o d c e f g h k =
 
 -- over the ports of a list of such flows, whatever their cells
 module _ (D C : ℕ) where
-  abbrev pub port : Side → ℕ → ℕ
+  abbrev pub port : End → ℕ → ℕ
   port = portOf (listed D C)
 
   -- an odd count alone favours the first half
@@ -130,7 +130,7 @@ module _ (D C : ℕ) where
       let most : (f m : ℕ) → has f m ≤ m = λ f m. byBool (isOf (link x) port f) (λ e. rw e (omega arith)) (λ e. rw e (omega arith)) in
       omega (arith, most 0 d, most 1 c)
 
-  pub row-placed : Placed 2 port 2
+  pub row-placed : AtInputs 2 port 2
   unfolding portOf
   row-placed zero h = omega arith
   row-placed (suc zero) h = omega arith

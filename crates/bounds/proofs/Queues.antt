@@ -9,7 +9,7 @@ use lib.IntN.{pos, negℤ}
 use lib.ListN.{length}
 use lib.Signed.{_≤ℤ_}
 use Rattle.rules.specs.Words.{sumTo, Every}
-use Rattle.rules.specs.Flows.{Class, Of, load}
+use Rattle.rules.specs.Flows.{Class, OnSwitch, load}
 use Rattle.rules.specs.Frames.{cells, repeated}
 use Rattle.calls.specs.Service.{lead}
 use Rattle.wire.specs.Wire.{Carried, none, chain, cellsAt, cellsIn, inside, share, Shape}
@@ -18,7 +18,7 @@ use Rattle.bounds.specs.Queue.{waiting, arrived, Paced, HeldOn, Buffers,
 use Rattle.rules.proofs.Sums.{sum-ext, sum-append}
 use Rattle.rules.proofs.Runs.{cells-repeated, cells-once}
 use Rattle.rules.proofs.Integers.{minus-least}
-use Rattle.wire.proofs.Demand3.{Sound, Good, good-of, share-split, chain-sound}
+use Rattle.wire.proofs.Demand3.{Sound, SoundFrame, good-of, share-split, chain-sound}
 use Rattle.bounds.proofs.Sharp.{run-sharp}
 
 -- ---- the run since the queue was last empty: what waits now arrived in it and has not left
@@ -126,7 +126,7 @@ unfolding arrived cellsIn
 served c fs start len = refl
 
 -- ---- every slot of a chain of sound frames
-module _ (c : Class) (ports k : ℕ) (of : Of ports c) (fs : List Carried) (good : Every (Good ports (2 ^ k)) fs) where
+module _ (c : Class) (ports k : ℕ) (of : OnSwitch ports c) (fs : List Carried) (good : Every (SoundFrame ports (2 ^ k)) fs) where
   -- what has been scheduled since the queue was last empty, and the share of that run
   module _ (a : ℕ) (arrive : ℕ → ℕ) (paced : Paced k a (length fs * 2 ^ k) (share c 0 fs) arrive) (t : ℕ) (s : Since arrive (cellsAt c fs) t) where
     after : t ≤ length fs * 2 ^ k → 2 ^ k * waiting arrive (cellsAt c fs) t ≤ a + 2 * deviation k
@@ -165,12 +165,12 @@ module _ (c : Class) (ports k : ℕ) (of : Of ports c) (fs : List Carried) (good
       record { after = omega (arith, after a arrive paced (suc t) (s (suc t)) (omega arith)); before = omega (arith, before a arrive paced t (s t) h) }
 
 -- Frames that are legal and balanced, whoever made them, hold a flow that keeps to its share,
-pub sound-held : (ports k : ℕ) (fs : List Carried) → Every Sound fs → Every (Shape ports (2 ^ k)) fs → (c : Class) → Of ports c
+pub sound-held : (ports k : ℕ) (fs : List Carried) → Every Sound fs → Every (Shape ports (2 ^ k)) fs → (c : Class) → OnSwitch ports c
     → HeldOn c k fs (share c 0 fs)
 sound-held ports k fs sound shape c of = chain-held c ports k of fs (good-of ports (2 ^ k) fs sound shape)
 
 -- and one whose load is the same in each of them.
-pub sound-steady : (ports k : ℕ) (fs : List Carried) → Every Sound fs → Every (Shape ports (2 ^ k)) fs → (c : Class) → Of ports c
+pub sound-steady : (ports k : ℕ) (fs : List Carried) → Every Sound fs → Every (Shape ports (2 ^ k)) fs → (c : Class) → OnSwitch ports c
     → (m : ℕ) → Every (λ f. load c (f .call .list) ≡ m) fs → HeldOn c k fs (λ start len. len * m)
 sound-steady ports k fs sound shape c of m same a arrive paced t h =
     let is = share-is c ports k m fs shape same in

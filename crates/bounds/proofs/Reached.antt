@@ -7,7 +7,7 @@ use mathlib.Core.List.{List, [], _∷_, _++_}
 use native.Mathlib.Omega.{arith}
 use lib.ListN.{length, getD, replicate, length-replicate}
 use Rattle.rules.specs.Words.{sumTo, Near, Every}
-use Rattle.rules.specs.Flows.{portOf, countsOf, Class, Of, load}
+use Rattle.rules.specs.Flows.{portOf, countsOf, Class, OnSwitch, load}
 use Rattle.rules.specs.Frames.{cells, runOf}
 use Rattle.rules.specs.Schedule.{slotOf, frameOf}
 use Rattle.wire.specs.Wire.{Call, Carried, none, chain, cellsIn, inside, share, Shape}
@@ -266,7 +266,7 @@ reached-above k h buffer e =
 -- So whatever bound holds of every list of Build calls is at least 2 × deviation k.
 pub none-sharper : (k bound : ℕ) → k ≤ 10
     → ((buffer : List ℕ) (calls : List Call) → let frames = chain none buffer calls in Every (Shape 2 (2 ^ k)) frames
-    → (start len : ℕ) → start + len ≤ length frames * 2 ^ k → (c : Class) → Of 2 c
+    → (start len : ℕ) → start + len ≤ length frames * 2 ^ k → (c : Class) → OnSwitch 2 c
     → Near bound (2 ^ k * cellsIn c frames start len) (share c 0 frames start len))
     → 2 * deviation k ≤ bound
 none-sharper k bound h all =

@@ -8,14 +8,14 @@ use lib.Dec.{ltb}
 use lib.ListN.{length}
 use borrow.Author.Tests.{le-ltb, lt-ltb}
 use Rattle.rules.specs.Words.{if, sumTo, Every}
-use Rattle.rules.specs.Flows.{Class, Of}
+use Rattle.rules.specs.Flows.{Class, OnSwitch}
 use Rattle.wire.specs.Wire.{Carried, none, chain, cellsAt, share}
 use Rattle.wire.specs.Deviation.{deviation}
 use Rattle.bounds.specs.Queue.{waiting, arrived, Paced, sent}
 use Rattle.bounds.specs.Row.{Sends, Hop, framesAt, scheduledAt, Reserved, onward, HeldAlong, Row}
 use Rattle.rules.proofs.Cases.{byLt}
 use Rattle.rules.proofs.Sums.{sum-append, sum-le}
-use Rattle.wire.proofs.Demand3.{Good, good-of, at-beyond, chain-sound}
+use Rattle.wire.proofs.Demand3.{SoundFrame, good-of, at-beyond, chain-sound}
 use Rattle.bounds.proofs.Sharp.{run-sharp}
 use Rattle.bounds.proofs.Queues.{served, share-is, sound-steady}
 
@@ -31,7 +31,7 @@ module _ (arrive scheduled : ℕ → ℕ) where
   sent-most start len = sum-le len _ _ (λ t h. omega arith)
 
 -- ---- a chain of sound frames
-module _ (c : Class) (ports k : ℕ) (of : Of ports c) (fs : List Carried) (good : Every (Good ports (2 ^ k)) fs) (arrive : ℕ → ℕ) where
+module _ (c : Class) (ports k : ℕ) (of : OnSwitch ports c) (fs : List Carried) (good : Every (SoundFrame ports (2 ^ k)) fs) (arrive : ℕ → ℕ) where
   abbrev scheduled : ℕ → ℕ
   scheduled = cellsAt c fs
 

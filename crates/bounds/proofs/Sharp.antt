@@ -4,13 +4,13 @@ use mathlib.Core.List.{List}
 use native.Mathlib.Omega.{arith}
 use lib.ListN.{length}
 use Rattle.rules.specs.Words.{Every}
-use Rattle.rules.specs.Flows.{Class, Of}
+use Rattle.rules.specs.Flows.{Class, OnSwitch}
 use Rattle.wire.specs.Wire.{Carried, none, chain, Shape}
 use Rattle.wire.specs.Deviation.{deviation}
 use Rattle.bounds.specs.Sharp.{SharpRun, SharpOn, Sharp}
-use Rattle.wire.proofs.Demand3.{Sound, Good, good-of, anywhere, at-seam, run-off, chain-sound}
+use Rattle.wire.proofs.Demand3.{Sound, SoundFrame, good-of, anywhere, at-seam, run-off, chain-sound}
 
-module _ (c : Class) (ports k : ℕ) (of : Of ports c) (fs : List Carried) (good : Every (Good ports (2 ^ k)) fs) where
+module _ (c : Class) (ports k : ℕ) (of : OnSwitch ports c) (fs : List Carried) (good : Every (SoundFrame ports (2 ^ k)) fs) where
   pub run-sharp : (start len : ℕ) → start + len ≤ length fs * 2 ^ k → SharpRun c k fs start len
   run-sharp start len fits =
       let one = anywhere c ports k of fs good start (omega arith) in

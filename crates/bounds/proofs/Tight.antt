@@ -15,7 +15,7 @@ use Rattle.calls.specs.Build.{buildChecks}
 use Rattle.wire.specs.Wire.{Call, Carried, none, chain, cellsAt, cellsIn, share, Shape}
 use Rattle.wire.specs.Deviation.{deviation}
 use Rattle.bounds.specs.Queue.{waiting, queue, arrived, Paced}
-use Rattle.bounds.specs.Wait.{byDemand3, bySharp, longest}
+use Rattle.bounds.specs.Wait.{byDemand3, bySharp, leastEnough}
 use Rattle.bounds.specs.Row.{Hop, scheduledAt, Reserved, onward}
 use Rattle.rules.proofs.Sums.{sum-append}
 use Rattle.bounds.proofs.OneInput.{listed, second}
@@ -79,7 +79,7 @@ twoAtOnce t = 2 * (1 - t)
 
 -- the other is then at the head of its queue, and is so still after two slots more, which is one fewer than the longest wait
 pub latest : (queue twoAtOnce (cellsAt second seam) 1 ≡ 1 ∷ []) × (queue twoAtOnce (cellsAt second seam) 3 ≡ 1 ∷ [])
-    × (longest (byDemand3 1) 1 1 1 ≡ 3) × (longest (bySharp 1) 1 1 1 ≡ 3)
+    × (leastEnough (byDemand3 1) 1 1 1 ≡ 3) × (leastEnough (bySharp 1) 1 1 1 ≡ 3)
 unfolding queue chain cellsAt cells runOf buildChecks sumTo portOf countsOf loadIn walk settleAt favours slotOf frameOf deviation
 latest = (refl, refl, refl, refl)
 

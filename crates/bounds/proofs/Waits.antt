@@ -7,15 +7,15 @@ use native.Mathlib.Nat.{mul-le-mul-left, div-lt-iff-lt-mul, lt-mul-div-succ, add
 use native.Mathlib.Omega.{arith}
 use lib.ListN.{length, getD, drop}
 use Rattle.rules.specs.Words.{upFrom, sumTo, Every}
-use Rattle.rules.specs.Flows.{Class, Of, load}
+use Rattle.rules.specs.Flows.{Class, OnSwitch, load}
 use Rattle.wire.specs.Wire.{Carried, none, chain, cellsAt, cellsIn, share, Shape}
 use Rattle.bounds.specs.Queue.{waiting, queue, arrived, sent}
-use Rattle.bounds.specs.Wait.{HasAtLeast, byDemand3, bySharp, Leaves, Suffices, WaitsOn, LongestWait, longest, Least, LeastWait, PacedOn, PacedWait}
+use Rattle.bounds.specs.Wait.{HasAtLeast, byDemand3, bySharp, Leaves, Suffices, WaitsOn, LongestWait, leastEnough, Least, LeastWait, PacedOn, PacedWait}
 use Rattle.rules.proofs.Cases.{byLt}
 use Rattle.rules.proofs.Sums.{sum-append}
 use Rattle.rules.proofs.Legal.{legal-exact}
 use Rattle.wire.proofs.Accuracy.{deviation-most}
-use Rattle.wire.proofs.Demand3.{Sound, Good, good-of, chain-sound}
+use Rattle.wire.proofs.Demand3.{Sound, SoundFrame, good-of, chain-sound}
 use Rattle.bounds.proofs.Sharp.{run-sharp}
 use Rattle.bounds.proofs.Queues.{since, share-least, share-more, arrived-append, served}
 use Rattle.bounds.proofs.Rows.{kept}
@@ -102,7 +102,7 @@ module _ (arrive scheduled : ℕ → ℕ) where
 
 -- ---- lengths
 -- the least length that is long enough
-pub longest-least : (gap k m w : ℕ) → 1 ≤ m → Least gap k m w (longest gap k m w)
+pub longest-least : (gap k m w : ℕ) → 1 ≤ m → Least gap k m w (leastEnough gap k m w)
 longest-least gap k m w h =
     let a = gap + 3 * 2 ^ k * (w - 1) in
     record {
@@ -110,19 +110,19 @@ longest-least gap k m w h =
       none-less = λ other e. omega (arith, div-lt-iff-lt-mul {k = 3 * m} {x = a} {y = other} (omega arith) .1 (omega (arith, e)));
     }
 
-pub longest-only : (gap k m w len : ℕ) → 1 ≤ m → Least gap k m w len → len ≡ longest gap k m w
+pub longest-only : (gap k m w len : ℕ) → 1 ≤ m → Least gap k m w len → len ≡ leastEnough gap k m w
 longest-only gap k m w len h l =
     let is = longest-least gap k m w h in
-    omega (arith, l .none-less (longest gap k m w) (is .enough), is .none-less len (l .enough))
+    omega (arith, l .none-less (leastEnough gap k m w) (is .enough), is .none-less len (l .enough))
 
 -- in sound frames a class has what is reserved for it
-module _ (c : Class) (ports k : ℕ) (of : Of ports c) where
-  reserved : (m : ℕ) (fs : List Carried) → Every (Good ports (2 ^ k)) fs → HasAtLeast m c ports fs → Every (λ f. m ≤ load c (f .call .list)) fs
+module _ (c : Class) (ports k : ℕ) (of : OnSwitch ports c) where
+  reserved : (m : ℕ) (fs : List Carried) → Every (SoundFrame ports (2 ^ k)) fs → HasAtLeast m c ports fs → Every (λ f. m ≤ load c (f .call .list)) fs
   reserved m [] good has = tt
   reserved m (f ∷ fs) good has = (omega (arith, has .0, legal-exact (good .0 .legal) c), reserved m fs (good .1) (has .1))
 
   -- where every run has w cells, a cell that was w-th has left after it
-  pub suffices : (fs : List Carried) → Every (Good ports (2 ^ k)) fs → (w len : ℕ) → 1 ≤ w
+  pub suffices : (fs : List Carried) → Every (SoundFrame ports (2 ^ k)) fs → (w len : ℕ) → 1 ≤ w
       → ((start : ℕ) → start + len ≤ length fs * 2 ^ k → w ≤ cellsIn c fs start len) → Suffices c k fs w len
   suffices fs good w len least runs =
       record { runs = runs; leaves = λ arrive t fits many. leaves-after arrive _ t w many len least (omega (arith, runs t fits, served c fs t len)) }
@@ -131,7 +131,7 @@ module _ (c : Class) (ports k : ℕ) (of : Of ports c) where
 pub sound-waits : (gap ports k : ℕ) → bySharp k ≤ gap → (fs : List Carried) → Every Sound fs → Every (Shape ports (2 ^ k)) fs → WaitsOn gap ports k fs
 sound-waits gap ports k wide fs sound shape c of m w one least has len enough = suffices c ports k of fs good w len least runs
   where
-    good : Every (Good ports (2 ^ k)) fs
+    good : Every (SoundFrame ports (2 ^ k)) fs
     good = good-of ports (2 ^ k) fs sound shape
 
     runs : (start : ℕ) → start + len ≤ length fs * 2 ^ k → w ≤ cellsIn c fs start len
@@ -160,7 +160,7 @@ pub sound-paced : (ports k : ℕ) (fs : List Carried) → Every Sound fs → Eve
 sound-paced ports k fs sound shape c of m has a arrive paced len enough t w fits least many =
     leaves-after arrive scheduled t w many len least (omega (arith, all-sent))
   where
-    good : Every (Good ports (2 ^ k)) fs
+    good : Every (SoundFrame ports (2 ^ k)) fs
     good = good-of ports (2 ^ k) fs sound shape
 
     scheduled : ℕ → ℕ

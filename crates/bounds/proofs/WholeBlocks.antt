@@ -7,18 +7,18 @@ use native.Mathlib.Omega.{arith}
 use lib.Pow.{pow-pos, pow-add}
 use lib.ListN.{length}
 use Rattle.rules.specs.Words.{Every}
-use Rattle.rules.specs.Flows.{Class, Of}
+use Rattle.rules.specs.Flows.{Class, OnSwitch}
 use Rattle.rules.specs.Frames.{cells, runOf, Balanced, Block}
 use Rattle.wire.specs.Wire.{Carried, none, chain, cellsIn, Shape}
 use Rattle.bounds.specs.Wait.{HasAtLeast, BlocksOn, BlockWait}
 use Rattle.rules.proofs.Cases.{byEq, byLt}
 use Rattle.rules.proofs.Cells.{cells-run, run-all}
 use Rattle.rules.proofs.Blocks.{block-fits, number-block}
-use Rattle.wire.proofs.Demand3.{Sound, Good, good-of, in-more, in-first, in-rest, chain-sound}
+use Rattle.wire.proofs.Demand3.{Sound, SoundFrame, good-of, in-more, in-first, in-rest, chain-sound}
 use Rattle.bounds.proofs.Waits.{suffices}
 
 -- ---- a balanced frame
-module _ (c : Class) (ports slots k : ℕ) (of : Of ports c) (list entries : List ℕ) (power : slots ≡ 2 ^ k) (size : length entries ≡ slots * ports)
+module _ (c : Class) (ports slots k : ℕ) (of : OnSwitch ports c) (list entries : List ℕ) (power : slots ≡ 2 ^ k) (size : length entries ≡ slots * ports)
     (balanced : Balanced ports slots list entries) where
   -- both halves of a block that has 2 × x cells have x
   half-least : (x start z : ℕ) → Block slots start (2 * z) → 2 * x ≤ cells c ports list (runOf ports start (2 * z) entries)
@@ -53,13 +53,13 @@ module _ (c : Class) (ports slots k : ℕ) (of : Of ports c) (list entries : Lis
       rw at (halves .1))
 
 -- ---- a chain of sound frames
-module _ (c : Class) (ports k j z : ℕ) (of : Of ports c) (low : j ≤ k) (is : z ≡ 2 ^ (k - j)) where
+module _ (c : Class) (ports k j z : ℕ) (of : OnSwitch ports c) (low : j ≤ k) (is : z ≡ 2 ^ (k - j)) where
   -- a frame is 2 ^ j blocks of z slots
   frame-blocks : 2 ^ k ≡ 2 ^ j * z
   frame-blocks = ap (λ y. 2 ^ y) (omega arith) ∙ pow-add 2 j (k - j) ∙ ap (λ y. 2 ^ j * y) (sym is)
 
   -- each block of z slots has a cell
-  chain-block : (fs : List Carried) → Every (Good ports (2 ^ k)) fs → HasAtLeast (2 ^ j) c ports fs → (b : ℕ) → b < length fs * 2 ^ j
+  chain-block : (fs : List Carried) → Every (SoundFrame ports (2 ^ k)) fs → HasAtLeast (2 ^ j) c ports fs → (b : ℕ) → b < length fs * 2 ^ j
       → 1 ≤ cellsIn c fs (b * z) z
   chain-block [] good has b l = absurd (omega arith)
   chain-block (f ∷ fs) good has b l =
@@ -76,7 +76,7 @@ module _ (c : Class) (ports k j z : ℕ) (of : Of ports c) (low : j ≤ k) (is :
       let at : b * z ≡ 2 ^ k + rest * z = omega (arith, frame-blocks, ap (λ y. y * z) parts) in
       rw (at, in-rest c ports (2 ^ k) f fs (g .shape) (rest * z) z) (chain-block fs (good .1) (has .1) rest (omega arith)))
 
-  module _ (fs : List Carried) (good : Every (Good ports (2 ^ k)) fs) (has : HasAtLeast (2 ^ j) c ports fs) where
+  module _ (fs : List Carried) (good : Every (SoundFrame ports (2 ^ k)) fs) (has : HasAtLeast (2 ^ j) c ports fs) where
     -- so w blocks in a row have w
     blocks-least : (w b : ℕ) → b + w ≤ length fs * 2 ^ j → w ≤ cellsIn c fs (b * z) (w * z)
     blocks-least zero b fits = omega arith

@@ -4,9 +4,9 @@ use mathlib.Core.Path.{_≡_}
 use mathlib.Core.List.{List}
 use mathlib.Core.Bool.{true}
 use lib.IntN.{pos, _-ℤ_, natAbs}
-use Rattle.rules.specs.Flows.{Class, Of, load}
+use Rattle.rules.specs.Flows.{Class, OnSwitch, load}
 use Rattle.rules.specs.Frames.{cells, repeated}
-use Rattle.calls.specs.Build.{buildAccepts, left}
+use Rattle.calls.specs.Build.{buildAccepts, frameAfter}
 use Rattle.calls.specs.Service.{lead, service}
 use Rattle.wire.specs.Deviation.{deviation}
 use Rattle.calls.specs.declared.Who.{Who}
@@ -28,10 +28,10 @@ pub record Led (c : Class) (ports slots k : ℕ) (list entries : List ℕ) (star
 abbrev pub BuiltLead : Type 0
 BuiltLead =
     (ports slots : ℕ) (list limits buffer : List ℕ) → buildAccepts ports slots list limits buffer ≡ true → (k : ℕ) → slots ≡ 2 ^ k
-    → (c : Class) → Of ports c → (start len : ℕ) → Led c ports slots k list (left ports slots list limits buffer) start len
+    → (c : Class) → OnSwitch ports c → (start len : ℕ) → Led c ports slots k list (frameAfter ports slots list limits buffer) start len
 
 -- So Service count answers no lead farther from zero than that, whatever is asked of it.
 abbrev pub AnsweredLead : Type 0
 AnsweredLead =
     (ports slots : ℕ) (list limits buffer : List ℕ) → buildAccepts ports slots list limits buffer ≡ true → (k : ℕ) → slots ≡ 2 ^ k
-    → (who : Who) (start len : ℕ) → 3 * natAbs (service ports slots list (left ports slots list limits buffer) who start len .ahead) ≤ (2 * k + 1) * slots
+    → (who : Who) (start len : ℕ) → 3 * natAbs (service ports slots list (frameAfter ports slots list limits buffer) who start len .ahead) ≤ (2 * k + 1) * slots

@@ -6,7 +6,7 @@ use lib.IntN.{pos, negℤ}
 use lib.ListN.{length, drop}
 use lib.Signed.{_≤ℤ_}
 use Rattle.rules.specs.Words.{upFrom, sumTo, Every}
-use Rattle.rules.specs.Flows.{Class, Of, load}
+use Rattle.rules.specs.Flows.{Class, OnSwitch, load}
 use Rattle.rules.specs.Frames.{cells, repeated}
 use Rattle.calls.specs.Service.{lead}
 use Rattle.wire.specs.Wire.{Carried, cellsAt, share, EveryChain}
@@ -55,11 +55,11 @@ abbrev pub Buffers : Type 0
 Buffers =
     EveryChain
     (λ ports k frames.
-    (c : Class) → Of ports c → (m : ℕ) → Every (λ f. load c (f .call .list) ≡ m) frames → HeldOn c k frames (λ start len. len * m))
+    (c : Class) → OnSwitch ports c → (m : ℕ) → Every (λ f. load c (f .call .list) ≡ m) frames → HeldOn c k frames (λ start len. len * m))
 
 -- The same where the flow's load changes at a seam: its share is then demand 3's, each slot counted with its own frame's load.
 abbrev pub BuffersAtSeams : Type 0
-BuffersAtSeams = EveryChain (λ ports k frames. (c : Class) → Of ports c → HeldOn c k frames (share c 0 frames))
+BuffersAtSeams = EveryChain (λ ports k frames. (c : Class) → OnSwitch ports c → HeldOn c k frames (share c 0 frames))
 
 -- What waits on one frame that repeats for ever, of any entries, by the frame's own leads: after a slot at most a + b parts of
 -- 1 / slots of a cell, and just before its cell leaves at most the cells of a frame more.

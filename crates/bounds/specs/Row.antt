@@ -5,7 +5,7 @@ use mathlib.Core.List.{List, [], _∷_}
 use lib.Dec.{ltb}
 use lib.ListN.{length}
 use Rattle.rules.specs.Words.{if, Every}
-use Rattle.rules.specs.Flows.{Class, Of, load}
+use Rattle.rules.specs.Flows.{Class, OnSwitch, load}
 use Rattle.wire.specs.Wire.{Call, Carried, none, chain, cellsAt, share, Shape, EveryChain}
 use Rattle.wire.specs.Deviation.{deviation}
 use Rattle.bounds.specs.Queue.{Paced, Held, sent}
@@ -15,7 +15,7 @@ abbrev pub Sends : Type 0
 Sends =
     EveryChain
     (λ ports k frames.
-    (c : Class) → Of ports c → (arrive : ℕ → ℕ)
+    (c : Class) → OnSwitch ports c → (arrive : ℕ → ℕ)
     → Paced k (2 * deviation k) (length frames * 2 ^ k) (share c 0 frames) (sent arrive (cellsAt c frames)))
 
 -- A switch of the row: its frame buffer and its list of Build calls, its ports, the flow as it is counted there, and how many
@@ -37,7 +37,7 @@ scheduledAt h = cellsAt (h .flow) (framesAt h)
 -- Its frames are as in demand 3, of 2 ^ k slots, and the flow's load is m in each of them.
 pub record Reserved (k m : ℕ) (h : Hop) : Type 0 where
   pub shape : Every (Shape (h .ports) (2 ^ k)) (framesAt h)
-  pub flow-of : Of (h .ports) (h .flow)
+  pub flow-of : OnSwitch (h .ports) (h .flow)
   pub steady : Every (λ f. load (h .flow) (f .call .list) ≡ m) (framesAt h)
 
 -- What comes to the switch after h in slot t: what h sent delay slots before, and nothing in the first delay slots.

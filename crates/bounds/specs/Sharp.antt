@@ -4,7 +4,7 @@ use mathlib.Core.Path.{_≡_}
 use mathlib.Core.List.{List}
 use lib.ListN.{length}
 use Rattle.rules.specs.Words.{Near}
-use Rattle.rules.specs.Flows.{Class, Of}
+use Rattle.rules.specs.Flows.{Class, OnSwitch}
 use Rattle.wire.specs.Wire.{Carried, cellsIn, share, EveryChain}
 use Rattle.wire.specs.Deviation.{deviation}
 
@@ -19,7 +19,7 @@ pub record SharpRun (c : Class) (k : ℕ) (frames : List Carried) (start len : �
   pub ends-frame : (b : ℕ) → start + len ≡ b * 2 ^ k → NearShare (deviation k) c k frames start len
 
 abbrev pub SharpOn : ℕ → ℕ → List Carried → Type 0
-SharpOn ports k frames = (start len : ℕ) → start + len ≤ length frames * 2 ^ k → (c : Class) → Of ports c → SharpRun c k frames start len
+SharpOn ports k frames = (start len : ℕ) → start + len ≤ length frames * 2 ^ k → (c : Class) → OnSwitch ports c → SharpRun c k frames start len
 
 -- The sharp bound, for the chains of demand 3, which follows from it: 6 × deviation k is at most (2k + 1) × 2 ^ k.
 abbrev pub Sharp : Type 0

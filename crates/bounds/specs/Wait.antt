@@ -4,7 +4,7 @@ use mathlib.Core.Logic.{_≢_}
 use mathlib.Core.List.{List}
 use lib.ListN.{length, getD}
 use Rattle.rules.specs.Words.{Every}
-use Rattle.rules.specs.Flows.{Class, Of}
+use Rattle.rules.specs.Flows.{Class, OnSwitch}
 use Rattle.rules.specs.Frames.{cells}
 use Rattle.wire.specs.Wire.{Carried, cellsAt, cellsIn, share, EveryChain}
 use Rattle.wire.specs.Deviation.{deviation}
@@ -40,7 +40,7 @@ pub record Suffices (c : Class) (k : ℕ) (frames : List Carried) (w len : ℕ) 
 -- Of a class that has at least m cells in every frame of the chain, a length that is long enough for w cells suffices for them.
 abbrev pub WaitsOn : ℕ → ℕ → ℕ → List Carried → Type 0
 WaitsOn gap ports k frames =
-    (c : Class) → Of ports c → (m w : ℕ) → 1 ≤ m → 1 ≤ w → HasAtLeast m c ports frames
+    (c : Class) → OnSwitch ports c → (m w : ℕ) → 1 ≤ m → 1 ≤ w → HasAtLeast m c ports frames
     → (len : ℕ) → Enough gap k m w len → Suffices c k frames w len
 
 -- The longest wait, on every chain that demand 3 covers.
@@ -48,8 +48,8 @@ abbrev pub LongestWait : (ℕ → ℕ) → Type 0
 LongestWait gap = EveryChain (λ ports k. WaitsOn (gap k) ports k)
 
 -- The least length that is long enough, by which a house goes,
-abbrev pub longest : ℕ → ℕ → ℕ → ℕ → ℕ
-longest gap k m w = (gap + 3 * 2 ^ k * (w - 1)) / (3 * m) + 1
+abbrev pub leastEnough : ℕ → ℕ → ℕ → ℕ → ℕ
+leastEnough gap k m w = (gap + 3 * 2 ^ k * (w - 1)) / (3 * m) + 1
 
 -- which is to say that it is long enough, and nothing that is long enough is less.
 pub record Least (gap k m w len : ℕ) : Type 0 where
@@ -61,13 +61,13 @@ abbrev pub LeastWait : (ℕ → ℕ) → Type 0
 LeastWait gap =
     EveryChain
     (λ ports k frames.
-    (c : Class) → Of ports c → (m w : ℕ) → 1 ≤ m → 1 ≤ w → HasAtLeast m c ports frames → Suffices c k frames w (longest (gap k) k m w))
+    (c : Class) → OnSwitch ports c → (m w : ℕ) → 1 ≤ m → 1 ≤ w → HasAtLeast m c ports frames → Suffices c k frames w (leastEnough (gap k) k m w))
 
 -- By blocks: where the class has at least 2 ^ j cells in every frame, each block of 2 ^ (k − j) slots has one, and a run of one slot
 -- less than w + 1 such blocks has w of them whole. At the head of the queue, where w is 1, that is exact.
 abbrev pub BlocksOn : ℕ → ℕ → List Carried → Type 0
 BlocksOn ports k frames =
-    (c : Class) → Of ports c → (j w : ℕ) → j ≤ k → 1 ≤ w → HasAtLeast (2 ^ j) c ports frames
+    (c : Class) → OnSwitch ports c → (j w : ℕ) → j ≤ k → 1 ≤ w → HasAtLeast (2 ^ j) c ports frames
     → (len : ℕ) → (w + 1) * 2 ^ (k - j) ≤ len + 1 → Suffices c k frames w len
 
 abbrev pub BlockWait : Type 0
@@ -77,7 +77,7 @@ BlockWait = EveryChain BlocksOn
 -- whatever place, has left after the next len, if len × m + 2 ^ k is more than a + 2 × deviation k.
 abbrev pub PacedOn : ℕ → ℕ → List Carried → Type 0
 PacedOn ports k frames =
-    (c : Class) → Of ports c → (m : ℕ) → HasAtLeast m c ports frames
+    (c : Class) → OnSwitch ports c → (m : ℕ) → HasAtLeast m c ports frames
     → (a : ℕ) (arrive : ℕ → ℕ) → Paced k a (length frames * 2 ^ k) (share c 0 frames) arrive
     → (len : ℕ) → a + 2 * deviation k < len * m + 2 ^ k
     → (t w : ℕ) → t + len ≤ length frames * 2 ^ k → 1 ≤ w → w ≤ waiting arrive (cellsAt c frames) t

@@ -7,12 +7,12 @@ use native.Mathlib.Omega.{arith}
 use lib.IntN.{ℤ, pos, _-ℤ_}
 use lib.ListN.{length, getD}
 use borrow.Author.Tests.{not-false}
-use Rattle.rules.specs.Flows.{flows, portOf, countsOf, Class, flow, input, output}
+use Rattle.rules.specs.Flows.{flows, portOf, countsOf, Class, flow, portOn, input, output}
 use Rattle.rules.specs.Frames.{cells, repeated, Power}
-use Rattle.calls.specs.Refusals.{Check, report, clear, bad-ports, bad-slots, bad-list, bad-flows, bad-flow, bad-link, listChecks, bad-frame, bad-slot, overloads, admitted}
+use Rattle.calls.specs.Refusals.{Check, report, none-holds, bad-ports, bad-slots, bad-list, too-many-flows, port-outside, link-outside, listChecks, bad-frame, bad-slot, overloads, admitted}
 use Rattle.rules.specs.Schedule.{frameOf}
 use Rattle.calls.specs.Work.{work}
-use Rattle.calls.specs.Build.{left, buildChecks, acceptance, built}
+use Rattle.calls.specs.Build.{frameAfter, buildChecks, acceptance, built}
 use Rattle.calls.specs.Inspect.{wrongEntry, outputTwice, flowCount, unbalancedBlock, inspected}
 use Rattle.calls.specs.Service.{viewChecks, viewNumber, viewStart, viewSize, viewed, classOf, bad-who, bad-length, lead, Reply, countChecks, service}
 use Rattle.calls.specs.declared.Who.{Who}
@@ -40,7 +40,7 @@ module _ (ports slots : ℕ) (cs : List Check) (asked : List ℕ) where
 
 module _ (ports slots : ℕ) (list : List ℕ) (cs : List Check) (asked : List ℕ) where
   load-reported : {n : ℕ} → LoadRefused ports slots list n → report (listChecks ports slots list ++ cs) asked ≡ n ∷ []
-  load-reported (rack r) = rack-reported ports slots (bad-list list ∷ bad-flows list ∷ bad-flow ports list ∷ bad-link list ∷ cs) asked r
+  load-reported (rack r) = rack-reported ports slots (bad-list list ∷ too-many-flows list ∷ port-outside ports list ∷ link-outside list ∷ cs) asked r
   load-reported (list-3 p s b) = rw (ports-tells ports .met p, slots-tells slots .met s, broken (list-tells list) b)
   load-reported (flows-21 p s e b) = rw (ports-tells ports .met p, slots-tells slots .met s, list-tells list .met e, broken (flows-tells list) b)
   load-reported (flow-22 p s e f b) =
@@ -145,8 +145,8 @@ module _ (ports slots : ℕ) (list limits : List ℕ) where
   pub admit-exactly : Exactly (Admits ports slots list limits) (admitted ports slots list limits)
   admit-exactly =
       byLoad ports slots list (λ n r. exactly admit-only (refused r))
-      (λ w. byOver 5 input ports slots list (λ x o. exactly admit-only (input-5 w x o))
-      (λ i. byOver 6 output ports slots list (λ x o. exactly admit-only (output-6 w i x o))
+      (λ w. byOver 5 (portOn input) ports slots list (λ x o. exactly admit-only (input-5 w x o))
+      (λ i. byOver 6 (portOn output) ports slots list (λ x o. exactly admit-only (output-6 w i x o))
       (λ o. byPast ports list limits (λ x p. exactly admit-only (link-24 w i o x p))
       (λ a. exactly admit-only (accepted w (light-fits ports slots list i o) a)))))
 
@@ -154,7 +154,7 @@ module _ (ports slots : ℕ) (list limits : List ℕ) where
 module _ (ports slots : ℕ) (list limits buffer : List ℕ) where
   -- Build's answer, and the entries that it leaves
   abbrev pub build : List ℕ × List ℕ
-  build = (built ports slots list limits buffer, left ports slots list limits buffer)
+  build = (built ports slots list limits buffer, frameAfter ports slots list limits buffer)
 
   -- an answer that begins with a number other than 0 leaves the entries that were lent
   kept : {n : ℕ} {values : List ℕ} → 0 < n → built ports slots list limits buffer ≡ n ∷ values
@@ -175,7 +175,7 @@ module _ (ports slots : ℕ) (list limits buffer : List ℕ) where
   build-only given (output-6 w e l x o) = kept (omega arith) (build-answers ports slots list w limits buffer e .output-over l x o)
   build-only given (link-24 w e i o x p) = kept (omega arith) (build-answers ports slots list w limits buffer e .link-over i o x p)
   build-only given (accepted a entries s) =
-      let leaves : entries ≡ left ports slots list limits buffer
+      let leaves : entries ≡ frameAfter ports slots list limits buffer
       = only-frame ports (portOf list) (a .well .power .k) (countsOf list) entries s
       ∙ rw (accepts-yes ports slots list limits buffer a, power-level (a .well .power)) in
       ap₂ (λ (x y : List ℕ). (x, y))
@@ -186,8 +186,8 @@ module _ (ports slots : ℕ) (list limits buffer : List ℕ) where
   pub build-exactly : Exactly (Builds ports slots list limits buffer) build
   build-exactly =
       byFrame ports slots list buffer (λ n r. exactly build-only (refused r))
-      (λ w e. byOver 5 input ports slots list (λ x o. exactly build-only (input-5 w e x o))
-      (λ i. byOver 6 output ports slots list (λ x o. exactly build-only (output-6 w e i x o))
+      (λ w e. byOver 5 (portOn input) ports slots list (λ x o. exactly build-only (input-5 w e x o))
+      (λ i. byOver 6 (portOn output) ports slots list (λ x o. exactly build-only (output-6 w e i x o))
       (λ o. byPast ports list limits (λ x p. exactly build-only (link-24 w e i o x p))
       (λ a. let fits = light-fits ports slots list i o in
       exactly build-only (accepted (record { well = w; size = e; fits = fits; allowed = a })
@@ -221,11 +221,11 @@ module _ (ports slots : ℕ) (entries : List ℕ) (slot : ℕ) where
   unfolding viewChecks
   view-only given (refused r) =
       let e = ap (λ (l : List ℕ). getD l 0 0) (slot-reported ports slots entries slot [] (0 ∷ []) r) in
-      let c : clear (viewChecks ports slots entries slot) ≡ false = clear-some (slotChecks ports slots entries slot []) (0 ∷ []) refl (λ z. let h = slot-low r in omega arith) in
+      let c : none-holds (viewChecks ports slots entries slot) ≡ false = clear-some (slotChecks ports slots entries slot []) (0 ∷ []) refl (λ z. let h = slot-low r in omega arith) in
       rw (c, e)
   view-only given (seen s f) =
       let e = ap (λ (l : List ℕ). getD l 0 0) (slot-clear ports slots entries slot f [] (0 ∷ [])) in
-      let c : clear (viewChecks ports slots entries slot) ≡ true = clear-none (slotChecks ports slots entries slot []) (0 ∷ []) (omega arith, (omega arith, (omega arith, (omega arith, tt)))) e in
+      let c : none-holds (viewChecks ports slots entries slot) ≡ true = clear-none (slotChecks ports slots entries slot []) (0 ∷ []) (omega arith, (omega arith, (omega arith, (omega arith, tt)))) e in
       let h : slot - 1 ≡ s = (let n = f .number in omega arith) in
       let start : viewStart ports slots entries slot ≡ s * ports = rw c (omega (arith, ap (λ x. x * ports) h)) in
       let size : viewSize ports slots entries slot ≡ ports = rw c in
@@ -238,8 +238,8 @@ module _ (ports slots : ℕ) (entries : List ℕ) (slot : ℕ) where
 -- the class that is named
 names-class : {ports : ℕ} {list : List ℕ} {who : Who} {c : Class} → Names ports list who c → classOf who ≡ c
 names-class (of-flow a) = ap flow (omega arith)
-names-class (of-input a) = ap input (omega arith)
-names-class (of-output a) = ap output (omega arith)
+names-class (of-input a) = ap (portOn input) (omega arith)
+names-class (of-output a) = ap (portOn output) (omega arith)
 
 -- 12: what is named is a flow of the list or a port of the switch
 who-tells : (ports : ℕ) (list : List ℕ) (who : Who) → Tells (bad-who ports list who) ((c : Class) × Names ports list who c)
@@ -252,8 +252,8 @@ who-tells ports list who = record { met = λ n. met-of who (n .0) (n .1); known 
 
     known-of : (who : Who) → bad-who ports list who .0 ≡ false → (c : Class) × Names ports list who c
     known-of (Flow f) e = from-one (λ f. (c : Class) × Names ports list (Flow f) c) (flows list) f (within-true 1 (flows list) f (not-false _ e)) (λ x l. (flow x, of-flow l))
-    known-of (Input i) e = from-one (λ i. (c : Class) × Names ports list (Input i) c) ports i (within-true 1 ports i (not-false _ e)) (λ x l. (input x, of-input l))
-    known-of (Output o) e = from-one (λ o. (c : Class) × Names ports list (Output o) c) ports o (within-true 1 ports o (not-false _ e)) (λ x l. (output x, of-output l))
+    known-of (Input i) e = from-one (λ i. (c : Class) × Names ports list (Input i) c) ports i (within-true 1 ports i (not-false _ e)) (λ x l. (portOn input x, of-input l))
+    known-of (Output o) e = from-one (λ o. (c : Class) × Names ports list (Output o) c) ports o (within-true 1 ports o (not-false _ e)) (λ x l. (portOn output x, of-output l))
 
 module _ (ports slots : ℕ) (list entries : List ℕ) (who : Who) (start len : ℕ) where
   -- 11, then 12, then 13
@@ -286,7 +286,7 @@ module _ (ports slots : ℕ) (list entries : List ℕ) (who : Who) (start len : 
   unfolding countChecks lead
   found-counted {s} f {c} n l e =
       let at : start - 1 ≡ s = (let h = f .number in omega arith) in
-      let none : clear (countChecks ports slots list entries who start len) ≡ true
+      let none : none-holds (countChecks ports slots list entries who start len) ≡ true
       = clear-then (listChecks ports slots list) (bad-frame ports slots entries ∷ startChecks) (well-clear ports slots list (f .well))
       ∙ rw (frame-tells ports slots entries .met (f .size), run-met f, who-tells ports list who .met (c, n), length-tells len .met l) in
       rw (sym e, sym at, sym (names-class n)) (reply-counted ports slots list entries who start len none)

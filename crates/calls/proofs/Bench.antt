@@ -11,7 +11,7 @@ use Rattle.rules.specs.Frames.{cells, runOf, repeated}
 use Rattle.calls.specs.Refusals.{slotsEach, admitted}
 use Rattle.rules.specs.Schedule.{walk, settleAt, favours, slotOf, frameOf}
 use Rattle.calls.specs.Work.{work}
-use Rattle.calls.specs.Build.{buildChecks, built, left}
+use Rattle.calls.specs.Build.{buildChecks, built, frameAfter}
 use Rattle.calls.specs.Inspect.{isWrong, twiceIn, usedTwice, wrongCount, unbalanced, unbalancedNumber, unbalancedAt, inspected}
 use Rattle.calls.specs.Service.{viewChecks, viewNumber, viewStart, viewSize, viewed, lead, Reply, countChecks, service}
 use Rattle.calls.specs.declared.Who.{Who}
@@ -27,14 +27,14 @@ frame : ℕ → ℕ → List ℕ → ℕ → List ℕ → Case
 frame ports slots list settled entries =
     let buffer : List ℕ = replicate (slots * ports) 77 in
     let limits = slotsEach slots in
-    record { gives = built ports slots list limits buffer ++ left ports slots list limits buffer; says = 0 ∷ settled ∷ entries }
+    record { gives = built ports slots list limits buffer ++ frameAfter ports slots list limits buffer; says = 0 ∷ settled ∷ entries }
 
 -- A list that is refused, by Admit and by Build, and the buffer as it was: by limits that are given, and by those of slots each.
 turnedAwayBy : List ℕ → ℕ → ℕ → List ℕ → List ℕ → Case
 turnedAwayBy limits ports slots list refusal =
     let buffer : List ℕ = replicate (slots * ports) 77 in
     record {
-      gives = admitted ports slots list limits ++ (built ports slots list limits buffer ++ left ports slots list limits buffer);
+      gives = admitted ports slots list limits ++ (built ports slots list limits buffer ++ frameAfter ports slots list limits buffer);
       says = refusal ++ (refusal ++ buffer);
     }
 

@@ -10,7 +10,7 @@ use lib.ListN.{length, getD}
 use Rattle.rules.specs.Flows.{flows}
 use Rattle.rules.specs.Frames.{right, Legal, Balanced}
 use Rattle.calls.specs.Refusals.{Check, report}
-use Rattle.calls.specs.Build.{buildAccepts, left}
+use Rattle.calls.specs.Build.{buildAccepts, frameAfter}
 use Rattle.calls.specs.Inspect.{wrongEntry, outputTwice, flowCount, unbalancedBlock, inspected}
 use Rattle.rules.proofs.Cases.{byBool}
 use Rattle.calls.proofs.Reports.{report-found, report-on}
@@ -109,8 +109,8 @@ module _ (ports slots : ℕ) (list entries : List ℕ) (w : WellFormed ports slo
 -- ---- the calls together
 -- What an accepted Build leaves, inspected with what Build was given, is clean.
 pub built-clean : (ports slots : ℕ) (list limits buffer : List ℕ) → buildAccepts ports slots list limits buffer ≡ true
-    → inspected ports slots list (left ports slots list limits buffer) ≡ 0 ∷ []
+    → inspected ports slots list (frameAfter ports slots list limits buffer) ≡ 0 ∷ []
 built-clean ports slots list limits buffer e =
     let a = accepts-is ports slots list limits buffer e in
     let s = build-sound ports slots list limits buffer e in
-    sound-clean ports slots list (left ports slots list limits buffer) (a .well) (s .0 .size) (s .0) (s .1)
+    sound-clean ports slots list (frameAfter ports slots list limits buffer) (a .well) (s .0 .size) (s .0) (s .1)

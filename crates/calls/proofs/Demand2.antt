@@ -7,45 +7,45 @@ use mathlib.Core.Bool.{true, false, not}
 use native.Mathlib.Omega.{arith}
 use lib.ListN.{length, getD}
 use borrow.Author.Tests.{not-true}
-use Rattle.rules.specs.Flows.{flows, inputs, portOf, countsOf, input, output, Fits}
+use Rattle.rules.specs.Flows.{flows, inputs, portOf, countsOf, portOn, input, output, Fits}
 use Rattle.rules.specs.Frames.{Legal, Balanced, levels}
 use Rattle.calls.specs.Demand2.{WellFormed, OverloadAnswers, Accepts, Light, Allows, Demand2}
-use Rattle.calls.specs.Refusals.{Check, report, clear, accepted, bad-ports, bad-slots, bad-list, bad-flows, bad-flow, bad-link, listChecks, bad-frame, overload, portOverloads, linkOverload, overloads, admitted}
+use Rattle.calls.specs.Refusals.{Check, report, none-holds, accepted, bad-ports, bad-slots, bad-list, too-many-flows, port-outside, link-outside, listChecks, bad-frame, overload, portOverloads, linkOverload, overloads, admitted}
 use Rattle.rules.specs.Rules.{Scheduled}
 use Rattle.rules.specs.Schedule.{frameOf}
-use Rattle.calls.specs.Build.{buildChecks, acceptance, built, buildAccepts, left}
+use Rattle.calls.specs.Build.{buildChecks, acceptance, built, buildAccepts, frameAfter}
 use Rattle.rules.proofs.Cases.{both-true}
 use Rattle.rules.proofs.Levels.{levels-power, power-known}
 use Rattle.rules.proofs.Flows.{counts-length}
-use Rattle.rules.proofs.Slots.{Placed}
+use Rattle.rules.proofs.Slots.{AtInputs}
 use Rattle.rules.proofs.OneFrame.{frame-is, one-frame}
 use Rattle.rules.specs.OneFrame.{OneFrame}
 use Rattle.calls.proofs.Reports.{report-found, report-on, report-clear, report-then, clear-then, clear-parts, clear-none, ports-tells, slots-tells, list-tells, flows-tells, flow-tells, link-tells, frame-tells}
 use Rattle.calls.proofs.Overloads.{over-reported, overload-tells, link-reported, limits-tell}
 
 -- the first n flows are at inputs of the switch
-pub well-placed : {ports slots : ℕ} {list : List ℕ} → WellFormed ports slots list → Placed ports (portOf list) (flows list)
+pub well-placed : {ports slots : ℕ} {list : List ℕ} → WellFormed ports slots list → AtInputs ports (portOf list) (flows list)
 unfolding portOf
 well-placed w f h = let p = w .ported inputs f h in omega arith
 
 module _ (ports slots : ℕ) (list : List ℕ) where
   -- a load fits where its inputs and its outputs are light
-  pub light-fits : Light input ports slots list → Light output ports slots list → Fits ports slots (portOf list) (countsOf list)
+  pub light-fits : Light (portOn input) ports slots list → Light (portOn output) ports slots list → Fits ports slots (portOf list) (countsOf list)
   light-fits i o x h = (i x h, o x h)
 
   -- a load fits exactly where neither 5 nor 6 holds
-  pub clear-fits : clear (portOverloads ports slots list) ≡ true → Fits ports slots (portOf list) (countsOf list)
+  pub clear-fits : none-holds (portOverloads ports slots list) ≡ true → Fits ports slots (portOf list) (countsOf list)
   clear-fits e =
-      let i = both-true (not (overload 5 input ports slots list .0)) (clear (overload 6 output ports slots list ∷ [])) e in
-      let o = both-true (not (overload 6 output ports slots list .0)) true (i .1) in
-      light-fits (overload-tells 5 input ports slots list .known (not-true _ (i .0))) (overload-tells 6 output ports slots list .known (not-true _ (o .0)))
+      let i = both-true (not (overload 5 (portOn input) ports slots list .0)) (none-holds (overload 6 (portOn output) ports slots list ∷ [])) e in
+      let o = both-true (not (overload 6 (portOn output) ports slots list .0)) true (i .1) in
+      light-fits (overload-tells 5 (portOn input) ports slots list .known (not-true _ (i .0))) (overload-tells 6 (portOn output) ports slots list .known (not-true _ (o .0)))
 
-  pub fits-clear : Fits ports slots (portOf list) (countsOf list) → clear (portOverloads ports slots list) ≡ true
+  pub fits-clear : Fits ports slots (portOf list) (countsOf list) → none-holds (portOverloads ports slots list) ≡ true
   fits-clear fits =
-      rw (overload-tells 5 input ports slots list .met (λ x h. fits x h .0), overload-tells 6 output ports slots list .met (λ x h. fits x h .1))
+      rw (overload-tells 5 (portOn input) ports slots list .met (λ x h. fits x h .0), overload-tells 6 (portOn output) ports slots list .met (λ x h. fits x h .1))
 
   -- and the limits allow it too exactly where 24 does not hold either
-  pub clear-allows : (limits : List ℕ) → clear (overloads ports slots list limits) ≡ true
+  pub clear-allows : (limits : List ℕ) → none-holds (overloads ports slots list limits) ≡ true
       → Fits ports slots (portOf list) (countsOf list) × Allows ports list limits
   clear-allows limits e =
       let a = clear-parts (portOverloads ports slots list) (linkOverload ports list limits ∷ []) e in
@@ -53,7 +53,7 @@ module _ (ports slots : ℕ) (list : List ℕ) where
       (clear-fits (a .0), limits-tell ports list limits .known (not-true _ (b .0)))
 
   pub allows-clear : (limits : List ℕ) → Fits ports slots (portOf list) (countsOf list) → Allows ports list limits
-      → clear (overloads ports slots list limits) ≡ true
+      → none-holds (overloads ports slots list limits) ≡ true
   allows-clear limits fits allowed =
       clear-then (portOverloads ports slots list) (linkOverload ports list limits ∷ []) (fits-clear fits)
       ∙ rw (limits-tell ports list limits .met allowed)
@@ -66,20 +66,20 @@ module _ (ports slots : ℕ) (list : List ℕ) where
         accepts = λ fits allowed. report-clear (overloads ports slots list limits) taken (allows-clear limits fits allowed);
         fits = λ e. none e .0;
         allowed = λ e. none e .1;
-        input-over = λ x o. report-found fifth (sixth ∷ last ∷ []) taken (over-reported 5 input ports slots list x o);
+        input-over = λ x o. report-found fifth (sixth ∷ last ∷ []) taken (over-reported 5 (portOn input) ports slots list x o);
         output-over = λ i x o.
-            report-on fifth (sixth ∷ last ∷ []) taken (overload-tells 5 input ports slots list .met i)
-            ∙ report-found sixth (last ∷ []) taken (over-reported 6 output ports slots list x o);
+            report-on fifth (sixth ∷ last ∷ []) taken (overload-tells 5 (portOn input) ports slots list .met i)
+            ∙ report-found sixth (last ∷ []) taken (over-reported 6 (portOn output) ports slots list x o);
         link-over = λ i o x p.
             report-then (portOverloads ports slots list) (last ∷ []) taken (fits-clear (light-fits i o))
             ∙ report-found last [] taken (link-reported ports list limits x p);
       }
     where
       fifth : Check
-      fifth = overload 5 input ports slots list
+      fifth = overload 5 (portOn input) ports slots list
 
       sixth : Check
-      sixth = overload 6 output ports slots list
+      sixth = overload 6 (portOn output) ports slots list
 
       last : Check
       last = linkOverload ports list limits
@@ -89,7 +89,7 @@ module _ (ports slots : ℕ) (list : List ℕ) where
       none e = clear-allows limits (clear-none (overloads ports slots list limits) taken (omega arith, (omega arith, (omega arith, tt))) e)
 
   -- a list is well-formed exactly where none of 1, 2, 3, 21, 22 and 23 holds
-  pub well-clear : WellFormed ports slots list → clear (listChecks ports slots list) ≡ true
+  pub well-clear : WellFormed ports slots list → none-holds (listChecks ports slots list) ≡ true
   well-clear w =
       rw (
         ports-tells ports .met (w .rack),
@@ -100,14 +100,14 @@ module _ (ports slots : ℕ) (list : List ℕ) where
         link-tells list .met (w .linked),
       )
 
-  pub clear-well : clear (listChecks ports slots list) ≡ true → WellFormed ports slots list
+  pub clear-well : none-holds (listChecks ports slots list) ≡ true → WellFormed ports slots list
   clear-well e =
       let a = both-true (not (bad-ports ports .0)) _ e in
       let b = both-true (not (bad-slots slots .0)) _ (a .1) in
       let c = both-true (not (bad-list list .0)) _ (b .1) in
-      let d = both-true (not (bad-flows list .0)) _ (c .1) in
-      let f = both-true (not (bad-flow ports list .0)) _ (d .1) in
-      let g = both-true (not (bad-link list .0)) _ (f .1) in
+      let d = both-true (not (too-many-flows list .0)) _ (c .1) in
+      let f = both-true (not (port-outside ports list .0)) _ (d .1) in
+      let g = both-true (not (link-outside list .0)) _ (f .1) in
       record {
         rack = ports-tells ports .known (not-true _ (a .0));
         power = slots-tells slots .known (not-true _ (b .0));
@@ -177,21 +177,21 @@ accepts-yes ports slots list limits buffer a =
 
 -- an accepted Build leaves the rules' only frame, and a refused one the entries that it was lent
 pub build-frame : (ports slots : ℕ) (list limits buffer : List ℕ) → buildAccepts ports slots list limits buffer ≡ true
-    → OneFrame ports (levels slots) list (left ports slots list limits buffer) × (slots ≡ 2 ^ levels slots)
+    → OneFrame ports (levels slots) list (frameAfter ports slots list limits buffer) × (slots ≡ 2 ^ levels slots)
 build-frame ports slots list limits buffer e =
     let a = accepts-is ports slots list limits buffer e in
     let p = levels-power slots (power-known (a .well .power)) in
     (rw e (one-frame ports (levels slots) list (well-placed (a .well)) (subst (λ (n : ℕ). Fits ports n (portOf list) (countsOf list)) p (a .fits))), p)
 
 pub build-sound : (ports slots : ℕ) (list limits buffer : List ℕ) → buildAccepts ports slots list limits buffer ≡ true
-    → Legal ports slots list (left ports slots list limits buffer) × Balanced ports slots list (left ports slots list limits buffer)
+    → Legal ports slots list (frameAfter ports slots list limits buffer) × Balanced ports slots list (frameAfter ports slots list limits buffer)
 build-sound ports slots list limits buffer e =
     let b = build-frame ports slots list limits buffer e in
-    let entries = left ports slots list limits buffer in
+    let entries = frameAfter ports slots list limits buffer in
     subst (λ (n : ℕ). Legal ports n list entries × Balanced ports n list entries) (sym (b .1)) (b .0 .legal, b .0 .balanced)
 
 pub build-keeps : (ports slots : ℕ) (list limits buffer : List ℕ) → buildAccepts ports slots list limits buffer ≡ false
-    → left ports slots list limits buffer ≡ buffer
+    → frameAfter ports slots list limits buffer ≡ buffer
 build-keeps ports slots list limits buffer e = rw e
 
 -- All of demand 2.

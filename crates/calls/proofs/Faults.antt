@@ -10,7 +10,7 @@ use lib.Dec.{ltb}
 use lib.Pow.{pow-pos}
 use borrow.Author.Tests.{lt-ltb, le-ltb, ltb-true, ltb-false, eq-eqb, eqb-true, not-false}
 use Rattle.rules.specs.Words.{first}
-use Rattle.rules.specs.Flows.{flows, flow, output, load}
+use Rattle.rules.specs.Flows.{flows, flow, portOn, output, load}
 use Rattle.rules.specs.Frames.{cells, runOf, Block, Balanced, levels, Power}
 use Rattle.calls.specs.Refusals.{Check}
 use Rattle.calls.specs.Inspect.{firstPlace, isWrong, twiceIn, usedTwice, wrongCount, unbalancedNumber, firstAt, unbalancedAt, wrongEntry, outputTwice, flowCount, unbalancedBlock}
@@ -110,8 +110,8 @@ pub outputs-search : (ports slots : ℕ) (list entries : List ℕ) → FirstOf 1
 unfolding usedTwice twiceIn
 outputs-search ports slots list entries =
     first-of 102 slots ports (usedTwice ports list entries) (OutputOnce ports list entries)
-    (λ s o h f. rw (digits-div s h, digits-mod s h) (le-ltb 1 (cells (output o) ports list (runOf ports s 1 entries)) f))
-    (λ s o h e. ltb-false 1 (cells (output o) ports list (runOf ports s 1 entries)) (rw (digits-div s h, digits-mod s h) at e))
+    (λ s o h f. rw (digits-div s h, digits-mod s h) (le-ltb 1 (cells (portOn output o) ports list (runOf ports s 1 entries)) f))
+    (λ s o h e. ltb-false 1 (cells (portOn output o) ports list (runOf ports s 1 entries)) (rw (digits-div s h, digits-mod s h) at e))
 
 -- ---- a flow
 module _ (ports : ℕ) (list entries : List ℕ) where

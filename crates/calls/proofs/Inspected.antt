@@ -7,7 +7,7 @@ use native.Mathlib.Omega.{arith}
 use lib.Dec.{leb}
 use borrow.Author.Tests.{leb-true, le-leb}
 use Rattle.rules.specs.Words.{both, near, Near, upFrom}
-use Rattle.rules.specs.Flows.{flows, Class, flow, input, output, link, total, Of}
+use Rattle.rules.specs.Flows.{flows, Class, flow, portOn, input, output, link, total, OnSwitch}
 use Rattle.rules.specs.Frames.{cells, runOf}
 use Rattle.calls.specs.Inspect.{classes, all, unbalanced}
 use Rattle.rules.proofs.Cases.{byBool, byEq, byLt, both-true}
@@ -39,27 +39,27 @@ module _ (t : Class → Bool) (f : ℕ → Class) where
       (λ d. byBool (t (f a)) (λ k. rw k (all-no (suc a) n x (omega arith) (omega arith) e)) (λ k. rw k))
 
 -- the classes of a switch and a list: of flows, those in the list
-abbrev pub In : ℕ → List ℕ → Class → Type 0
-In ports list (flow f) = f < flows list
-In ports list (input i) = i < ports
-In ports list (output o) = o < ports
-In ports list (link x) = x < ports * 4
-In ports list total = Unit {0}
+abbrev pub InList : ℕ → List ℕ → Class → Type 0
+InList ports list (flow f) = f < flows list
+InList ports list (portOn input i) = i < ports
+InList ports list (portOn output o) = o < ports
+InList ports list (link x) = x < ports * 4
+InList ports list total = Unit {0}
 
 module _ (ports : ℕ) (list : List ℕ) (t : Class → Bool) where
   -- kind by kind
   all-kinds : all t (classes ports list)
-      ≡ both (all t (map flow (upFrom 0 (flows list)))) (both (all t (map input (upFrom 0 ports)))
-      (both (all t (map output (upFrom 0 ports))) (both (all t (map link (upFrom 0 (ports * 4)))) (both (t total) true))))
+      ≡ both (all t (map flow (upFrom 0 (flows list)))) (both (all t (map (portOn input) (upFrom 0 ports)))
+      (both (all t (map (portOn output) (upFrom 0 ports))) (both (all t (map link (upFrom 0 (ports * 4)))) (both (t total) true))))
   all-kinds = rw (all-append, all-append, all-append, all-append)
 
-  pub all-classes : ((c : Class) → In ports list c → t c ≡ true) → all t (classes ports list) ≡ true
+  pub all-classes : ((c : Class) → InList ports list c → t c ≡ true) → all t (classes ports list) ≡ true
   all-classes h =
       rw (
         all-kinds,
         all-yes t flow 0 (flows list) (λ f _ k. h (flow f) (omega arith)),
-        all-yes t input 0 ports (λ i _ k. h (input i) (omega arith)),
-        all-yes t output 0 ports (λ o _ k. h (output o) (omega arith)),
+        all-yes t (portOn input) 0 ports (λ i _ k. h (portOn input i) (omega arith)),
+        all-yes t (portOn output) 0 ports (λ o _ k. h (portOn output o) (omega arith)),
         all-yes t link 0 (ports * 4) (λ x _ k. h (link x) (omega arith)),
         h total tt,
       )
@@ -68,25 +68,25 @@ module _ (ports : ℕ) (list : List ℕ) (t : Class → Bool) where
   both-no true b e = e
   both-no false b e = refl
 
-  pub some-class : (c : Class) → In ports list c → t c ≡ false → all t (classes ports list) ≡ false
+  pub some-class : (c : Class) → InList ports list c → t c ≡ false → all t (classes ports list) ≡ false
   some-class c of e = all-kinds ∙ by c of e
     where
       fs : Bool
       fs = all t (map flow (upFrom 0 (flows list)))
 
       is : Bool
-      is = all t (map input (upFrom 0 ports))
+      is = all t (map (portOn input) (upFrom 0 ports))
 
       os : Bool
-      os = all t (map output (upFrom 0 ports))
+      os = all t (map (portOn output) (upFrom 0 ports))
 
       ls : Bool
       ls = all t (map link (upFrom 0 (ports * 4)))
 
-      by : (c : Class) → In ports list c → t c ≡ false → both fs (both is (both os (both ls (both (t total) true)))) ≡ false
+      by : (c : Class) → InList ports list c → t c ≡ false → both fs (both is (both os (both ls (both (t total) true)))) ≡ false
       by (flow f) of e = rw (all-no t flow 0 (flows list) f (omega arith) (omega arith) e)
-      by (input i) of e = both-no fs _ (rw (all-no t input 0 ports i (omega arith) (omega arith) e))
-      by (output o) of e = both-no fs _ (both-no is _ (rw (all-no t output 0 ports o (omega arith) (omega arith) e)))
+      by (portOn input i) of e = both-no fs _ (rw (all-no t (portOn input) 0 ports i (omega arith) (omega arith) e))
+      by (portOn output o) of e = both-no fs _ (both-no is _ (rw (all-no t (portOn output) 0 ports o (omega arith) (omega arith) e)))
       by (link x) of e = both-no fs _ (both-no is _ (both-no os _ (rw (all-no t link 0 (ports * 4) x (omega arith) (omega arith) e))))
       by total of e = both-no fs _ (both-no is _ (both-no os _ (both-no ls _ (rw e))))
 
@@ -99,34 +99,34 @@ module _ (ports : ℕ) (list entries : List ℕ) (start half : ℕ) where
   abbrev pub nearFor : Class → Bool
   nearFor c = near 1 (cells c ports list (runOf ports start half entries)) (cells c ports list (runOf ports (start + half) half entries))
 
-  pub unbalanced-yes : (c : Class) → In ports list c → nearFor c ≡ false → unbalanced ports list entries start half ≡ true
+  pub unbalanced-yes : (c : Class) → InList ports list c → nearFor c ≡ false → unbalanced ports list entries start half ≡ true
   unfolding unbalanced
   unbalanced-yes c of e = ap not (some-class ports list _ c of e)
 
-  pub unbalanced-no : ((c : Class) → In ports list c → nearFor c ≡ true) → unbalanced ports list entries start half ≡ false
+  pub unbalanced-no : ((c : Class) → InList ports list c → nearFor c ≡ true) → unbalanced ports list entries start half ≡ false
   unfolding unbalanced
   unbalanced-no h = ap not (all-classes ports list _ h)
 
-  in-near : unbalanced ports list entries start half ≡ false → (c : Class) → In ports list c → NearFor c
+  in-near : unbalanced ports list entries start half ≡ false → (c : Class) → InList ports list c → NearFor c
   in-near e c of =
       byBool (nearFor c)
       (λ k. near-true 1 _ _ k)
       (λ k. absurd (true≢false (sym (unbalanced-yes c of k) ∙ e)))
 
   -- a flow that is not in the list has no cells in either half
-  pub balanced-near : unbalanced ports list entries start half ≡ false → (c : Class) → Of ports c → NearFor c
+  pub balanced-near : unbalanced ports list entries start half ≡ false → (c : Class) → OnSwitch ports c → NearFor c
   balanced-near e (flow f) of =
       byLt f (flows list) (λ l. in-near e (flow f) l)
       (λ l. rw (cells-not list f ports (runOf ports start half entries) l, cells-not list f ports (runOf ports (start + half) half entries) l) (omega arith))
-  balanced-near e (input i) of = in-near e (input i) of
-  balanced-near e (output o) of = in-near e (output o) of
+  balanced-near e (portOn input i) of = in-near e (portOn input i) of
+  balanced-near e (portOn output o) of = in-near e (portOn output o) of
   balanced-near e (link x) of = in-near e (link x) of
   balanced-near e total of = in-near e total of
 
   -- the classes of a list are of the switch
-  pub in-of : (c : Class) → In ports list c → Of ports c
+  pub in-of : (c : Class) → InList ports list c → OnSwitch ports c
   in-of (flow f) of = tt
-  in-of (input i) of = of
-  in-of (output o) of = of
+  in-of (portOn input i) of = of
+  in-of (portOn output o) of = of
   in-of (link x) of = of
   in-of total of = of

@@ -9,7 +9,7 @@ use lib.Dec.{ltb}
 use lib.ListN.{getD, getD-replicate}
 use borrow.Author.Tests.{lt-ltb, le-ltb, ltb-true, ltb-false}
 use Rattle.rules.specs.Words.{first}
-use Rattle.rules.specs.Flows.{outputOf, portOf, countsOf, Class, input, output, link, load}
+use Rattle.rules.specs.Flows.{outputOf, portOf, countsOf, Class, portOn, input, output, link, load}
 use Rattle.calls.specs.Demand2.{Under, Above, Light, Over, Allows, Past}
 use Rattle.calls.specs.Refusals.{Check, report, lowestAbove, aboveSlots, overload, portOverloads, lowestPast, aboveLimits, linkOverload, overloads, slotsEach}
 use Rattle.rules.proofs.Cases.{byBool, byLt}
@@ -181,7 +181,7 @@ each-allows ports slots list rack under x h = rw (getD-replicate 64 x slots 0 (o
 -- ---- limits of slots each, as the sheet has them
 module _ (ports slots : ℕ) (list : List ℕ) (rack : ports ≤ 16) where
   -- they allow the loads of a list whose outputs are light
-  pub slots-allow : Light output ports slots list → Allows ports list (slotsEach slots)
+  pub slots-allow : Light (portOn output) ports slots list → Allows ports list (slotsEach slots)
   slots-allow light =
       each-allows ports slots list rack
       (λ x h. omega (arith, link-under x (portOf list) (countsOf list), light (outputOf x) (output-low ports x h)))
@@ -190,9 +190,9 @@ module _ (ports slots : ℕ) (list : List ℕ) (rack : ports ≤ 16) where
   pub slots-report : (asked : List ℕ)
       → report (overloads ports slots list (slotsEach slots)) asked ≡ report (portOverloads ports slots list) asked
   slots-report asked =
-      let five = overload 5 input ports slots list in
-      let six = overload 6 output ports slots list in
+      let five = overload 5 (portOn input) ports slots list in
+      let six = overload 6 (portOn output) ports slots list in
       byBool (six .0) (λ e. byBool (five .0) (λ d. rw d) (λ d. rw (d, e)))
       (λ e.
-      let allows = slots-allow (overload-tells 6 output ports slots list .known e) in
+      let allows = slots-allow (overload-tells 6 (portOn output) ports slots list .known e) in
       byBool (five .0) (λ d. rw d) (λ d. rw (d, e, limits-tell ports list (slotsEach slots) .met allows)))

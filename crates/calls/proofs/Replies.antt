@@ -9,9 +9,9 @@ use lib.IntN.{ℤ, pos}
 use lib.ListN.{getD}
 use borrow.Author.Tests.{not-true, not-false}
 use Rattle.rules.specs.Words.{if}
-use Rattle.rules.specs.Flows.{Of}
+use Rattle.rules.specs.Flows.{OnSwitch}
 use Rattle.rules.specs.Frames.{cells, repeated}
-use Rattle.calls.specs.Refusals.{Check, report, clear, listChecks, bad-frame, bad-slot}
+use Rattle.calls.specs.Refusals.{Check, report, none-holds, listChecks, bad-frame, bad-slot}
 use Rattle.calls.specs.Service.{classOf, whoWithin, bad-who, bad-length, lead, Reply, countChecks, service}
 use Rattle.calls.specs.declared.Who.{Who}
 use Rattle.calls.specs.declared.Who.the-variants.{Flow, Input, Output}
@@ -29,7 +29,7 @@ module _ (ports slots : ℕ) (list entries : List ℕ) (who : Who) (start len : 
   abbrev pub countLead : ℤ
   countLead = lead (classOf who) ports slots list entries (start - 1) len
 
-  reply-is : {numbers : List ℕ} {b : Bool} → clear checks ≡ b → report checks count ≡ numbers
+  reply-is : {numbers : List ℕ} {b : Bool} → none-holds checks ≡ b → report checks count ≡ numbers
       → _≡_ {A = Reply} (record { numbers = numbers; ahead = if b countLead (pos 0) }) (service ports slots list entries who start len)
   unfolding service
   reply-is c n = rw (c, n)
@@ -38,21 +38,21 @@ module _ (ports slots : ℕ) (list entries : List ℕ) (who : Who) (start len : 
   pub reply-refused : {numbers : List ℕ} → report checks count ≡ numbers → getD numbers 0 0 ≢ 0
       → _≡_ {A = Reply} (record { numbers = numbers; ahead = pos 0 }) (service ports slots list entries who start len)
   reply-refused e n =
-      byBool (clear checks)
+      byBool (none-holds checks)
       (λ c. absurd (n (ap (λ (l : List ℕ). getD l 0 0) (sym e ∙ report-clear checks count c))))
       (λ c. reply-is c e)
 
-  pub reply-counted : clear checks ≡ true → _≡_ {A = Reply} (record { numbers = count; ahead = countLead }) (service ports slots list entries who start len)
+  pub reply-counted : none-holds checks ≡ true → _≡_ {A = Reply} (record { numbers = count; ahead = countLead }) (service ports slots list entries who start len)
   reply-counted c = reply-is c (report-clear checks count c)
 
 -- ---- whom a count is for
 -- whom a count that is not refused is for is of the switch
-pub who-of : (ports : ℕ) (list : List ℕ) (who : Who) → whoWithin ports list who ≡ true → Of ports (classOf who)
+pub who-of : (ports : ℕ) (list : List ℕ) (who : Who) → whoWithin ports list who ≡ true → OnSwitch ports (classOf who)
 who-of ports list (Flow f) e = tt
 who-of ports list (Input i) e = let x = within-true 1 ports i e in omega (arith, x .0, x .1)
 who-of ports list (Output o) e = let x = within-true 1 ports o e in omega (arith, x .0, x .1)
 
-pub clear-who : (ports slots : ℕ) (list entries : List ℕ) (who : Who) (start len : ℕ) → clear (countChecks ports slots list entries who start len) ≡ true
+pub clear-who : (ports slots : ℕ) (list entries : List ℕ) (who : Who) (start len : ℕ) → none-holds (countChecks ports slots list entries who start len) ≡ true
     → whoWithin ports list who ≡ true
 unfolding countChecks
 clear-who ports slots list entries who start len e =

@@ -10,9 +10,9 @@ use lib.ListN.{length, getD}
 use lib.Pow.{pow-pos}
 use borrow.Author.Tests.{eqb-true, eqb-false, eq-eqb, ne-eqb, le-ltb, ltb-false, not-false}
 use Rattle.rules.specs.Words.{within, first, Every, Within}
-use Rattle.rules.specs.Flows.{stride, flows, numberOf, Side, inputs, links, placeOf}
+use Rattle.rules.specs.Flows.{stride, flows, numberOf, End, inputs, links, placeOf}
 use Rattle.calls.specs.Demand2.{Ported, Linked}
-use Rattle.calls.specs.Refusals.{Check, report, clear, refusal, accepted, bad-ports, bad-slots, bad-list, bad-flows, portsWithin, bad-flow, linkWithin, bad-link, bad-frame, bad-slot}
+use Rattle.calls.specs.Refusals.{Check, report, none-holds, refusal, accepted, bad-ports, bad-slots, bad-list, too-many-flows, portsWithin, port-outside, linkWithin, link-outside, bad-frame, bad-slot}
 use Rattle.rules.specs.Frames.{levels, Power}
 use Rattle.calls.specs.Service.{bad-length}
 use Rattle.calls.specs.declared.Refusal.{Refusal}
@@ -29,30 +29,30 @@ module _ (c : Check) (cs : List Check) (asked : List ℕ) where
   report-on e = rw e
 
 -- where none holds, what is asked for is reported
-pub report-clear : (cs : List Check) (asked : List ℕ) → clear cs ≡ true → report cs asked ≡ asked
+pub report-clear : (cs : List Check) (asked : List ℕ) → none-holds cs ≡ true → report cs asked ≡ asked
 report-clear [] asked = λ e. refl
 report-clear (c ∷ cs) asked =
     byBool (c .0) (λ b. rw b (λ e. absurd (true≢false (sym e)))) (λ b. rw b (λ e. report-clear cs asked e))
 
 -- where none of the first holds, the others decide
-pub clear-then : (cs ds : List Check) → clear cs ≡ true → clear (cs ++ ds) ≡ clear ds
+pub clear-then : (cs ds : List Check) → none-holds cs ≡ true → none-holds (cs ++ ds) ≡ none-holds ds
 clear-then [] ds = λ e. refl
 clear-then (c ∷ cs) ds =
     byBool (c .0) (λ b. rw b (λ e. absurd (true≢false (sym e)))) (λ b. rw b (λ e. clear-then cs ds e))
 
-pub report-then : (cs ds : List Check) (asked : List ℕ) → clear cs ≡ true → report (cs ++ ds) asked ≡ report ds asked
+pub report-then : (cs ds : List Check) (asked : List ℕ) → none-holds cs ≡ true → report (cs ++ ds) asked ≡ report ds asked
 report-then [] ds asked = λ e. refl
 report-then (c ∷ cs) ds asked =
     byBool (c .0) (λ b. rw b (λ e. absurd (true≢false (sym e)))) (λ b. rw b (λ e. report-then cs ds asked e))
 
 -- none of all holds where none of the first does and none of the others
-pub clear-parts : (cs ds : List Check) → clear (cs ++ ds) ≡ true → (clear cs ≡ true) × (clear ds ≡ true)
+pub clear-parts : (cs ds : List Check) → none-holds (cs ++ ds) ≡ true → (none-holds cs ≡ true) × (none-holds ds ≡ true)
 clear-parts [] ds = λ e. (refl, e)
 clear-parts (c ∷ cs) ds =
     byBool (c .0) (λ b. rw b (λ e. absurd (true≢false (sym e)))) (λ b. rw b (λ e. clear-parts cs ds e))
 
 -- where one holds, it does not matter what is asked for
-pub report-refused : (cs : List Check) (asked other : List ℕ) → clear cs ≡ false → report cs asked ≡ report cs other
+pub report-refused : (cs : List Check) (asked other : List ℕ) → none-holds cs ≡ false → report cs asked ≡ report cs other
 report-refused [] asked other = λ e. absurd (true≢false e)
 report-refused (c ∷ cs) asked other =
     byBool (c .0) (λ b. rw b (λ e. refl)) (λ b. rw b (λ e. report-refused cs asked other e))
@@ -81,12 +81,12 @@ abbrev pub Refuses : Check → Type 0
 Refuses c = getD (c .1) 0 0 ≢ 0
 
 -- what is reported of such checks has the number 0, as what is asked for has, where none holds, and only there
-pub clear-none : (cs : List Check) (asked : List ℕ) → Every Refuses cs → getD (report cs asked) 0 0 ≡ 0 → clear cs ≡ true
+pub clear-none : (cs : List Check) (asked : List ℕ) → Every Refuses cs → getD (report cs asked) 0 0 ≡ 0 → none-holds cs ≡ true
 clear-none [] asked r = λ e. refl
 clear-none (c ∷ cs) asked r =
     byBool (c .0) (λ b. rw b (λ e. absurd (r .0 e))) (λ b. rw b (λ e. clear-none cs asked (r .1) e))
 
-pub clear-some : (cs : List Check) (asked : List ℕ) → getD asked 0 0 ≡ 0 → getD (report cs asked) 0 0 ≢ 0 → clear cs ≡ false
+pub clear-some : (cs : List Check) (asked : List ℕ) → getD asked 0 0 ≡ 0 → getD (report cs asked) 0 0 ≢ 0 → none-holds cs ≡ false
 clear-some [] asked z = λ n. absurd (n z)
 clear-some (c ∷ cs) asked z = byBool (c .0) (λ b. rw b (λ n. refl)) (λ b. rw b (λ n. clear-some cs asked z n))
 
@@ -146,19 +146,19 @@ pub list-tells : (list : List ℕ) → Tells (bad-list list) (length list % stri
 list-tells list = size-tells (length list % stride) 0 _
 
 -- 21: it has at most 512
-pub flows-tells : (list : List ℕ) → Tells (bad-flows list) (flows list ≤ 512)
+pub flows-tells : (list : List ℕ) → Tells (too-many-flows list) (flows list ≤ 512)
 flows-tells list = most-tells 512 (flows list) _
 
 -- 22: the ports of each of them are 1 to ports
-pub ports-within : (ports : ℕ) (list : List ℕ) (f : ℕ) → portsWithin ports list f ≡ true → (s : Side) → Within 1 ports (numberOf (placeOf s) list f)
+pub ports-within : (ports : ℕ) (list : List ℕ) (f : ℕ) → portsWithin ports list f ≡ true → (s : End) → Within 1 ports (numberOf (placeOf s) list f)
 ports-within ports list f e inputs = within-true 1 ports (numberOf 0 list f) (both-true (within 1 ports (numberOf 0 list f)) (within 1 ports (numberOf 1 list f)) e .0)
 ports-within ports list f e links = within-true 1 ports (numberOf 1 list f) (both-true (within 1 ports (numberOf 0 list f)) (within 1 ports (numberOf 1 list f)) e .1)
 
-pub within-ports : (ports : ℕ) (list : List ℕ) (f : ℕ) → ((s : Side) → Within 1 ports (numberOf (placeOf s) list f)) → portsWithin ports list f ≡ true
+pub within-ports : (ports : ℕ) (list : List ℕ) (f : ℕ) → ((s : End) → Within 1 ports (numberOf (placeOf s) list f)) → portsWithin ports list f ≡ true
 within-ports ports list f w =
     both-yes _ _ (within-yes 1 ports (numberOf 0 list f) (w inputs .0) (w inputs .1)) (within-yes 1 ports (numberOf 1 list f) (w links .0) (w links .1))
 
-pub flow-tells : (ports : ℕ) (list : List ℕ) → Tells (bad-flow ports list) (Ported ports list)
+pub flow-tells : (ports : ℕ) (list : List ℕ) → Tells (port-outside ports list) (Ported ports list)
 flow-tells ports list =
     let t = search-tells (λ f. not (portsWithin ports list f)) (flows list) (22 ∷ []) in
     record {
@@ -167,7 +167,7 @@ flow-tells ports list =
     }
 
 -- 23: the link of each of them is 1 to 4
-pub link-tells : (list : List ℕ) → Tells (bad-link list) (Linked list)
+pub link-tells : (list : List ℕ) → Tells (link-outside list) (Linked list)
 link-tells list =
     let t = search-tells (λ f. not (linkWithin list f)) (flows list) (23 ∷ []) in
     record {

@@ -8,18 +8,18 @@ use native.Mathlib.Nat.{mul-div-cancel, mul-le-mul-right}
 use lib.Pow.{pow-pos}
 use lib.ListN.{length, getD, length-append}
 use Rattle.rules.specs.Words.{Near, sumTo}
-use Rattle.rules.specs.Flows.{flows, Side, portOf, countsOf, Fits}
+use Rattle.rules.specs.Flows.{flows, End, portOf, countsOf, Fits}
 use Rattle.rules.specs.Frames.{runOf, Block, levels}
 use Rattle.rules.specs.Rules.{Split, Scheduled}
 use Rattle.rules.specs.OddShares.{oddShares, settled}
 use Rattle.calls.specs.Work.{oddFlows, blockOf, work, EachOnce}
-use Rattle.calls.specs.Build.{buildAccepts, left}
+use Rattle.calls.specs.Build.{buildAccepts, frameAfter}
 use Rattle.rules.proofs.Cases.{byLt}
 use Rattle.rules.proofs.Sums.{sum-none, sum-ext, sum-shift, sum-append, sum-add, sum-most, sum-zero}
 use Rattle.rules.proofs.Levels.{pow-only, levels-of, power-level, depth-size, depth-fill, double}
 use Rattle.rules.proofs.Halves.{halves-fit}
 use Rattle.rules.proofs.Flows.{counts-length}
-use Rattle.rules.proofs.Slots.{Placed}
+use Rattle.rules.proofs.Slots.{AtInputs}
 use Rattle.rules.proofs.Cells.{run-all, run-first, run-second}
 use Rattle.rules.proofs.Blocks.{number-block, block-numbered}
 use Rattle.rules.proofs.OneFrame.{Laid, rules-sound}
@@ -119,7 +119,7 @@ shares-two k a b c e n =
     rw (x, y))
 
 -- the odd counts of a matrix, and those of its halves
-pub settled-halves : (port : Side → ℕ → ℕ) (k : ℕ) (m a b : List ℕ) → Split port m a b
+pub settled-halves : (port : End → ℕ → ℕ) (k : ℕ) (m a b : List ℕ) → Split port m a b
     → settled (suc k) m ≡ sumTo (length m) (λ p. getD m p 0 % 2) + (settled k a + settled k b)
 unfolding oddShares settled
 settled-halves port k m a b sp =
@@ -131,7 +131,7 @@ settled-halves port k m a b sp =
     ∙ ap (λ n. sumTo (length m) (λ p. getD m p 0 % 2) + n) (sum-add (length m) (share a) (share b) ∙ sym (ap₂ _+_ la lb))
 
 -- ---- whatever meets the rules: the frame's number is the splitting's own
-module _ (ports : ℕ) (list : List ℕ) (placed : Placed ports (portOf list) (flows list)) where
+module _ (ports : ℕ) (list : List ℕ) (placed : AtInputs ports (portOf list) (flows list)) where
   rules-deep : (k : ℕ) (m entries : List ℕ) → length m ≡ flows list → Fits ports (2 ^ k) (portOf list) m → Scheduled ports (portOf list) k m entries
       → deep ports k list entries ≡ settled k m
   unfolding Scheduled oddShares settled
@@ -159,14 +159,14 @@ module _ (ports : ℕ) (list : List ℕ) (placed : Placed ports (portOf list) (f
 
 -- so is Build's
 pub work-built : (ports slots : ℕ) (list limits buffer : List ℕ) → buildAccepts ports slots list limits buffer ≡ true
-    → work ports slots list (left ports slots list limits buffer) ≡ settled (levels slots) (countsOf list)
+    → work ports slots list (frameAfter ports slots list limits buffer) ≡ settled (levels slots) (countsOf list)
 work-built ports slots list limits buffer e =
     let a = accepts-is ports slots list limits buffer e in
     let b = build-frame ports slots list limits buffer e in
     let k = levels slots in
     let low : k ≤ 10 = (let n = a .well .power .most in omega (arith, power-level (a .well .power))) in
-    ap (λ (n : ℕ). work ports n list (left ports slots list limits buffer)) (b .1)
-    ∙ work-settled ports list (well-placed (a .well)) k (left ports slots list limits buffer) low
+    ap (λ (n : ℕ). work ports n list (frameAfter ports slots list limits buffer)) (b .1)
+    ∙ work-settled ports list (well-placed (a .well)) k (frameAfter ports slots list limits buffer) low
     (subst (λ (n : ℕ). Fits ports n (portOf list) (countsOf list)) (b .1) (a .fits)) (b .0 .meets)
 
 -- ---- a bound on them, for counts that need not fit: a count has fewer than there are slots

@@ -7,12 +7,12 @@ use mathlib.Core.List.{List, [], _∷_}
 use lib.IntN.{pos, negsuc}
 use lib.ListN.{length, getD, take, drop}
 use Rattle.rules.specs.Words.{Near, Within}
-use Rattle.rules.specs.Flows.{stride, flows, outputOf, portOf, countsOf, Class, flow, input, output, link, Of, load, Fits}
+use Rattle.rules.specs.Flows.{stride, flows, outputOf, portOf, countsOf, Class, flow, portOn, input, output, link, OnSwitch, load, Fits}
 use Rattle.rules.specs.Frames.{right, cells, runOf, repeated, Power, Legal, Block, Balanced}
 use Rattle.rules.specs.Rules.{Scheduled}
 use Rattle.calls.specs.Refusals.{admitted}
 use Rattle.calls.specs.Work.{work}
-use Rattle.calls.specs.Build.{left, built}
+use Rattle.calls.specs.Build.{frameAfter, built}
 use Rattle.calls.specs.Demand2.{Ported, Linked, Light, Over, Allows, Past, WellFormed, Accepts}
 use Rattle.calls.specs.Inspect.{inspected}
 use Rattle.calls.specs.Service.{viewNumber, viewStart, viewSize, viewed, Reply, service}
@@ -62,11 +62,11 @@ pub record SlotFound (ports slots : ℕ) (entries : List ℕ) (slot s : ℕ) : T
 -- by its output and its number there, and its load; or accepted, which is 0.
 pub data Admits (ports slots : ℕ) (list limits : List ℕ) : List ℕ → Type 0 where
   refused : {n : ℕ} → LoadRefused ports slots list n → Admits ports slots list limits (n ∷ [])
-  input-5 : WellFormed ports slots list → (x : ℕ) → Over input ports slots list x
-      → Admits ports slots list limits (5 ∷ suc x ∷ load (input x) list ∷ [])
-  output-6 : WellFormed ports slots list → Light input ports slots list → (x : ℕ) → Over output ports slots list x
-      → Admits ports slots list limits (6 ∷ suc x ∷ load (output x) list ∷ [])
-  link-24 : WellFormed ports slots list → Light input ports slots list → Light output ports slots list → (x : ℕ) → Past ports list limits x
+  input-5 : WellFormed ports slots list → (x : ℕ) → Over (portOn input) ports slots list x
+      → Admits ports slots list limits (5 ∷ suc x ∷ load (portOn input x) list ∷ [])
+  output-6 : WellFormed ports slots list → Light (portOn input) ports slots list → (x : ℕ) → Over (portOn output) ports slots list x
+      → Admits ports slots list limits (6 ∷ suc x ∷ load (portOn output x) list ∷ [])
+  link-24 : WellFormed ports slots list → Light (portOn input) ports slots list → Light (portOn output) ports slots list → (x : ℕ) → Past ports list limits x
       → Admits ports slots list limits (24 ∷ suc (outputOf x) ∷ suc (x % 4) ∷ load (link x) list ∷ [])
   accepted : WellFormed ports slots list → Fits ports slots (portOf list) (countsOf list) → Allows ports list limits
       → Admits ports slots list limits (0 ∷ [])
@@ -76,11 +76,11 @@ pub data Admits (ports slots : ℕ) (list limits : List ℕ) : List ℕ → Type
 -- that meet the rules.
 pub data Builds (ports slots : ℕ) (list limits buffer : List ℕ) : List ℕ × List ℕ → Type 0 where
   refused : {n : ℕ} → FrameRefused ports slots list buffer n → Builds ports slots list limits buffer (n ∷ [], buffer)
-  input-5 : WellFormed ports slots list → length buffer ≡ slots * ports → (x : ℕ) → Over input ports slots list x
-      → Builds ports slots list limits buffer (5 ∷ suc x ∷ load (input x) list ∷ [], buffer)
-  output-6 : WellFormed ports slots list → length buffer ≡ slots * ports → Light input ports slots list → (x : ℕ) → Over output ports slots list x
-      → Builds ports slots list limits buffer (6 ∷ suc x ∷ load (output x) list ∷ [], buffer)
-  link-24 : WellFormed ports slots list → length buffer ≡ slots * ports → Light input ports slots list → Light output ports slots list
+  input-5 : WellFormed ports slots list → length buffer ≡ slots * ports → (x : ℕ) → Over (portOn input) ports slots list x
+      → Builds ports slots list limits buffer (5 ∷ suc x ∷ load (portOn input x) list ∷ [], buffer)
+  output-6 : WellFormed ports slots list → length buffer ≡ slots * ports → Light (portOn input) ports slots list → (x : ℕ) → Over (portOn output) ports slots list x
+      → Builds ports slots list limits buffer (6 ∷ suc x ∷ load (portOn output x) list ∷ [], buffer)
+  link-24 : WellFormed ports slots list → length buffer ≡ slots * ports → Light (portOn input) ports slots list → Light (portOn output) ports slots list
       → (x : ℕ) → Past ports list limits x
       → Builds ports slots list limits buffer (24 ∷ suc (outputOf x) ∷ suc (x % 4) ∷ load (link x) list ∷ [], buffer)
   accepted : (a : Accepts ports slots list limits buffer) (entries : List ℕ)
@@ -112,7 +112,7 @@ pub record FirstWrong (rows width : ℕ) (Fact : ℕ → ℕ → Type 0) (r c : 
 -- The halves, half slots each from slot start on, differ by at most 1 for each flow, input, output and link and in total.
 abbrev pub HalvesNear : ℕ → List ℕ → List ℕ → ℕ → ℕ → Type 0
 HalvesNear ports list entries start half =
-    (c : Class) → Of ports c → Near 1 (cells c ports list (runOf ports start half entries)) (cells c ports list (runOf ports (start + half) half entries))
+    (c : Class) → OnSwitch ports c → Near 1 (cells c ports list (runOf ports start half entries)) (cells c ports list (runOf ports (start + half) half entries))
 
 -- The block of twice half slots from slot start on is the largest that is not so, and of those the earliest.
 pub record FirstUnbalanced (ports slots : ℕ) (list entries : List ℕ) (start half : ℕ) : Type 0 where
@@ -126,7 +126,7 @@ abbrev pub EntryRight : ℕ → List ℕ → List ℕ → ℕ → ℕ → Type 0
 EntryRight ports list entries s i = right list i (getD entries (s * ports + i) 0) ≡ true
 
 abbrev pub OutputOnce : ℕ → List ℕ → List ℕ → ℕ → ℕ → Type 0
-OutputOnce ports list entries s o = cells (output o) ports list (runOf ports s 1 entries) ≤ 1
+OutputOnce ports list entries s o = cells (portOn output o) ports list (runOf ports s 1 entries) ≤ 1
 
 abbrev pub CountRight : ℕ → List ℕ → List ℕ → ℕ → Type 0
 CountRight ports list entries f = cells (flow f) ports list entries ≡ load (flow f) list
@@ -157,8 +157,8 @@ pub data Views (ports slots : ℕ) (entries : List ℕ) (slot : ℕ) : ℕ × �
 -- Whom a count is for, by numbers from 1, and what is counted, by numbers from 0.
 pub data Names (ports : ℕ) (list : List ℕ) : Who → Class → Type 0 where
   of-flow : {f : ℕ} → f < flows list → Names ports list (Flow (suc f)) (flow f)
-  of-input : {i : ℕ} → i < ports → Names ports list (Input (suc i)) (input i)
-  of-output : {o : ℕ} → o < ports → Names ports list (Output (suc o)) (output o)
+  of-input : {i : ℕ} → i < ports → Names ports list (Input (suc i)) (portOn input i)
+  of-output : {o : ℕ} → o < ports → Names ports list (Output (suc o)) (portOn output o)
 
 -- A run of a frame of a list begins at slot s + 1.
 pub record RunFound (ports slots : ℕ) (list entries : List ℕ) (start s : ℕ) : Type 0 where
@@ -190,7 +190,7 @@ pub data Counts (ports slots : ℕ) (list entries : List ℕ) (who : Who) (start
 pub record ByCases : Type 0 where
   pub admit : (ports slots : ℕ) (list limits : List ℕ) → Exactly (Admits ports slots list limits) (admitted ports slots list limits)
   pub build : (ports slots : ℕ) (list limits buffer : List ℕ)
-      → Exactly (Builds ports slots list limits buffer) (built ports slots list limits buffer, left ports slots list limits buffer)
+      → Exactly (Builds ports slots list limits buffer) (built ports slots list limits buffer, frameAfter ports slots list limits buffer)
   pub inspect : (ports slots : ℕ) (list entries : List ℕ) → Exactly (Inspects ports slots list entries) (inspected ports slots list entries)
   pub view : (ports slots : ℕ) (entries : List ℕ) (slot : ℕ)
       → Exactly (Views ports slots entries slot) (viewNumber ports slots entries slot, viewStart ports slots entries slot, viewSize ports slots entries slot, viewed ports slots entries slot)

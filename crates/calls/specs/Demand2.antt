@@ -6,15 +6,15 @@ use mathlib.Core.List.{List, [], _∷_}
 use mathlib.Core.Bool.{true, false}
 use lib.ListN.{length, getD}
 use Rattle.rules.specs.Words.{Within}
-use Rattle.rules.specs.Flows.{stride, flows, numberOf, Side, placeOf, outputOf, portOf, countsOf, Class, input, output, link, load, Fits}
+use Rattle.rules.specs.Flows.{stride, flows, numberOf, End, placeOf, outputOf, portOf, countsOf, Class, portOn, input, output, link, load, Fits}
 use Rattle.rules.specs.Frames.{levels, Power}
 use Rattle.rules.specs.OneFrame.{OneFrame}
 use Rattle.calls.specs.Refusals.{accepted, admitted}
-use Rattle.calls.specs.Build.{acceptance, built, buildAccepts, left}
+use Rattle.calls.specs.Build.{acceptance, built, buildAccepts, frameAfter}
 
 -- The ports of each flow are 1 to ports, and its link is 1 to 4.
 abbrev pub Ported : ℕ → List ℕ → Type 0
-Ported ports list = (s : Side) (f : ℕ) → f < flows list → Within 1 ports (numberOf (placeOf s) list f)
+Ported ports list = (s : End) (f : ℕ) → f < flows list → Within 1 ports (numberOf (placeOf s) list f)
 
 abbrev pub Linked : List ℕ → Type 0
 Linked list = (f : ℕ) → f < flows list → Within 1 4 (numberOf 3 list f)
@@ -61,11 +61,11 @@ pub record OverloadAnswers (ports slots : ℕ) (list limits taken given : List �
   pub fits : getD given 0 0 ≡ 0 → Fits ports slots (portOf list) (countsOf list)
   pub allowed : getD given 0 0 ≡ 0 → Allows ports list limits
   -- 5 with the lowest input that is asked for more, and its load
-  pub input-over : (x : ℕ) → Over input ports slots list x → given ≡ 5 ∷ suc x ∷ load (input x) list ∷ []
+  pub input-over : (x : ℕ) → Over (portOn input) ports slots list x → given ≡ 5 ∷ suc x ∷ load (portOn input x) list ∷ []
   -- 6, where no input is, with the lowest output that is asked for more, and its load
-  pub output-over : Light input ports slots list → (x : ℕ) → Over output ports slots list x → given ≡ 6 ∷ suc x ∷ load (output x) list ∷ []
+  pub output-over : Light (portOn input) ports slots list → (x : ℕ) → Over (portOn output) ports slots list x → given ≡ 6 ∷ suc x ∷ load (portOn output x) list ∷ []
   -- 24, where no port is, with the lowest link that is asked for more, by its output and its number there, and its load
-  pub link-over : Light input ports slots list → Light output ports slots list → (x : ℕ) → Past ports list limits x
+  pub link-over : Light (portOn input) ports slots list → Light (portOn output) ports slots list → (x : ℕ) → Past ports list limits x
       → given ≡ 24 ∷ suc (outputOf x) ∷ suc (x % 4) ∷ load (link x) list ∷ []
 
 -- What Build accepts: a well-formed load that fits, limits that allow it, and a frame of the right size.
@@ -88,7 +88,7 @@ pub record Demand2 : Type 0 where
       → Accepts ports slots list limits buffer
   -- and then leaves the frame that the rules fix, which is legal and balanced
   pub frame : (ports slots : ℕ) (list limits buffer : List ℕ) → buildAccepts ports slots list limits buffer ≡ true
-      → OneFrame ports (levels slots) list (left ports slots list limits buffer) × (slots ≡ 2 ^ levels slots)
+      → OneFrame ports (levels slots) list (frameAfter ports slots list limits buffer) × (slots ≡ 2 ^ levels slots)
   -- and else the entries that it was lent
   pub keeps : (ports slots : ℕ) (list limits buffer : List ℕ) → buildAccepts ports slots list limits buffer ≡ false
-      → left ports slots list limits buffer ≡ buffer
+      → frameAfter ports slots list limits buffer ≡ buffer

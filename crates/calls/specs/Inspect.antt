@@ -5,7 +5,7 @@ use mathlib.Core.Bool.{Bool, true, not}
 use lib.Dec.{eqb, ltb}
 use lib.ListN.{getD}
 use Rattle.rules.specs.Words.{both, near, upFrom, first}
-use Rattle.rules.specs.Flows.{flows, Class, flow, input, output, link, total, load}
+use Rattle.rules.specs.Flows.{flows, Class, flow, portOn, input, output, link, total, load}
 use Rattle.rules.specs.Frames.{right, cells, runOf, levels}
 use Rattle.calls.specs.Refusals.{Check, report, refusal, listChecks, bad-frame}
 use Rattle.calls.specs.declared.Inspection.{Inspection}
@@ -36,7 +36,7 @@ wrongEntry ports slots list entries = firstPlace 101 (isWrong ports list entries
 
 -- An output used twice in a slot: lowest slot, then output.
 unfoldable pub twiceIn : ℕ → List ℕ → List ℕ → ℕ → Bool
-twiceIn ports list slot o = ltb 1 (cells (output o) ports list slot)
+twiceIn ports list slot o = ltb 1 (cells (portOn output o) ports list slot)
 
 unfoldable pub usedTwice : ℕ → List ℕ → List ℕ → ℕ → Bool
 usedTwice ports list entries q = twiceIn ports list (runOf ports (q / ports) 1 entries) (q % ports)
@@ -57,7 +57,7 @@ flowCount ports list entries =
 abbrev pub classes : ℕ → List ℕ → List Class
 classes ports list =
     map flow (upFrom 0 (flows list))
-    ++ (map input (upFrom 0 ports) ++ (map output (upFrom 0 ports) ++ (map link (upFrom 0 (ports * 4)) ++ (total ∷ []))))
+    ++ (map (portOn input) (upFrom 0 ports) ++ (map (portOn output) (upFrom 0 ports) ++ (map link (upFrom 0 (ports * 4)) ++ (total ∷ []))))
 
 abbrev pub all : (Class → Bool) → List Class → Bool
 all t [] = true

@@ -5,7 +5,7 @@ use mathlib.Core.Bool.{Bool, true, not}
 use lib.Dec.{eqb, ltb}
 use lib.ListN.{length, getD, replicate}
 use Rattle.rules.specs.Words.{if, both, within, first}
-use Rattle.rules.specs.Flows.{stride, flows, numberOf, inputs, links, outputOf, placeOf, Class, input, output, link, load}
+use Rattle.rules.specs.Flows.{stride, flows, numberOf, inputs, links, outputOf, placeOf, Class, portOn, input, output, link, load}
 use Rattle.rules.specs.Frames.{levels}
 use Rattle.calls.specs.declared.Refusal.{Refusal}
 use Rattle.calls.specs.declared.Refusal.the-variants.{Ports, Slots, ListLength, FrameLength, InputLoad, OutputLoad, LineForm, LinePort, SheetLength, SlotNumber, FlowOrPort, RunLength, TooManyFlows, FlowPort, FlowLink, LinkLoad}
@@ -48,9 +48,9 @@ report [] asked = asked
 report (c ∷ cs) asked = if (c .0) (c .1) (report cs asked)
 
 -- No condition holds.
-abbrev pub clear : List Check → Bool
-clear [] = true
-clear (c ∷ cs) = both (not (c .0)) (clear cs)
+abbrev pub none-holds : List Check → Bool
+none-holds [] = true
+none-holds (c ∷ cs) = both (not (c .0)) (none-holds cs)
 
 -- 1: ports not 1 to 16.
 abbrev pub bad-ports : ℕ → Check
@@ -65,26 +65,26 @@ abbrev pub bad-list : List ℕ → Check
 bad-list list = (not (eqb (length list % stride) 0), 3 ∷ [])
 
 -- 21: more than 512 flows.
-abbrev pub bad-flows : List ℕ → Check
-bad-flows list = (ltb 512 (flows list), 21 ∷ [])
+abbrev pub too-many-flows : List ℕ → Check
+too-many-flows list = (ltb 512 (flows list), 21 ∷ [])
 
 -- 22: a flow's input or output outside 1 to ports.
 abbrev pub portsWithin : ℕ → List ℕ → ℕ → Bool
 portsWithin ports list f = both (within 1 ports (numberOf (placeOf inputs) list f)) (within 1 ports (numberOf (placeOf links) list f))
 
-abbrev pub bad-flow : ℕ → List ℕ → Check
-bad-flow ports list = (ltb (first (λ f. not (portsWithin ports list f)) 0 (flows list)) (flows list), 22 ∷ [])
+abbrev pub port-outside : ℕ → List ℕ → Check
+port-outside ports list = (ltb (first (λ f. not (portsWithin ports list f)) 0 (flows list)) (flows list), 22 ∷ [])
 
 -- 23: a flow's link outside 1 to 4.
 abbrev pub linkWithin : List ℕ → ℕ → Bool
 linkWithin list f = within 1 4 (numberOf 3 list f)
 
-abbrev pub bad-link : List ℕ → Check
-bad-link list = (ltb (first (λ f. not (linkWithin list f)) 0 (flows list)) (flows list), 23 ∷ [])
+abbrev pub link-outside : List ℕ → Check
+link-outside list = (ltb (first (λ f. not (linkWithin list f)) 0 (flows list)) (flows list), 23 ∷ [])
 
 -- What is tried first wherever a list is taken: 1, 2, 3, 21, 22, 23.
 abbrev pub listChecks : ℕ → ℕ → List ℕ → List Check
-listChecks ports slots list = bad-ports ports ∷ bad-slots slots ∷ bad-list list ∷ bad-flows list ∷ bad-flow ports list ∷ bad-link list ∷ []
+listChecks ports slots list = bad-ports ports ∷ bad-slots slots ∷ bad-list list ∷ too-many-flows list ∷ port-outside ports list ∷ link-outside list ∷ []
 
 -- 4: frame length not slots × ports.
 abbrev pub bad-frame : ℕ → ℕ → List ℕ → Check
@@ -105,7 +105,7 @@ abbrev pub overload : ℕ → (ℕ → Class) → ℕ → ℕ → List ℕ → C
 overload number kind ports slots list = aboveSlots number ports slots (λ x. load (kind x) list)
 
 abbrev pub portOverloads : ℕ → ℕ → List ℕ → List Check
-portOverloads ports slots list = overload 5 input ports slots list ∷ overload 6 output ports slots list ∷ []
+portOverloads ports slots list = overload 5 (portOn input) ports slots list ∷ overload 6 (portOn output) ports slots list ∷ []
 
 -- The lowest of the links of so many outputs whose load is above its own cells per frame; their number where there is none. The 64
 -- limits stand output by output, as links are numbered.

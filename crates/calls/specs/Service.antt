@@ -6,9 +6,9 @@ use lib.Dec.{ltb}
 use lib.ListN.{getD, take, drop}
 use lib.IntN.{ℤ, pos, _-ℤ_}
 use Rattle.rules.specs.Words.{if, within}
-use Rattle.rules.specs.Flows.{flows, Class, flow, input, output}
+use Rattle.rules.specs.Flows.{flows, Class, flow, portOn, input, output}
 use Rattle.rules.specs.Frames.{cells, repeated}
-use Rattle.calls.specs.Refusals.{Check, report, clear, accepted, refusal, bad-ports, bad-slots, listChecks, bad-frame, bad-slot}
+use Rattle.calls.specs.Refusals.{Check, report, none-holds, accepted, refusal, bad-ports, bad-slots, listChecks, bad-frame, bad-slot}
 use Rattle.calls.specs.declared.Who.{Who}
 use Rattle.calls.specs.declared.Who.the-variants.{Flow, Input, Output}
 use Rattle.calls.specs.declared.Service.{Service}
@@ -24,10 +24,10 @@ viewNumber ports slots entries slot = getD (report (viewChecks ports slots entri
 
 -- Where in the caller's frame the part begins, and how many entries it has: the slot's, and none on refusal.
 abbrev pub viewStart : ℕ → ℕ → List ℕ → ℕ → ℕ
-viewStart ports slots entries slot = if (clear (viewChecks ports slots entries slot)) ((slot - 1) * ports) 0
+viewStart ports slots entries slot = if (none-holds (viewChecks ports slots entries slot)) ((slot - 1) * ports) 0
 
 abbrev pub viewSize : ℕ → ℕ → List ℕ → ℕ → ℕ
-viewSize ports slots entries slot = if (clear (viewChecks ports slots entries slot)) ports 0
+viewSize ports slots entries slot = if (none-holds (viewChecks ports slots entries slot)) ports 0
 
 abbrev pub viewed : ℕ → ℕ → List ℕ → ℕ → List ℕ
 viewed ports slots entries slot = take (viewSize ports slots entries slot) (drop (viewStart ports slots entries slot) entries)
@@ -35,8 +35,8 @@ viewed ports slots entries slot = take (viewSize ports slots entries slot) (drop
 -- Whom a count is for, as what is counted.
 abbrev pub classOf : Who → Class
 classOf (Flow f) = flow (f - 1)
-classOf (Input i) = input (i - 1)
-classOf (Output o) = output (o - 1)
+classOf (Input i) = (portOn input) (i - 1)
+classOf (Output o) = (portOn output) (o - 1)
 
 abbrev pub whoWithin : ℕ → List ℕ → Who → Bool
 whoWithin ports list (Flow f) = within 1 (flows list) f
@@ -84,5 +84,5 @@ service ports slots list entries who start len =
     let checks = countChecks ports slots list entries who start len in
     record {
       numbers = report checks (0 ∷ cells (classOf who) ports list (repeated ports slots entries (start - 1) len) ∷ []);
-      ahead = if (clear checks) (lead (classOf who) ports slots list entries (start - 1) len) (pos 0);
+      ahead = if (none-holds checks) (lead (classOf who) ports slots list entries (start - 1) len) (pos 0);
     }

@@ -2,7 +2,7 @@
 // values, of Admit and Build up to three; a count's second is signed.
 ghost use mathlib.Core.Path.{_≡_};
 ghost use Rattle.calls.specs.Refusals.{admitted};
-ghost use Rattle.calls.specs.Build.{built, left};
+ghost use Rattle.calls.specs.Build.{built, frameAfter};
 ghost use Rattle.calls.specs.Inspect.{inspected};
 ghost use Rattle.calls.specs.Service.{viewNumber, viewStart, viewSize, service};
 ghost use Rattle.numbers.specs.Numbers.{Three, Four, Replied};
@@ -62,7 +62,7 @@ pub extern "C" fn frame_builder_build(
 ) -> usize
     ensures { λ r. ⌜ Four (built ports slots (now (list .entry)) (now (limits .entry)) (now (frame .entry))) r
         (now (first .exit)) (now (second .exit)) (now (third .exit)) ⌝ }
-    ensures { λ _. ⌜ now (frame .exit) ≡ left ports slots (now (list .entry)) (now (limits .entry)) (now (frame .entry)) ⌝ }
+    ensures { λ _. ⌜ now (frame .exit) ≡ frameAfter ports slots (now (list .entry)) (now (limits .entry)) (now (frame .entry)) ⌝ }
 {
     let n = numbers::of_built(schedule::build(ports, slots, list, *limits, frame));
     *first = n.first;

@@ -23,7 +23,7 @@ use Rattle.rules.proofs.Levels.{power-level}
 use Rattle.calls.proofs.Demand2.{past-load, past-frame}
 use Rattle.admission.specs.Lists.{ListAnswer}
 use Rattle.admission.proofs.Listed.{list-refused, list-well}
-use Rattle.tally.specs.Tally.{Readable}
+use Rattle.tally.specs.Tally.{RightFrame}
 use Rattle.inspection.specs.Faults.{Lent, faults}
 use Rattle.inspection.proofs.Found.{slots-low}
 
@@ -59,7 +59,7 @@ module _ (ports slots : ℕ) (list frame : List ℕ) (l : Lent ports slots list 
     pub wrong-entry : q < length frame → 101 ∷ (q / ports + 1) ∷ (q % ports + 1) ∷ [] ≡ faults ports slots list frame
     wrong-entry h = place-found 101 ports (slots * ports) q (isWrong ports list frame) e after-one (0 ∷ []) (omega (arith, l .size))
 
-    pub readable : length frame ≤ q → Readable ports slots list frame
+    pub readable : length frame ≤ q → RightFrame ports slots list frame
     unfolding isWrong
     readable h =
         record {

@@ -12,7 +12,7 @@ use mir.Syntax.{w64}
 use mir.Val.{Fits}
 use borrow.Author.Tests.{lt-ltb, le-ltb, eq-eqb, ne-eqb}
 use Rattle.rules.specs.Words.{first}
-use Rattle.rules.specs.Flows.{flows, numberOf, inputs, portOf, countsOf, flow, output, load}
+use Rattle.rules.specs.Flows.{flows, numberOf, inputs, portOf, countsOf, flow, portOn, output, load}
 use Rattle.rules.specs.Frames.{right, cells, runOf}
 use Rattle.calls.specs.Inspect.{isWrong, twiceIn, usedTwice, wrongCount}
 use Rattle.rules.proofs.Cases.{byEq, byLt, within-yes, within-above}
@@ -22,7 +22,7 @@ use Rattle.rules.proofs.Halves.{load-flow}
 use Rattle.rules.proofs.Flows.{counts-at}
 use Rattle.rules.proofs.Cells.{run-all}
 use Rattle.calls.specs.Demand2.{Ported}
-use Rattle.tally.specs.Tally.{Readable, tallyOf}
+use Rattle.tally.specs.Tally.{RightFrame, tallyOf}
 use Rattle.tally.proofs.Tallies.{tally-class}
 use Rattle.inspection.specs.Faults.{Lent, wrongIn}
 
@@ -58,7 +58,7 @@ slots-low {ports} {slots} l = let h = l .power in rw (levels-power slots (omega 
 lent-low : {ports slots : ℕ} {list entries : List ℕ} → Lent ports slots list entries → slots * ports ≤ 16384
 lent-low {ports} {slots} l = let k : slots * ports ≤ 1024 * 16 = mul-le-mul (slots-low l) (l .switch .high) in omega arith
 
-pub frame-low : {ports slots : ℕ} {list frame : List ℕ} → Readable ports slots list frame → slots * ports ≤ 16384
+pub frame-low : {ports slots : ℕ} {list frame : List ℕ} → RightFrame ports slots list frame → slots * ports ≤ 16384
 frame-low {ports} {slots} r = let k : slots * ports ≤ 1024 * 16 = mul-le-mul (r .slots-most) (r .switch .high) in omega arith
 
 -- the ports of its flows are of the largest switch too
@@ -93,17 +93,17 @@ module _ {ports slots slot : ℕ} {list frame : List ℕ} (l : Lent ports slots 
       wrong-found p f = passed-found p (omega arith) (rw (sym is) (sym told ∙ f))
 
 -- ---- outputs used twice in a slot
-module _ (ports slots o : ℕ) (list frame slot tally : List ℕ) (r : Readable ports slots list frame) (y : tally ≡ tallyOf ports list slot) where
-  uses : o < ports → getD tally (528 + o) 0 ≡ cells (output o) ports list slot
-  uses h = tally-class ports list slot tally (r .switch) y (output o) h
+module _ (ports slots o : ℕ) (list frame slot tally : List ℕ) (r : RightFrame ports slots list frame) (y : tally ≡ tallyOf ports list slot) where
+  uses : o < ports → getD tally (528 + o) 0 ≡ cells (portOn output o) ports list slot
+  uses h = tally-class ports list slot tally (r .switch) y (portOn output o) h
 
   pub twice-on : Passed (twiceIn ports list slot) 0 ports o → o < ports → getD tally (528 + o) 0 ≤ 1 → Passed (twiceIn ports list slot) 0 ports (o + 1)
   unfolding twiceIn
-  twice-on p h l = passed-on p (omega arith) (le-ltb 1 (cells (output o) ports list slot) (omega (arith, uses h)))
+  twice-on p h l = passed-on p (omega arith) (le-ltb 1 (cells (portOn output o) ports list slot) (omega (arith, uses h)))
 
   pub twice-found : Passed (twiceIn ports list slot) 0 ports o → o < ports → 1 < getD tally (528 + o) 0 → o ≡ first (twiceIn ports list slot) 0 ports
   unfolding twiceIn
-  twice-found p h l = passed-found p (omega arith) (lt-ltb 1 (cells (output o) ports list slot) (omega (arith, uses h)))
+  twice-found p h l = passed-found p (omega arith) (lt-ltb 1 (cells (portOn output o) ports list slot) (omega (arith, uses h)))
 
 -- ---- flows in the wrong number of slots
 pub record Counting (ports slots : ℕ) (list frame tally : List ℕ) (n f : ℕ) : Type 0 where
@@ -115,7 +115,7 @@ pub counting-start : {ports slots n : ℕ} {list frame tally : List ℕ} → n �
     → Counting ports slots list frame tally n 0
 counting-start {ports} {slots} {n} {list} {frame} e y = record { all = e; tallied = y; passed = passed-start (wrongCount ports list frame) 0 (flows list) }
 
-module _ {ports slots n f : ℕ} {list frame tally : List ℕ} (r : Readable ports slots list frame) (c : Counting ports slots list frame tally n f) (h : f < n) where
+module _ {ports slots n f : ℕ} {list frame tally : List ℕ} (r : RightFrame ports slots list frame) (c : Counting ports slots list frame tally n f) (h : f < n) where
   pub counting-in : f < flows list
   counting-in = omega (arith, c .all)
 
@@ -209,7 +209,7 @@ module _ {ports slots s o : ℕ} {list frame : List ℕ} (l : Lent ports slots l
   pub entries-fits : o < ports → Fits w64 (s * ports + o)
   entries-fits k = column-fits ports slots s o (lent-low l) h k
 
-module _ {ports slots s o : ℕ} {list frame : List ℕ} (r : Readable ports slots list frame) (h : s < slots) (e : o ≡ first (twiceIn ports list (runOf ports s 1 frame)) 0 ports) where
+module _ {ports slots s o : ℕ} {list frame : List ℕ} (r : RightFrame ports slots list frame) (h : s < slots) (e : o ≡ first (twiceIn ports list (runOf ports s 1 frame)) 0 ports) where
   in-slot : (s u : ℕ) → u < ports → usedTwice ports list frame (s * ports + u) ≡ twiceIn ports list (runOf ports s 1 frame) u
   unfolding usedTwice
   in-slot s u k = rw (digits-div s k, digits-mod s k)
@@ -226,7 +226,7 @@ module _ {ports slots s o : ℕ} {list frame : List ℕ} (r : Readable ports slo
   pub outputs-fits : o < ports → Fits w64 (s * ports + o)
   outputs-fits k = column-fits ports slots s o (frame-low r) h k
 
-pub whole-fits : {ports slots : ℕ} {list frame : List ℕ} → Readable ports slots list frame → Fits w64 (slots * ports)
+pub whole-fits : {ports slots : ℕ} {list frame : List ℕ} → RightFrame ports slots list frame → Fits w64 (slots * ports)
 whole-fits r = record { fits = (let k = frame-low r in omega arith) }
 
 pub lent-fits : {ports slots : ℕ} {list frame : List ℕ} → Lent ports slots list frame → Fits w64 (slots * ports)

@@ -7,7 +7,7 @@ ghost use Rattle.rules.specs.Flows.{flows};
 ghost use Rattle.rules.specs.Frames.{right, runOf};
 ghost use Rattle.calls.specs.Inspect.{finding, isWrong, twiceIn, usedTwice, wrongCount, inspected};
 ghost use Rattle.calls.specs.Demand2.{Ported};
-ghost use Rattle.tally.specs.Tally.{Readable};
+ghost use Rattle.tally.specs.Tally.{RightFrame};
 ghost use Rattle.inspection.specs.Faults.{Lent, wrongIn, faults};
 use admission::bad_length;
 use balance::unbalanced_block;
@@ -67,7 +67,7 @@ fn first_wrong(ports: usize, slots: usize, list: &[u16], frame: &[u16]) -> usize
 
 // The lowest output that a slot uses twice; ports where there is none.
 fn lowest_twice(ports: usize, slots: usize, list: &[u16], frame: &[u16], slot: usize) -> usize
-    requires { ⌜ Readable ports slots (now list) (now frame) × (slot < slots) ⌝ }
+    requires { ⌜ RightFrame ports slots (now list) (now frame) × (slot < slots) ⌝ }
     ensures { λ r. ⌜ r ≡ first (twiceIn ports (now (list .entry)) (runOf ports slot 1 (now (frame .entry)))) 0 ports ⌝ }
 {
     let mut tally = [0u16; 609];
@@ -84,7 +84,7 @@ fn lowest_twice(ports: usize, slots: usize, list: &[u16], frame: &[u16], slot: u
 
 // The place of the first output that is used twice in a slot; the frame's length where there is none.
 fn first_twice(ports: usize, slots: usize, list: &[u16], frame: &[u16]) -> usize
-    requires { ⌜ Readable ports slots (now list) (now frame) ⌝ }
+    requires { ⌜ RightFrame ports slots (now list) (now frame) ⌝ }
     ensures { λ r. ⌜ r ≡ first (usedTwice ports (now (list .entry)) (now (frame .entry))) 0 (slots * ports) ⌝ }
 {
     let mut s: usize = 0;
@@ -100,7 +100,7 @@ fn first_twice(ports: usize, slots: usize, list: &[u16], frame: &[u16]) -> usize
 
 // The first flow that is in the wrong number of slots; how many flows there are where there is none.
 fn first_wrong_count(ports: usize, slots: usize, list: &[u16], frame: &[u16]) -> usize
-    requires { ⌜ Readable ports slots (now list) (now frame) ⌝ }
+    requires { ⌜ RightFrame ports slots (now list) (now frame) ⌝ }
     ensures { λ r. ⌜ r ≡ first (wrongCount ports (now (list .entry)) (now (frame .entry))) 0 (flows (now (list .entry))) ⌝ }
 {
     let mut tally = [0u16; 609];

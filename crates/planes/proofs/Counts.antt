@@ -11,7 +11,7 @@ use Rattle.rules.specs.Words.{upFrom, keep}
 use Rattle.rules.specs.Rules.{odd}
 use Rattle.rules.proofs.Kept.{keep-same}
 use Rattle.planes.specs.Digits.{digit, binary}
-use Rattle.planes.specs.Planes.{digitIn, digitAt, countAt, each, counts, oddAt, oddsIn, spanOf, Ends, Block}
+use Rattle.planes.specs.Planes.{digitIn, digitAt, countAt, each, countsIn, oddAt, oddsIn, spanOf, Ends, BlockPlanes}
 use Rattle.planes.proofs.Digits.{digit-most, binary-up}
 
 -- ---- lists of counts
@@ -34,17 +34,17 @@ each-is f a (x ∷ l) e =
     ap₂ (λ (y : ℕ) (z : List ℕ). y ∷ z) (ap f (omega arith) ∙ e 0 (omega arith))
     (each-is f (suc a) l (λ p k. ap f (omega arith) ∙ e (suc p) (omega arith)))
 
-pub counts-length : (k : ℕ) (planes : List ℕ) (n : ℕ) → length (counts k planes n) ≡ n
-unfolding counts
+pub counts-length : (k : ℕ) (planes : List ℕ) (n : ℕ) → length (countsIn k planes n) ≡ n
+unfolding countsIn
 counts-length k planes n = each-length (countAt k planes) 0 n
 
-pub counts-at : (k : ℕ) (planes : List ℕ) (n p : ℕ) → p < n → getD (counts k planes n) p 0 ≡ countAt k planes p
-unfolding counts
+pub counts-at : (k : ℕ) (planes : List ℕ) (n p : ℕ) → p < n → getD (countsIn k planes n) p 0 ≡ countAt k planes p
+unfolding countsIn
 counts-at k planes n p h = each-at (countAt k planes) 0 n p h ∙ ap (countAt k planes) (omega arith)
 
 -- a list that has the count of each position
-pub counts-are : (k : ℕ) (planes l : List ℕ) → ((p : ℕ) → p < length l → countAt k planes p ≡ getD l p 0) → counts k planes (length l) ≡ l
-unfolding counts
+pub counts-are : (k : ℕ) (planes l : List ℕ) → ((p : ℕ) → p < length l → countAt k planes p ≡ getD l p 0) → countsIn k planes (length l) ≡ l
+unfolding countsIn
 counts-are k planes l e = each-is (countAt k planes) 0 l (λ p h. ap (countAt k planes) (omega arith) ∙ e p h)
 
 -- ---- odd counts, by the lowest plane
@@ -68,15 +68,15 @@ pub count-one : (planes : List ℕ) (p : ℕ) → countAt 1 planes p ≡ digitAt
 unfolding binary
 count-one planes p = count-parts 0 planes p ∙ omega arith
 
-pub odd-is : (m : ℕ) (planes : List ℕ) (n p : ℕ) → p < n → oddAt planes p ≡ odd (counts (suc m) planes n) p
+pub odd-is : (m : ℕ) (planes : List ℕ) (n p : ℕ) → p < n → oddAt planes p ≡ odd (countsIn (suc m) planes n) p
 odd-is m planes n p h =
     ap (λ (x : ℕ). eqb x 1) (sym (count-odd m planes p) ∙ ap (λ (x : ℕ). x % 2) (sym (counts-at (suc m) planes n p h)))
 
-pub odds-are : (m n : ℕ) (planes : List ℕ) → oddsIn n planes ≡ keep (odd (counts (suc m) planes n)) (upFrom 0 n)
-odds-are m n planes = keep-same (oddAt planes) (odd (counts (suc m) planes n)) 0 n (λ p h. odd-is m planes n p (omega arith))
+pub odds-are : (m n : ℕ) (planes : List ℕ) → oddsIn n planes ≡ keep (odd (countsIn (suc m) planes n)) (upFrom 0 n)
+odds-are m n planes = keep-same (oddAt planes) (odd (countsIn (suc m) planes n)) 0 n (λ p h. odd-is m planes n p (omega arith))
 
 -- ---- blocks
-pub block-ends : {m n : ℕ} {planes : List ℕ} → Block m n planes → Ends n planes
+pub block-ends : {m n : ℕ} {planes : List ℕ} → BlockPlanes m n planes → Ends n planes
 block-ends {m} {n} {planes} b =
     record {
       few = b .few;

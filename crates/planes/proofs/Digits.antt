@@ -11,7 +11,7 @@ use lib.Pow.{shr-shr, shl-exact}
 use borrow.Author.Tests.{eq-eqb, ne-eqb}
 use Rattle.rules.specs.Words.{if}
 use Rattle.planes.specs.Digits.{digit, binary}
-use Rattle.planes.specs.Steps.{PutAt, TurnedAt}
+use Rattle.planes.specs.Steps.{PutAt, FlippedAt}
 
 -- ---- one digit
 pub digit-most : (x i : ℕ) → digit x i ≤ 1
@@ -76,7 +76,7 @@ put-at {x} {i} {d} h l =
     let fits : (d * 2 ^ i) % 2 ^ 64 ≡ d * 2 ^ i = shl-exact 1 i 64 (omega arith) (omega arith) in
     record { put = λ j. ap (λ (z : ℕ). digit (bitOr x z) j) fits ∙ digit-or x (d * 2 ^ i) j ∙ ap (max (digit x j)) (digit-shifted d i j l) }
 
-pub turn-at : {x i : ℕ} → i < 64 → TurnedAt x i (bitXor x ((1 * 2 ^ i) % 2 ^ 64))
+pub turn-at : {x i : ℕ} → i < 64 → FlippedAt x i (bitXor x ((1 * 2 ^ i) % 2 ^ 64))
 turn-at {x} {i} h =
     let fits : (1 * 2 ^ i) % 2 ^ 64 ≡ 1 * 2 ^ i = shl-exact 1 i 64 (omega arith) (omega arith) in
     record {

@@ -11,8 +11,8 @@ use lib.ListN.{length, getD, set, length-set}
 use lib.Seq.{getD-set-same, getD-set-other}
 use Rattle.rules.proofs.Cases.{byEq, byLt}
 use Rattle.planes.specs.Digits.{digit, binary}
-use Rattle.planes.specs.Planes.{digitIn, digitAt, countAt, counts, halves, wordsOf, spanOf, Block, Mask}
-use Rattle.planes.specs.Steps.{Grown, Halved}
+use Rattle.planes.specs.Planes.{digitIn, digitAt, countAt, countsIn, halves, wordsOf, spanOf, BlockPlanes, Mask}
+use Rattle.planes.specs.Steps.{Grown, HalfPlanes}
 use Rattle.planes.proofs.Lists.{at-end}
 use Rattle.planes.proofs.Digits.{digit-most, digit-sum, twice-pow, binary-suc, binary-same, scaled}
 use Rattle.planes.proofs.Counts.{each-same, digit-le, count-parts, count-odd, count-one}
@@ -103,7 +103,7 @@ pub record Halving (size m n : ℕ) (planes mask : List ℕ) (w : ℕ) (half : L
 pub halving-start : {size m n : ℕ} {planes mask half : List ℕ} → length half ≡ size → Halving size m n planes mask 0 half
 halving-start l = record { len = l; done = λ p h. absurd (omega arith) }
 
-module _ {m n : ℕ} {planes mask : List ℕ} (b : Block m n planes) (k : Mask n planes mask) (some : 1 ≤ m) where
+module _ {m n : ℕ} {planes mask : List ℕ} (b : BlockPlanes m n planes) (k : Mask n planes mask) (some : 1 ≤ m) where
   -- a half has room in one plane less
   half-room : (p : ℕ) → p < spanOf n → upper m planes p + digitAt mask p < 2 ^ m
   half-room p h =
@@ -139,7 +139,7 @@ upper-one planes p w e =
     let at : 1 * 9 + p / 64 ≡ w + 9 = omega arith in
     omega (arith, ap (λ (x : ℕ). digit (getD planes x 0) (p % 64)) at)
 
-pub two-on : {n : ℕ} {planes mask cells : List ℕ} {w words : ℕ} → Halving 9 1 n planes mask w cells → Block 1 n planes → Mask n planes mask
+pub two-on : {n : ℕ} {planes mask cells : List ℕ} {w words : ℕ} → Halving 9 1 n planes mask w cells → BlockPlanes 1 n planes → Mask n planes mask
     → w < words → words ≤ 9 → Halving 9 1 n planes mask (w + 1) (set cells w (bitXor (getD planes (w + 9) 0) (getD mask w 0)))
 two-on {n} {planes} {mask} {cells} {w} {words} g b k h few =
     record {
@@ -168,12 +168,12 @@ two-on {n} {planes} {mask} {cells} {w} {words} g b k h few =
         )
 
 -- ---- the half
-pub halved-counts : {m n : ℕ} {planes mask half : List ℕ} → Halved m n planes mask half → counts m half n ≡ halves m planes mask n
-unfolding counts halves
+pub halved-counts : {m n : ℕ} {planes mask half : List ℕ} → HalfPlanes m n planes mask half → countsIn m half n ≡ halves m planes mask n
+unfolding countsIn halves
 halved-counts {m} {n} {planes} {mask} {half} w = each-same (countAt m half) (λ p. countAt (suc m) planes p / 2 + digitAt mask p) 0 n (λ p h. w .each p (omega arith))
 
 -- its counts are those of a block of half as many slots
-pub halved-block : {m n : ℕ} {planes mask half : List ℕ} → Halved m n planes mask half → Block m n planes → Mask n planes mask → 1 ≤ m → Block (m - 1) n half
+pub halved-block : {m n : ℕ} {planes mask half : List ℕ} → HalfPlanes m n planes mask half → BlockPlanes m n planes → Mask n planes mask → 1 ≤ m → BlockPlanes (m - 1) n half
 halved-block {m} {n} {planes} {mask} {half} w b k some =
     let up : suc (m - 1) ≡ m = omega arith in
     let twice : 2 ^ m ≡ 2 * 2 ^ (m - 1) = ap (λ (x : ℕ). 2 ^ x) (sym up) ∙ pow-suc 2 (m - 1) ∙ mul-comm (2 ^ (m - 1)) 2 in
@@ -184,5 +184,5 @@ halved-block {m} {n} {planes} {mask} {half} w b k some =
     }
 
 pub halving-end : {size m n : ℕ} {planes mask half : List ℕ} {w words : ℕ} → Halving size m n planes mask w half → words ≡ wordsOf n → w ≤ words → words ≤ w
-    → Halved m n planes mask half
+    → HalfPlanes m n planes mask half
 halving-end g v a b = record { each = λ p h. g .done p (omega arith) h }

@@ -115,19 +115,19 @@ pub marking-end : {n : ℕ} {planes favoured mask : List ℕ} {w words : ℕ} �
 marking-end m v a b = record { len = m .len; has = λ p h. m .has p (omega arith); none = λ p h. m .none p (omega arith) }
 
 -- ---- the others
-pub record Turning (n : ℕ) (planes old : List ℕ) (w : ℕ) (mask : List ℕ) : Type 0 where
+pub record Complementing (n : ℕ) (planes old : List ℕ) (w : ℕ) (mask : List ℕ) : Type 0 where
   pub len : length mask ≡ 9
   pub done : (p : ℕ) → p < w * 64 → p < spanOf n → digitAt mask p ≡ digitAt planes p - digitAt old p
   pub left : (p : ℕ) → w * 64 ≤ p → digitAt mask p ≡ digitAt old p
 
-pub turning-start : {n : ℕ} {planes mask : List ℕ} → Mask n planes mask → Turning n planes mask 0 mask
+pub turning-start : {n : ℕ} {planes mask : List ℕ} → Mask n planes mask → Complementing n planes mask 0 mask
 turning-start m = record { len = m .len; done = λ p h. absurd (omega arith); left = λ p h. refl }
 
 other-digit : (x y i : ℕ) → digit y i ≤ digit x i → digit (bitXor x y) i ≡ digit x i - digit y i
 other-digit x y i h = omega (arith, digit-sum x y i, digit-most (bitXor x y) i, digit-most x i)
 
-pub turning-on : {n : ℕ} {planes old mask : List ℕ} {w words : ℕ} → Turning n planes old w mask → Mask n planes old → w < words → words ≤ 9
-    → Turning n planes old (w + 1) (set mask w (bitXor (getD planes w 0) (getD mask w 0)))
+pub turning-on : {n : ℕ} {planes old mask : List ℕ} {w words : ℕ} → Complementing n planes old w mask → Mask n planes old → w < words → words ≤ 9
+    → Complementing n planes old (w + 1) (set mask w (bitXor (getD planes w 0) (getD mask w 0)))
 turning-on {n} {planes} {old} {mask} {w} {words} t m h k =
     let l = t .len in
     let w-lt : w < 9 = omega arith in
@@ -145,7 +145,7 @@ turning-on {n} {planes} {old} {mask} {w} {words} t m h k =
       left = λ p g. word-other mask w v l w-lt p (omega arith) ∙ t .left p (omega arith);
     }
 
-pub turning-end : {n : ℕ} {planes old mask : List ℕ} {w words : ℕ} → Turning n planes old w mask → words ≡ wordsOf n → w ≤ words → words ≤ w
+pub turning-end : {n : ℕ} {planes old mask : List ℕ} {w words : ℕ} → Complementing n planes old w mask → words ≡ wordsOf n → w ≤ words → words ≤ w
     → Others n planes old mask
 turning-end t v a b = record { len = t .len; has = λ p h. t .done p (omega arith) h }
 

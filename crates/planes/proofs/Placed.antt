@@ -17,7 +17,7 @@ use Rattle.rules.proofs.Lists.{every-map}
 use Rattle.rules.proofs.Kept.{keep-every}
 use Rattle.planes.specs.Digits.{digit, places}
 use Rattle.planes.specs.Planes.{digitAt, oddAt, oddsIn, wordsOf, spanOf, Ends}
-use Rattle.planes.specs.Steps.{Placed, Gathered}
+use Rattle.planes.specs.Steps.{PlacesListed, Gathered}
 use Rattle.planes.proofs.Lists.{keep-add, keep-none, keep-most}
 use Rattle.planes.proofs.Lowest.{rest, places-none, places-kept, next-place, next-fits, next-zeros}
 use Rattle.planes.proofs.Counts.{none-odd}
@@ -51,7 +51,7 @@ module _ {base x k : ℕ} {old list : List ℕ} {left r : ℕ} (p : Placing base
         same = rw (add-one, take-suc-set list r at (omega (arith, p .len, placing-room h))) (append-snoc (take r list) at (places base 64 (rest left)) ∙ rw (← first) (p .same));
       }
 
-pub placing-end : {base x k : ℕ} {old list : List ℕ} {left r : ℕ} → Placing base x k old list left r → left ≡ 0 → Placed base x k old list r
+pub placing-end : {base x k : ℕ} {old list : List ℕ} {left r : ℕ} → Placing base x k old list left r → left ≡ 0 → PlacesListed base x k old list r
 placing-end {base} {x} {k} {old} {list} {left} {r} p e =
     let none : places base 64 left ≡ [] = ap (places base 64) e ∙ places-none base 64 in
     record {
@@ -124,7 +124,7 @@ module _ {n : ℕ} {planes list : List ℕ} {w words k : ℕ} (g : Gathering pla
         length-append (oddsIn (w * 64) planes) (places (w * 64) 64 (getD planes w 0)),
       )
 
-  pub gathering-on : {next : List ℕ} {r : ℕ} → Placed (w * 64) (getD planes w 0) k list next r → Gathering planes (w + 1) next r
+  pub gathering-on : {next : List ℕ} {r : ℕ} → PlacesListed (w * 64) (getD planes w 0) k list next r → Gathering planes (w + 1) next r
   gathering-on p =
       let l = length-append (oddsIn (w * 64) planes) (places (w * 64) 64 (getD planes w 0)) in
       record {

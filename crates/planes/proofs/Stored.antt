@@ -14,7 +14,7 @@ use Rattle.rules.specs.Flows.{flows, numberOf, countsOf}
 use Rattle.rules.proofs.Cases.{byEq, byLt}
 use Rattle.rules.proofs.Flows.{counts-length, counts-at}
 use Rattle.planes.specs.Digits.{digit}
-use Rattle.planes.specs.Planes.{digitIn, countAt, counts}
+use Rattle.planes.specs.Planes.{digitIn, countAt, countsIn}
 use Rattle.planes.specs.Steps.{PutAt, Blank, Stored, Loaded}
 use Rattle.planes.proofs.Lists.{zeros-at}
 use Rattle.planes.proofs.Digits.{digit-most, digit-first, digit-half, digit-none, digit-past, if-same, if-other, binary-same, binary-none, binary-digits}
@@ -244,7 +244,7 @@ loading-end {list} {planes} {n} {f} g b c =
     record {
       len = g .len;
       same = λ k l h.
-          ap (counts k planes) (sym (counts-length list)) ∙ counts-are k planes (countsOf list) (λ q z.
+          ap (countsIn k planes) (sym (counts-length list)) ∙ counts-are k planes (countsOf list) (λ q z.
           let y : q < flows list = omega (arith, counts-length list) in
           binary-same k (digitIn planes q) (digit (numberOf 2 list q)) (λ d w. g .has q d (omega arith) (omega arith) (omega arith))
           ∙ binary-digits k (numberOf 2 list q) (h q y) ∙ sym (counts-at list q y));

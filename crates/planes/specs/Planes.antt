@@ -26,8 +26,8 @@ each f a zero = []
 each f a (suc n) = f a ∷ each f (suc a) n
 
 -- The first n counts.
-unfoldable pub counts : ℕ → List ℕ → ℕ → List ℕ
-counts k planes n = each (countAt k planes) 0 n
+unfoldable pub countsIn : ℕ → List ℕ → ℕ → List ℕ
+countsIn k planes n = each (countAt k planes) 0 n
 
 -- Half of each of the first n counts, and one cell more where a mask has it.
 unfoldable pub halves : ℕ → List ℕ → List ℕ → ℕ → List ℕ
@@ -53,7 +53,7 @@ pub record Ends (n : ℕ) (planes : List ℕ) : Type 0 where
   pub past : (p : ℕ) → n ≤ p → p < spanOf n → digitAt planes p ≡ 0
 
 -- The counts of a block of 2 ^ m slots: none has more cells, and there is nothing behind the first n.
-pub record Block (m n : ℕ) (planes : List ℕ) : Type 0 where
+pub record BlockPlanes (m n : ℕ) (planes : List ℕ) : Type 0 where
   pub few : n ≤ 528
   pub most : (p : ℕ) → p < n → countAt (suc m) planes p ≤ 2 ^ m
   pub past : (p : ℕ) → n ≤ p → p < spanOf n → countAt (suc m) planes p ≡ 0

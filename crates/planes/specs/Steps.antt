@@ -8,7 +8,7 @@ use lib.ListN.{length, getD, take}
 use Rattle.rules.specs.Words.{if}
 use Rattle.rules.specs.Flows.{flows, numberOf, countsOf}
 use Rattle.planes.specs.Digits.{digit, binary, places}
-use Rattle.planes.specs.Planes.{digitIn, digitAt, countAt, counts, oddsIn, spanOf}
+use Rattle.planes.specs.Planes.{digitIn, digitAt, countAt, countsIn, oddsIn, spanOf}
 
 -- ---- digits
 -- The word x with d put at digit i, where it had 0 or d, is r.
@@ -16,7 +16,7 @@ pub record PutAt (x i d r : ℕ) : Type 0 where
   pub put : (j : ℕ) → digit r j ≡ max (digit x j) (if (eqb j i) d 0)
 
 -- The word x with digit i turned to the other is r.
-pub record TurnedAt (x i r : ℕ) : Type 0 where
+pub record FlippedAt (x i r : ℕ) : Type 0 where
   pub here : digit r i ≡ 1 - digit x i
   pub others : (j : ℕ) → j ≢ i → digit r j ≡ digit x j
 
@@ -34,12 +34,12 @@ pub record Stored (x p : ℕ) (old planes : List ℕ) : Type 0 where
 -- The planes have the cells of every flow of a list, as many planes as their digits take, and nothing behind them.
 pub record Loaded (list planes : List ℕ) : Type 0 where
   pub len : length planes ≡ 99
-  pub same : (k : ℕ) → k ≤ 11 → ((f : ℕ) → f < flows list → numberOf 2 list f < 2 ^ k) → counts k planes (flows list) ≡ countsOf list
+  pub same : (k : ℕ) → k ≤ 11 → ((f : ℕ) → f < flows list → numberOf 2 list f < 2 ^ k) → countsIn k planes (flows list) ≡ countsOf list
   pub past : (k p : ℕ) → k ≤ 11 → flows list ≤ p → p < 576 → countAt k planes p ≡ 0
 
 -- ---- gather
 -- From place k on, a list has the places of the digits of a word, and before them what it had.
-pub record Placed (base x k : ℕ) (old list : List ℕ) (r : ℕ) : Type 0 where
+pub record PlacesListed (base x k : ℕ) (old list : List ℕ) (r : ℕ) : Type 0 where
   pub len : length list ≡ 528
   pub number : r ≡ k + length (places base 64 x)
   pub same : take r list ≡ take k old ++ places base 64 x
@@ -76,5 +76,5 @@ pub record Grown (planes : List ℕ) (w extra m : ℕ) (old half : List ℕ) : T
   pub rest : (p : ℕ) → p < 576 → p / 64 ≢ w → countAt m half p ≡ countAt m old p
 
 -- Half of each count, and one cell more where the mask has it.
-pub record Halved (m n : ℕ) (planes mask half : List ℕ) : Type 0 where
+pub record HalfPlanes (m n : ℕ) (planes mask half : List ℕ) : Type 0 where
   pub each : (p : ℕ) → p < spanOf n → countAt m half p ≡ countAt (suc m) planes p / 2 + digitAt mask p

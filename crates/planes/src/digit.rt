@@ -3,7 +3,7 @@ ghost use mathlib.Core.Path.{_≡_};
 ghost use Prim.Native.Nat.{_<_, _≤_};
 ghost use lib.Dec.{eqb};
 ghost use Rattle.planes.specs.Digits.{digit};
-ghost use Rattle.planes.specs.Steps.{PutAt, TurnedAt};
+ghost use Rattle.planes.specs.Steps.{PutAt, FlippedAt};
 
 // A word with d put at digit i.
 pub fn put_digit(x: u64, i: usize, d: u64) -> u64
@@ -14,9 +14,9 @@ pub fn put_digit(x: u64, i: usize, d: u64) -> u64
 }
 
 // A word with digit i turned to the other.
-pub fn turn_digit(x: u64, i: usize) -> u64
+pub fn flip_digit(x: u64, i: usize) -> u64
     requires { ⌜ i < 64 ⌝ }
-    ensures { λ r. ⌜ TurnedAt x i r ⌝ }
+    ensures { λ r. ⌜ FlippedAt x i r ⌝ }
 {
     x ^ (1 << i)
 }

@@ -5,12 +5,12 @@ ghost use Prim.Native.Nat.{_+_, _≤_};
 ghost use lib.ListN.{length};
 ghost use Rattle.planes.specs.Digits.{places};
 ghost use Rattle.planes.specs.Planes.{Ends};
-ghost use Rattle.planes.specs.Steps.{Placed, Gathered};
+ghost use Rattle.planes.specs.Steps.{PlacesListed, Gathered};
 
 // The places of the digits of a word, from place k of the list on.
 fn place(x: u64, base: usize, k: usize, list: &mut [u16; 528]) -> usize
     requires { ⌜ (base ≤ 512) × (k + length (places base 64 x) ≤ 528) × (length (now list) ≡ 528) ⌝ }
-    ensures { λ r. ⌜ Placed base x k (now (list .entry)) (now (list .exit)) r ⌝ }
+    ensures { λ r. ⌜ PlacesListed base x k (now (list .entry)) (now (list .exit)) r ⌝ }
 {
     let mut rest = x;
     let mut at = k;

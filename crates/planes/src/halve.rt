@@ -3,8 +3,8 @@ use crate::words::words_of;
 ghost use mathlib.Core.Path.{_≡_};
 ghost use Prim.Native.Nat.{_<_, _≤_};
 ghost use lib.ListN.{length};
-ghost use Rattle.planes.specs.Planes.{Block, Mask};
-ghost use Rattle.planes.specs.Steps.{Grown, Halved};
+ghost use Rattle.planes.specs.Planes.{BlockPlanes, Mask};
+ghost use Rattle.planes.specs.Steps.{Grown, HalfPlanes};
 
 // One word of every plane: the planes above the lowest, with one word added.
 fn ripple(planes: &[u64; 99], m: usize, w: usize, extra: u64, half: &mut [u64; 99])
@@ -24,8 +24,8 @@ fn ripple(planes: &[u64; 99], m: usize, w: usize, extra: u64, half: &mut [u64; 9
 
 // The mask has the odd counts that favour the half.
 pub fn halve(planes: &[u64; 99], m: usize, n: usize, mask: &[u64; 9], half: &mut [u64; 99])
-    requires { ⌜ (1 ≤ m) × (m ≤ 10) × Block m n (now planes) × Mask n (now planes) (now mask) × (length (now half) ≡ 99) ⌝ }
-    ensures { λ _. ⌜ (length (now (half .exit)) ≡ 99) × Halved m n (now (planes .entry)) (now (mask .entry)) (now (half .exit)) ⌝ }
+    requires { ⌜ (1 ≤ m) × (m ≤ 10) × BlockPlanes m n (now planes) × Mask n (now planes) (now mask) × (length (now half) ≡ 99) ⌝ }
+    ensures { λ _. ⌜ (length (now (half .exit)) ≡ 99) × HalfPlanes m n (now (planes .entry)) (now (mask .entry)) (now (half .exit)) ⌝ }
 {
     let words = words_of(n);
     let mut w: usize = 0;
@@ -37,8 +37,8 @@ pub fn halve(planes: &[u64; 99], m: usize, n: usize, mask: &[u64; 9], half: &mut
 
 // A block of two slots has two planes, and its halves have one: nothing is carried.
 pub fn halve_two(planes: &[u64; 99], n: usize, mask: &[u64; 9], cells: &mut [u64; 9])
-    requires { ⌜ Block 1 n (now planes) × Mask n (now planes) (now mask) × (length (now cells) ≡ 9) ⌝ }
-    ensures { λ _. ⌜ (length (now (cells .exit)) ≡ 9) × Halved 1 n (now (planes .entry)) (now (mask .entry)) (now (cells .exit)) ⌝ }
+    requires { ⌜ BlockPlanes 1 n (now planes) × Mask n (now planes) (now mask) × (length (now cells) ≡ 9) ⌝ }
+    ensures { λ _. ⌜ (length (now (cells .exit)) ≡ 9) × HalfPlanes 1 n (now (planes .entry)) (now (mask .entry)) (now (cells .exit)) ⌝ }
 {
     let words = words_of(n);
     let mut w: usize = 0;

@@ -13,7 +13,7 @@ use Rattle.rules.specs.Flows.{stride, flows}
 use Rattle.rules.specs.Frames.{levels}
 use Rattle.calls.specs.Refusals.{refusal, bad-ports, bad-slots}
 use Rattle.calls.specs.declared.Refusal.{Refusal}
-use Rattle.sheets.specs.Sheet.{text, portsLine, slotsLine, pairLine, lines, bad-line-flow, bad-port, Asked, refused, unless, readPairs, readSlots, readPorts}
+use Rattle.sheets.specs.Sheet.{text, portsLine, slotsLine, pairLine, lines, line-past-512, bad-port, Asked, refused, unless, readPairs, readSlots, readPorts}
 use Rattle.calls.proofs.Reports.{within-known, slots-tells}
 use Rattle.calls.proofs.Demand2.{well-clear, clear-well}
 use Rattle.sheets.proofs.Responses.{well-none, well-more}
@@ -84,13 +84,13 @@ pair-form ports s at n r h y e =
 
 module _ (ports : ℕ) (s : List ℕ) (at n : ℕ) (r : PairForm) (i o m next : ℕ) (y : FormOf s at r) (e : r ≡ Form i o m next) where
   pair-read : (slots : ℕ) (list : List ℕ) → readPairs ports slots (n + 3) list (lines (drop at s))
-      ≡ unless (bad-line-flow list ∷ bad-port (n + 3) ports i o ∷ []) (readPairs ports slots (n + 1 + 3) (list ++ (i ∷ o ∷ m ∷ 1 ∷ [])) (lines (drop next s)))
+      ≡ unless (line-past-512 list ∷ bad-port (n + 3) ports i o ∷ []) (readPairs ports slots (n + 1 + 3) (list ++ (i ∷ o ∷ m ∷ 1 ∷ [])) (lines (drop next s)))
   pair-read slots list =
       let x : PairAt s at i o m next = rw e at y in
       let k : suc (n + 3) ≡ n + 1 + 3 = omega arith in
       ap (λ z. readPairs ports slots (n + 3) list (lines z)) (x .stands)
       ∙ (pairs-yes ports slots (n + 3) list i o m (drop next s) (x .low .0) (x .low .1) (x .low .2)
-      ∙ ap (λ z. unless (bad-line-flow list ∷ bad-port (n + 3) ports i o ∷ []) (readPairs ports slots z (list ++ (i ∷ o ∷ m ∷ 1 ∷ [])) (lines (drop next s)))) k)
+      ∙ ap (λ z. unless (line-past-512 list ∷ bad-port (n + 3) ports i o ∷ []) (readPairs ports slots z (list ++ (i ∷ o ∷ m ∷ 1 ∷ [])) (lines (drop next s)))) k)
 
   pub pair-full : 512 ≤ n → PairRefused ports s at n (21 ∷ [])
   pair-full h = record { reads = λ slots list c. pair-read slots list ∙ rw (le-leb 512 (flows list) (omega arith)) }

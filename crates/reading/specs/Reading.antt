@@ -7,7 +7,7 @@ use lib.Dec.{eqb}
 use lib.ListN.{length, getD, take, drop, replicate}
 use Rattle.rules.specs.Words.{both, within}
 use Rattle.rules.specs.Flows.{stride, flows}
-use Rattle.calls.specs.Refusals.{clear, listChecks, refusal}
+use Rattle.calls.specs.Refusals.{none-holds, listChecks, refusal}
 use Rattle.rules.specs.Frames.{levels}
 use Rattle.sheets.specs.Sheet.{text, decimal, pairLine, lines, Asked, loads, refused, readPairs, readSlots, readPorts}
 use Rattle.reading.specs.declared.NumberRead.{NumberRead}
@@ -126,7 +126,7 @@ PairOf ports s at n (Refused r) = PairRefused ports s at n (refusal r)
 -- 1, 2, 3, 21, 22 and 23 holds of those.
 pub record LoadsRead (asked : Asked) (list : List ℕ) (ports slots n : ℕ) : Type 0 where
   pub asks : asked ≡ loads ports slots (take (n * stride) list)
-  pub fine : clear (listChecks ports slots (take (n * stride) list)) ≡ true
+  pub fine : none-holds (listChecks ports slots (take (n * stride) list)) ≡ true
   pub few : n ≤ 512
   pub size : length list ≡ 2048
   pub rest : drop (n * stride) list ≡ replicate (2048 - n * stride) 0
@@ -153,7 +153,7 @@ pub record Fresh (ports slots : ℕ) (list : List ℕ) : Type 0 where
 -- Pair lines are read up to next: their n flows stand at the front of the list, zeros behind them.
 pub record Reached (asked : Asked) (ports slots : ℕ) (s list : List ℕ) (n next : ℕ) : Type 0 where
   pub reads : asked ≡ readPairs ports slots (n + 3) (take (n * stride) list) (lines (drop next s))
-  pub fine : clear (listChecks ports slots (take (n * stride) list)) ≡ true
+  pub fine : none-holds (listChecks ports slots (take (n * stride) list)) ≡ true
   pub few : n ≤ 512
   pub size : length list ≡ 2048
   pub rest : drop (n * stride) list ≡ replicate (2048 - n * stride) 0

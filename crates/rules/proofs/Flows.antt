@@ -8,7 +8,7 @@ use lib.Dec.{eqb}
 use lib.ListN.{length, getD}
 use borrow.Author.Tests.{eqb-true, eq-eqb, ne-eqb}
 use Rattle.rules.specs.Words.{if, both, bit, upFrom, sumIf, Within}
-use Rattle.rules.specs.Flows.{flows, numberOf, Side, inputs, links, outputOf, portOf, countsOf, Class, flow, input, output, link, total, isOf, loadIn}
+use Rattle.rules.specs.Flows.{flows, numberOf, End, inputs, links, outputOf, portOf, countsOf, Class, flow, portOn, input, output, link, total, isOf, loadIn}
 use Rattle.rules.specs.Frames.{isFlow, right, counts, cells}
 use Rattle.rules.proofs.Cases.{byBool, byEq, both-true, is-yes, is-no, within-yes, within-true}
 use Rattle.rules.proofs.Sums.{sum-ext, sum-le, sum-zero, sum-one, sum-swap}
@@ -42,13 +42,13 @@ pub output-low : (ports x : ℕ) → x < ports * 4 → outputOf x < ports
 output-low ports x h = omega arith
 
 -- no link has a load above that of its output
-pub link-under : (x : ℕ) (port : Side → ℕ → ℕ) (m : List ℕ) → loadIn (link x) port m ≤ loadIn (output (outputOf x)) port m
+pub link-under : (x : ℕ) (port : End → ℕ → ℕ) (m : List ℕ) → loadIn (link x) port m ≤ loadIn (portOn output (outputOf x)) port m
 unfolding loadIn
 link-under x port m =
     let has : Class → ℕ → ℕ = λ c f. if (isOf c port f) (getD m f 0) 0 in
-    sum-le (length m) (has (link x)) (has (output (outputOf x))) (λ f _. byEq (port links f) x
+    sum-le (length m) (has (link x)) (has (portOn output (outputOf x))) (λ f _. byEq (port links f) x
     (λ e.
-    let own : has (output (outputOf x)) f ≡ getD m f 0 = rw (eq-eqb (outputOf (port links f)) (outputOf x) (ap outputOf e)) in
+    let own : has (portOn output (outputOf x)) f ≡ getD m f 0 = rw (eq-eqb (outputOf (port links f)) (outputOf x) (ap outputOf e)) in
     let part : has (link x) f ≡ getD m f 0 = rw (eq-eqb (port links f) x e) in
     omega (arith, own, part))
     (λ e. let none : has (link x) f ≡ 0 = rw (ne-eqb (port links f) x e) in omega (arith, none)))
@@ -78,16 +78,16 @@ module _ (list : List ℕ) where
   -- an idle entry counts for nothing
   pub idle-counts : (c : Class) (at : ℕ) → bit (counts c list at 0) ≡ 0
   idle-counts (flow f) at = refl
-  idle-counts (input i) at = byBool (eqb at i) (λ e. rw e) (λ e. rw e)
-  idle-counts (output o) at = refl
+  idle-counts (portOn input i) at = byBool (eqb at i) (λ e. rw e) (λ e. rw e)
+  idle-counts (portOn output o) at = refl
   idle-counts (link x) at = refl
   idle-counts total at = refl
 
   -- a flow of the input where it stands counts for the classes that the flow is of
   pub own-counts : (c : Class) (at f : ℕ) → f < flows list → portOf list inputs f ≡ at → bit (counts c list at (suc f)) ≡ bit (isOf c (portOf list) f)
   own-counts (flow g) at f h e = is-flow f (isOf (flow g) (portOf list)) h
-  own-counts (input i) at f h e = rw (e, ne-eqb (suc f) 0 (omega arith)) (byBool (eqb at i) (λ d. rw d) (λ d. rw d))
-  own-counts (output o) at f h e = is-flow f (isOf (output o) (portOf list)) h
+  own-counts (portOn input i) at f h e = rw (e, ne-eqb (suc f) 0 (omega arith)) (byBool (eqb at i) (λ d. rw d) (λ d. rw d))
+  own-counts (portOn output o) at f h e = is-flow f (isOf (portOn output o) (portOf list)) h
   own-counts (link x) at f h e = is-flow f (isOf (link x) (portOf list)) h
   own-counts total at f h e = is-flow f (λ _. true) h
 

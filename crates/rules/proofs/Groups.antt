@@ -10,35 +10,35 @@ use lib.ListN.{length, getD, set}
 use lib.Seq.{getD-set-other}
 use borrow.Author.Tests.{eqb-true, eqb-false, eq-eqb, ne-eqb, not-true}
 use Rattle.rules.specs.Words.{both, bit, upFrom, keep, sumTo}
-use Rattle.rules.specs.Flows.{Side, inputs, links}
+use Rattle.rules.specs.Flows.{End, inputs, links}
 use Rattle.rules.specs.Rules.{odd, Joined, itself, onward, backward}
 use Rattle.rules.specs.Schedule.{walk, favouring}
 use Rattle.rules.proofs.Cases.{byBool, byEq, byLt, both-true, both-false, is-yes, is-no}
 use Rattle.rules.proofs.Sums.{sum-ext, sum-add}
 use Rattle.rules.proofs.Kept.{keep-keep, kept-length}
 use Rattle.rules.proofs.Singles.{mate, rule-partner, partner-rule}
-use Rattle.rules.proofs.Walks.{Good, Pairing, walk-on, walk-off}
+use Rattle.rules.proofs.Walks.{Opposite, Pairing, walk-on, walk-off}
 use Rattle.rules.proofs.Favouring.{favouring-sum}
 use Rattle.rules.proofs.Shares.{Level}
-use Rattle.rules.proofs.Settled.{Settled, Keeps, Taken, settle-cases, scan, scan-settled, scan-keeps, scan-done, scan-level}
+use Rattle.rules.proofs.Settled.{Settled, Keeps, GroupSettled, settle-cases, scan, scan-settled, scan-keeps, scan-done, scan-level}
 use Rattle.rules.proofs.Lists.{zero-at}
 
 -- what is reached from p by partners
-pub data Reached (f : Side → ℕ → ℕ) (p : ℕ) : ℕ → Type 0 where
-  here : Reached f p p
-  step : (s : Side) (q : ℕ) → Reached f p q → Reached f p (f s q)
+pub data JoinedBy (f : End → ℕ → ℕ) (p : ℕ) : ℕ → Type 0 where
+  here : JoinedBy f p p
+  step : (s : End) (q : ℕ) → JoinedBy f p q → JoinedBy f p (f s q)
 
-pub reached-closed : (f : Side → ℕ → ℕ) (p : ℕ) (P : ℕ → Type 0) → P p → ((s : Side) (q : ℕ) → P q → P (f s q)) → (q : ℕ) → Reached f p q → P q
+pub reached-closed : (f : End → ℕ → ℕ) (p : ℕ) (P : ℕ → Type 0) → P p → ((s : End) (q : ℕ) → P q → P (f s q)) → (q : ℕ) → JoinedBy f p q → P q
 reached-closed f p P b g q (here) = b
 reached-closed f p P b g q (step s r j) = g s r (reached-closed f p P b g r j)
 
-reached-trans : (f : Side → ℕ → ℕ) (p q r : ℕ) → Reached f p q → Reached f q r → Reached f p r
-reached-trans f p q r a b = reached-closed f q (λ t. Reached f p t) a (λ s t j. step s t j) r b
+reached-trans : (f : End → ℕ → ℕ) (p q r : ℕ) → JoinedBy f p q → JoinedBy f q r → JoinedBy f p r
+reached-trans f p q r a b = reached-closed f q (λ t. JoinedBy f p t) a (λ s t j. step s t j) r b
 
-pub reached-sym : (f : Side → ℕ → ℕ) → ((s : Side) (p : ℕ) → f s (f s p) ≡ p) → (p q : ℕ) → Reached f p q → Reached f q p
+pub reached-sym : (f : End → ℕ → ℕ) → ((s : End) (p : ℕ) → f s (f s p) ≡ p) → (p q : ℕ) → JoinedBy f p q → JoinedBy f q p
 reached-sym f twice p q j =
-    reached-closed f p (λ t. Reached f t p) here
-    (λ s t k. reached-trans f (f s t) t p (subst (λ (x : ℕ). Reached f (f s t) x) (twice s t) (step s (f s t) here)) k) q j
+    reached-closed f p (λ t. JoinedBy f t p) here
+    (λ s t k. reached-trans f (f s t) t p (subst (λ (x : ℕ). JoinedBy f (f s t) x) (twice s t) (step s (f s t) here)) k) q j
 
 -- a walk settles only what a closed J has
 walk-adds : (J S : ℕ → Type 0) (n : ℕ) (go back : ℕ → ℕ) (p h : ℕ) (c : List ℕ) → ((q : ℕ) → J q → J (go q)) → ((q : ℕ) → J q → J (back q)) → J p
@@ -53,7 +53,7 @@ walk-adds J S (suc n) go back p h c f g j all q =
     (λ e. rw (walk-off n go back p h c e) (all q))
 
 -- what is not settled has no settled partner
-unsettled : (od : ℕ → Bool) (f : ℕ → ℕ) (c : List ℕ) → Pairing od f → ((q : ℕ) → getD c q 0 ≤ 2) → ((q : ℕ) → Good f c q) → (t : ℕ) → getD c t 0 ≡ 0 → getD c (f t) 0 ≡ 0
+unsettled : (od : ℕ → Bool) (f : ℕ → ℕ) (c : List ℕ) → Pairing od f → ((q : ℕ) → getD c q 0 ≤ 2) → ((q : ℕ) → Opposite f c q) → (t : ℕ) → getD c t 0 ≡ 0 → getD c (f t) 0 ≡ 0
 unsettled od f c pf two g t z =
     let a = ap (λ (x : ℕ). getD c x 0) (pf .twice t) in
     byEq (getD c (f t) 0) 0 (λ e. e)
@@ -108,9 +108,9 @@ module _ (n : ℕ) (c d : List ℕ) (lc : length c ≡ n) (ld : length d ≡ n) 
       )
 
 -- ---- the groups that the scan takes
-module _ (m : List ℕ) (f : Side → ℕ → ℕ) (pf : (s : Side) → Pairing (odd m) (f s)) where
+module _ (m : List ℕ) (f : End → ℕ → ℕ) (pf : (s : End) → Pairing (odd m) (f s)) where
   -- by either side, from what holds by each
-  both-sides : (P : ℕ → Type 0) → ((q : ℕ) → P q → P (f inputs q)) → ((q : ℕ) → P q → P (f links q)) → (s : Side) (q : ℕ) → P q → P (f s q)
+  both-sides : (P : ℕ → Type 0) → ((q : ℕ) → P q → P (f inputs q)) → ((q : ℕ) → P q → P (f links q)) → (s : End) (q : ℕ) → P q → P (f s q)
   both-sides P g h inputs = g
   both-sides P g h links = h
 
@@ -128,62 +128,62 @@ module _ (m : List ℕ) (f : Side → ℕ → ℕ) (pf : (s : Side) → Pairing 
   state-level a = scan-level m (f inputs) (f links) (pf inputs) (pf links) a
 
   -- a group is taken at p
-  abbrev pub Takes : ℕ → Type 0
-  Takes p = Taken m (f inputs) (f links) (pf inputs) (pf links) p (state p) (state (suc p))
+  abbrev pub TakesGroup : ℕ → Type 0
+  TakesGroup p = GroupSettled m (f inputs) (f links) (pf inputs) (pf links) p (state p) (state (suc p))
 
-  pub takes-cases : {P : Type 0} (p : ℕ) → (Takes p → P) → (both (odd m p) (eqb (getD (state p) p 0) 0) ≡ false → state (suc p) ≡ state p → P) → P
+  pub takes-cases : {P : Type 0} (p : ℕ) → (TakesGroup p → P) → (both (odd m p) (eqb (getD (state p) p 0) 0) ≡ false → state (suc p) ≡ state p → P) → P
   takes-cases p g h = settle-cases m (f inputs) (f links) (pf inputs) (pf links) p (state p) (state-settled p .fine .len) g h
 
-  module _ (p : ℕ) (t : Takes p) where
+  module _ (p : ℕ) (t : TakesGroup p) where
     -- what p reaches is odd, was not settled before, and is settled after
-    reached-odd : (q : ℕ) → Reached f p q → odd m q ≡ true
+    reached-odd : (q : ℕ) → JoinedBy f p q → odd m q ≡ true
     reached-odd q j = reached-closed f p (λ r. odd m r ≡ true) (t .odd-count) (λ s. pf s .odds) q j
 
-    reached-before : (q : ℕ) → Reached f p q → getD (state p) q 0 ≡ 0
+    reached-before : (q : ℕ) → JoinedBy f p q → getD (state p) q 0 ≡ 0
     reached-before q j =
         let st = state-settled p in
         reached-closed f p (λ r. getD (state p) r 0 ≡ 0) (t .unsettled)
         (both-sides (λ r. getD (state p) r 0 ≡ 0) (unsettled (odd m) (f inputs) (state p) (pf inputs) (st .fine .two) (st .ins)) (unsettled (odd m) (f links) (state p) (pf links) (st .fine .two) (st .outs)))
         q j
 
-    reached-after : (q : ℕ) → Reached f p q → getD (state (suc p)) q 0 ≢ 0
+    reached-after : (q : ℕ) → JoinedBy f p q → getD (state (suc p)) q 0 ≢ 0
     reached-after q j =
         let st = state-settled (suc p) in
         reached-closed f p (λ r. getD (state (suc p)) r 0 ≢ 0)
         (scan-done m (f inputs) (f links) (pf inputs) (pf links) (suc p) p (omega arith) (t .odd-count))
         (both-sides (λ r. getD (state (suc p)) r 0 ≢ 0) (on (f inputs) (st .ins)) (on (f links) (st .outs))) q j
       where
-        on : (g : ℕ → ℕ) → ((r : ℕ) → Good g (state (suc p)) r) → (r : ℕ) → getD (state (suc p)) r 0 ≢ 0 → getD (state (suc p)) (g r) 0 ≢ 0
+        on : (g : ℕ → ℕ) → ((r : ℕ) → Opposite g (state (suc p)) r) → (r : ℕ) → getD (state (suc p)) r 0 ≢ 0 → getD (state (suc p)) (g r) 0 ≢ 0
         on g good r s =
             byEq (g r) r (λ e. rw e s)
             (λ n. let e = good r s n in let h = state-settled (suc p) .fine .two r in omega arith)
 
     -- p is the first of its group
-    pub takes-first : (q : ℕ) → Reached f p q → p ≤ q
+    pub takes-first : (q : ℕ) → JoinedBy f p q → p ≤ q
     takes-first q j =
         byLt q p
         (λ l. absurd (scan-done m (f inputs) (f links) (pf inputs) (pf links) p q l (reached-odd q j) (reached-before q j)))
         (λ l. l)
 
     -- what is newly settled is what p reaches
-    added : (q : ℕ) → getD (state (suc p)) q 0 ≢ 0 → Reached f p q ⊎ (getD (state p) q 0 ≢ 0)
+    added : (q : ℕ) → getD (state (suc p)) q 0 ≢ 0 → JoinedBy f p q ⊎ (getD (state p) q 0 ≢ 0)
     added =
         let h = t .half in
         rw (t .is)
-        (walk-adds (λ r. Reached f p r) (λ r. getD (state p) r 0 ≢ 0) (length m) (f links) (f inputs) p h (walk (length m) (f inputs) (f links) p h (set (state p) p h)) (step links) (step inputs) here
-        (walk-adds (λ r. Reached f p r) (λ r. getD (state p) r 0 ≢ 0) (length m) (f inputs) (f links) p h (set (state p) p h) (step inputs) (step links) here
+        (walk-adds (λ r. JoinedBy f p r) (λ r. getD (state p) r 0 ≢ 0) (length m) (f links) (f inputs) p h (walk (length m) (f inputs) (f links) p h (set (state p) p h)) (step links) (step inputs) here
+        (walk-adds (λ r. JoinedBy f p r) (λ r. getD (state p) r 0 ≢ 0) (length m) (f inputs) (f links) p h (set (state p) p h) (step inputs) (step links) here
         (λ r s. byEq r p (λ k. inl (rw k here)) (λ k. inr (rw (getD-set-other (state p) p r h 0 k) at s)))))
 
     abbrev pub member : ℕ → Bool
     member = new (state p) (state (suc p))
 
-    pub member-yes : (q : ℕ) → member q ≡ true → Reached f p q
+    pub member-yes : (q : ℕ) → member q ≡ true → JoinedBy f p q
     member-yes q e =
         let b = both-true (eqb (getD (state p) q 0) 0) (not (eqb (getD (state (suc p)) q 0) 0)) e in
         ⊎-elim (λ j. j) (λ n. absurd (n (eqb-true (getD (state p) q 0) 0 (b .0))))
         (added q (eqb-false (getD (state (suc p)) q 0) 0 (not-true _ (b .1))))
 
-    pub member-no : (q : ℕ) → member q ≡ false → Reached f p q → ⊥
+    pub member-no : (q : ℕ) → member q ≡ false → JoinedBy f p q → ⊥
     member-no q e j =
         both-false (eqb (getD (state p) q 0) 0) (not (eqb (getD (state (suc p)) q 0) 0)) e
         (eq-eqb (getD (state p) q 0) 0 (reached-before q j))
@@ -215,7 +215,7 @@ module _ (m : List ℕ) (f : Side → ℕ → ℕ) (pf : (s : Side) → Pairing 
 
   -- q is of a group that was taken before a
   abbrev pub TakenBefore : ℕ → ℕ → Type 0
-  TakenBefore a q = (r : ℕ) × (r < a) × Reached f r q × Takes r
+  TakenBefore a q = (r : ℕ) × (r < a) × JoinedBy f r q × TakesGroup r
 
   taken-later : (a q : ℕ) → TakenBefore a q → TakenBefore (suc a) q
   taken-later a q l = (l .0, (let h = l .1 in omega arith), l .2, l .3)
@@ -229,7 +229,7 @@ module _ (m : List ℕ) (f : Side → ℕ → ℕ) (pf : (s : Side) → Pairing 
       (λ e k. taken-later a q (taken-before a q (λ z. s (ap (λ c. getD c q 0) k ∙ z))))
 
   -- an odd count that is first of what it reaches is taken
-  pub first-takes : (p : ℕ) → odd m p ≡ true → ((q : ℕ) → Reached f p q → p ≤ q) → Takes p
+  pub first-takes : (p : ℕ) → odd m p ≡ true → ((q : ℕ) → JoinedBy f p q → p ≤ q) → TakesGroup p
   first-takes p od least =
       takes-cases p (λ t. t)
       (λ e k. byEq (getD (state p) p 0) 0
@@ -241,17 +241,17 @@ module _ (m : List ℕ) (f : Side → ℕ → ℕ) (pf : (s : Side) → Pairing 
       absurd (omega arith)))
 
 -- ---- the rule's groups are what partners reach
-module _ (port : Side → ℕ → ℕ) (m : List ℕ) (p : ℕ) where
-  pub joined-reached : (q : ℕ) → Joined port m p q → Reached (mate port m) p q
+module _ (port : End → ℕ → ℕ) (m : List ℕ) (p : ℕ) where
+  pub joined-reached : (q : ℕ) → Joined port m p q → JoinedBy (mate port m) p q
   joined-reached q (itself) = here
   joined-reached q (onward c {q = r} j w) =
       let e = rule-partner port m c r q w in
-      subst (λ (t : ℕ). Reached (mate port m) p t) (e .there) (step (e .side) r (joined-reached r j))
+      subst (λ (t : ℕ). JoinedBy (mate port m) p t) (e .there) (step (e .side) r (joined-reached r j))
   joined-reached q (backward c {q = r} j w) =
       let e = rule-partner port m c q r w in
-      subst (λ (t : ℕ). Reached (mate port m) p t) (e .back) (step (e .side) r (joined-reached r j))
+      subst (λ (t : ℕ). JoinedBy (mate port m) p t) (e .back) (step (e .side) r (joined-reached r j))
 
-  pub reached-joined : (q : ℕ) → Reached (mate port m) p q → Joined port m p q
+  pub reached-joined : (q : ℕ) → JoinedBy (mate port m) p q → Joined port m p q
   reached-joined q j =
       reached-closed (mate port m) p (λ t. Joined port m p t) itself
       (λ s t k. byEq (mate port m s t) t (λ e. rw e k)

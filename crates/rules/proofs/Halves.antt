@@ -10,7 +10,7 @@ use lib.Dec.{eqb}
 use lib.ListN.{length, getD, List·getD-eq-default}
 use borrow.Author.Tests.{eq-eqb, ne-eqb}
 use Rattle.rules.specs.Words.{if, both, bit, Near, sumTo, sumIf, Every}
-use Rattle.rules.specs.Flows.{Side, inputs, links, outputOf, Class, flow, input, output, link, total, isOf, loadIn, Fits}
+use Rattle.rules.specs.Flows.{End, inputs, links, outputOf, Class, flow, portOn, input, output, link, total, isOf, loadIn, Fits}
 use Rattle.rules.specs.Rules.{odd, oddsAt, Partners, these, later, single, singlesOf, partnered, favoursFirst, Split}
 use Rattle.rules.specs.Schedule.{favouring, favours, halfOf}
 use Rattle.rules.proofs.Cases.{byBool, byEq, byLt}
@@ -24,7 +24,7 @@ use Rattle.rules.proofs.Settled.{favours-law, favours-level}
 use Rattle.rules.proofs.Splits.{half-at, more, less, alike, only-split}
 
 -- ---- over the odd counts that are partnered, partner by partner
-module _ (port : Side → ℕ → ℕ) (m a b : List ℕ) (sp : Split port m a b) where
+module _ (port : End → ℕ → ℕ) (m a b : List ℕ) (sp : Split port m a b) where
   two : (p q : ℕ) → odd m p ≡ true → odd m q ≡ true → favoursFirst a b p ≡ not (favoursFirst a b q) → getD a p 0 + getD a q 0 ≡ getD b p 0 + getD b q 0
   two p q e f o =
       byBool (favoursFirst a b q)
@@ -53,7 +53,7 @@ module _ (port : Side → ℕ → ℕ) (m a b : List ℕ) (sp : Split port m a b
   class-near c od = let e = pairwise (partnered c port m) od (sp .opposite c) in let n = single-near (partnered c port m) in omega arith
 
   -- ---- over all counts of a side that are at x: the even ones give both halves the same
-  module _ (s : Side) (x : ℕ) where
+  module _ (s : End) (x : ℕ) where
     at-x : ℕ → Bool
     at-x p = eqb (port s p) x
 
@@ -81,7 +81,7 @@ module _ (port : Side → ℕ → ℕ) (m a b : List ℕ) (sp : Split port m a b
     odds-odd = every-map (AtPort (port s) m x) (λ p. odd m p ≡ true) (λ p h. h .0) (oddsAt (port s) m x) (odds-every (port s) m x)
 
   pub input-near : (i : ℕ) → Near 1 (sumIf (length m) (λ p. eqb (port inputs p) i) (λ p. getD a p 0)) (sumIf (length m) (λ p. eqb (port inputs p) i) (λ p. getD b p 0))
-  input-near i = let e = port-sums inputs i in let n = class-near (input i) (odds-odd inputs i) in omega arith
+  input-near i = let e = port-sums inputs i in let n = class-near (portOn input i) (odds-odd inputs i) in omega arith
 
   pub link-near : (x : ℕ) → Near 1 (sumIf (length m) (λ p. eqb (port links p) x) (λ p. getD a p 0)) (sumIf (length m) (λ p. eqb (port links p) x) (λ p. getD b p 0))
   link-near x = let e = port-sums links x in let n = class-near (link x) (odds-odd links x) in omega arith
@@ -128,11 +128,11 @@ module _ (port : Side → ℕ → ℕ) (m a b : List ℕ) (sp : Split port m a b
   pub output-near : (o : ℕ) → Near 1 (sumIf (length m) (λ p. eqb (outputOf (port links p)) o) (λ p. getD a p 0)) (sumIf (length m) (λ p. eqb (outputOf (port links p)) o) (λ p. getD b p 0))
   output-near o =
       let e = links-sums (o * 4) 4 in
-      let n = class-near (output o) (every-map (Single (port links) m (o * 4) 4) (λ p. odd m p ≡ true) (λ p s. s .odd-count) (singlesOf (port links) m (o * 4) 4) (singles-every (port links) m (o * 4) 4)) in
+      let n = class-near (portOn output o) (every-map (Single (port links) m (o * 4) 4) (λ p. odd m p ≡ true) (λ p s. s .odd-count) (singlesOf (port links) m (o * 4) 4) (singles-every (port links) m (o * 4) 4)) in
       rw (output-links o a, output-links o b) (omega arith)
 
 -- ---- over all counts: half h gets half of each, and a cell more of those that favour it
-module _ (port : Side → ℕ → ℕ) (m : List ℕ) where
+module _ (port : End → ℕ → ℕ) (m : List ℕ) where
   half-total : (h : ℕ) → h ≢ 0 → sumTo (length m) (λ p. getD (halfOf port h m) p 0) ≡ sumTo (length m) (λ p. getD m p 0 / 2) + favouring h (favours port m)
   half-total h n =
       let len = favours-law port m .len in
@@ -149,7 +149,7 @@ module _ (port : Side → ℕ → ℕ) (m : List ℕ) where
 
 -- ---- over the class
 -- the load of a flow is its count
-pub load-flow : (f : ℕ) (port : Side → ℕ → ℕ) (m : List ℕ) → loadIn (flow f) port m ≡ getD m f 0
+pub load-flow : (f : ℕ) (port : End → ℕ → ℕ) (m : List ℕ) → loadIn (flow f) port m ≡ getD m f 0
 unfolding loadIn
 load-flow f port m =
     byLt f (length m)
@@ -157,13 +157,13 @@ load-flow f port m =
     (λ h. sum-zero (length m) _ (λ p l. rw (ne-eqb p f (omega arith))) ∙ sym (List·getD-eq-default m 0 h))
 
 -- and no load is below the count of a flow of its class
-pub load-has : (c : Class) (port : Side → ℕ → ℕ) (m : List ℕ) (f : ℕ) → f < length m → isOf c port f ≡ true → getD m f 0 ≤ loadIn c port m
+pub load-has : (c : Class) (port : End → ℕ → ℕ) (m : List ℕ) (f : ℕ) → f < length m → isOf c port f ≡ true → getD m f 0 ≤ loadIn c port m
 unfolding loadIn
 load-has c port m f h e =
     let here : if (isOf c port f) (getD m f 0) 0 ≡ getD m f 0 = rw e in
     omega (arith, here, sum-has (length m) f (λ p. if (isOf c port p) (getD m p 0) 0) h)
 
-pub load-add : (c : Class) (port : Side → ℕ → ℕ) (m a b : List ℕ) → length a ≡ length m → length b ≡ length m
+pub load-add : (c : Class) (port : End → ℕ → ℕ) (m a b : List ℕ) → length a ≡ length m → length b ≡ length m
     → ((p : ℕ) → getD a p 0 + getD b p 0 ≡ getD m p 0) → loadIn c port a + loadIn c port b ≡ loadIn c port m
 unfolding loadIn
 load-add c port m a b la lb h =
@@ -171,20 +171,20 @@ load-add c port m a b la lb h =
     (sym (sum-add (length m) (λ p. if (isOf c port p) (getD a p 0) 0) (λ p. if (isOf c port p) (getD b p 0) 0))
     ∙ sum-ext (length m) _ _ (λ p _. byBool (isOf c port p) (λ e. rw e (h p)) (λ e. rw e (omega arith))))
 
-module _ (port : Side → ℕ → ℕ) (m a b : List ℕ) (sp : Split port m a b) where
+module _ (port : End → ℕ → ℕ) (m a b : List ℕ) (sp : Split port m a b) where
   pub halves-sum : (c : Class) → loadIn c port a + loadIn c port b ≡ loadIn c port m
   halves-sum c = load-add c port m a b (sp .first-size) (sp .second-size) (sp .shared)
 
   pub halves-near : (c : Class) → Near 1 (loadIn c port a) (loadIn c port b)
   unfolding loadIn
   halves-near (flow f) = rw (load-flow f port a, load-flow f port b) (sp .evenly f)
-  halves-near (input i) = rw (sp .first-size, sp .second-size) (input-near port m a b sp i)
-  halves-near (output o) = rw (sp .first-size, sp .second-size) (output-near port m a b sp o)
+  halves-near (portOn input i) = rw (sp .first-size, sp .second-size) (input-near port m a b sp i)
+  halves-near (portOn output o) = rw (sp .first-size, sp .second-size) (output-near port m a b sp o)
   halves-near (link x) = rw (sp .first-size, sp .second-size) (link-near port m a b sp x)
   halves-near total = rw (sp .first-size, sp .second-size) (total-near port m a b sp)
 
   pub halves-fit : (ports n : ℕ) → Fits ports (2 * n) port m → (Fits ports n port a) × (Fits ports n port b)
-  halves-fit ports n fits = ((λ x h. (fit (input x) (fits x h .0) .0, fit (output x) (fits x h .1) .0)), λ x h. (fit (input x) (fits x h .0) .1, fit (output x) (fits x h .1) .1))
+  halves-fit ports n fits = ((λ x h. (fit (portOn input x) (fits x h .0) .0, fit (portOn output x) (fits x h .1) .0)), λ x h. (fit (portOn input x) (fits x h .0) .1, fit (portOn output x) (fits x h .1) .1))
     where
       fit : (c : Class) → loadIn c port m ≤ 2 * n → (loadIn c port a ≤ n) × (loadIn c port b ≤ n)
       fit c h = let s = halves-sum c in let d = halves-near c in omega arith

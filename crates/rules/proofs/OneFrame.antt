@@ -9,7 +9,7 @@ use native.Mathlib.Nat.{mul-add-mod-self-right}
 use lib.ListN.{length, getD, length-append, List·getD-append}
 use lib.Seq.{getD-append-add}
 use Rattle.rules.specs.Words.{Near}
-use Rattle.rules.specs.Flows.{flows, Side, portOf, countsOf, Class, flow, output, Of, Fits}
+use Rattle.rules.specs.Flows.{flows, End, portOf, countsOf, Class, flow, portOn, output, OnSwitch, Fits}
 use Rattle.rules.specs.Frames.{right, cells, runOf, Legal, Block, Balanced}
 use Rattle.rules.specs.Rules.{Split, Slot, Scheduled}
 use Rattle.rules.specs.Schedule.{halfOf, frameOf}
@@ -19,13 +19,13 @@ use Rattle.rules.proofs.Cells.{cells-append, run-all, run-first, run-se
 use Rattle.rules.proofs.Splits.{split-is, only-split}
 use Rattle.rules.proofs.Halves.{load-flow, halves-near, halves-fit}
 use Rattle.rules.proofs.Flows.{counts-length, exact-all}
-use Rattle.rules.proofs.Slots.{Placed, slot-length, slot-is, only-slot, slot-right, slot-flow, slot-exact}
+use Rattle.rules.proofs.Slots.{AtInputs, slot-length, slot-is, only-slot, slot-right, slot-flow, slot-exact}
 use Rattle.rules.proofs.Blocks.{block-fits, block-one, block-part}
 use Rattle.rules.proofs.Levels.{double}
 
 -- twice as many, as the rules count
 -- ---- it exists
-pub frame-is : (ports : ℕ) (port : Side → ℕ → ℕ) (k : ℕ) (m : List ℕ) → Placed ports port (length m) → Fits ports (2 ^ k) port m
+pub frame-is : (ports : ℕ) (port : End → ℕ → ℕ) (k : ℕ) (m : List ℕ) → AtInputs ports port (length m) → Fits ports (2 ^ k) port m
     → Scheduled ports port k m (frameOf ports port k m)
 unfolding Scheduled frameOf
 frame-is ports port zero m placed fits = slot-is ports port m placed fits
@@ -44,7 +44,7 @@ frame-is ports port (suc k) m placed fits =
     }
 
 -- ---- it is the only one
-pub only-frame : (ports : ℕ) (port : Side → ℕ → ℕ) (k : ℕ) (m entries : List ℕ) → Scheduled ports port k m entries → entries ≡ frameOf ports port k m
+pub only-frame : (ports : ℕ) (port : End → ℕ → ℕ) (k : ℕ) (m entries : List ℕ) → Scheduled ports port k m entries → entries ≡ frameOf ports port k m
 unfolding Scheduled frameOf
 only-frame ports port zero m entries s = only-slot ports port m entries s
 only-frame ports port (suc k) m entries s =
@@ -54,7 +54,7 @@ only-frame ports port (suc k) m entries s =
     (only-frame ports port k (s .first) (s .front) (s .first-half) ∙ ap (frameOf ports port k) (o .0))
     (only-frame ports port k (s .second) (s .back) (s .second-half) ∙ ap (frameOf ports port k) (o .1))
 
-pub frame-length : (ports : ℕ) (port : Side → ℕ → ℕ) (k : ℕ) (m : List ℕ) → length (frameOf ports port k m) ≡ 2 ^ k * ports
+pub frame-length : (ports : ℕ) (port : End → ℕ → ℕ) (k : ℕ) (m : List ℕ) → length (frameOf ports port k m) ≡ 2 ^ k * ports
 unfolding frameOf
 frame-length ports port zero m = slot-length ports port m ∙ omega arith
 frame-length ports port (suc k) m =
@@ -67,7 +67,7 @@ pub record Laid (ports slots : ℕ) (list m entries : List ℕ) : Type 0 where
   pub size : length entries ≡ slots * ports
   pub each-right : (q : ℕ) → q < length entries → right list (q % ports) (getD entries q 0) ≡ true
   pub exact : (f : ℕ) → f < flows list → cells (flow f) ports list entries ≡ getD m f 0
-  pub once : (s o : ℕ) → s < slots → o < ports → cells (output o) ports list (runOf ports s 1 entries) ≤ 1
+  pub once : (s o : ℕ) → s < slots → o < ports → cells (portOn output o) ports list (runOf ports s 1 entries) ≤ 1
 
 pub legal-laid : {ports slots : ℕ} {list entries : List ℕ} → Laid ports slots list (countsOf list) entries → Legal ports slots list entries
 legal-laid {ports} {slots} {list} {entries} l =
@@ -78,11 +78,11 @@ legal-laid {ports} {slots} {list} {entries} l =
       once = l .once;
     }
 
-abbrev pub Sound : ℕ → ℕ → List ℕ → List ℕ → List ℕ → Type 0
-Sound ports slots list m entries = Laid ports slots list m entries × Balanced ports slots list entries
+abbrev pub LaidEvenly : ℕ → ℕ → List ℕ → List ℕ → List ℕ → Type 0
+LaidEvenly ports slots list m entries = Laid ports slots list m entries × Balanced ports slots list entries
 
-slot-sound : (ports : ℕ) (list m entries : List ℕ) → length m ≡ flows list → Placed ports (portOf list) (flows list) → Fits ports 1 (portOf list) m
-    → Slot ports (portOf list) m entries → Sound ports 1 list m entries
+slot-sound : (ports : ℕ) (list m entries : List ℕ) → length m ≡ flows list → AtInputs ports (portOf list) (flows list) → Fits ports 1 (portOf list) m
+    → Slot ports (portOf list) m entries → LaidEvenly ports 1 list m entries
 slot-sound ports list m entries size placed fits s = (
   record {
     size = s .size ∙ omega arith;
@@ -90,13 +90,13 @@ slot-sound ports list m entries size placed fits s = (
     exact = slot-flow ports list m entries size placed s;
     once = λ t o ht ho.
         let z : t ≡ 0 = omega arith in
-        let e = slot-exact ports list m entries size placed s (output o) in
+        let e = slot-exact ports list m entries size placed s (portOn output o) in
         rw (z, run-all ports 1 entries (s .size ∙ omega arith)) (omega (arith, fits o ho .1));
   },
   λ c of start half b. let e = block-one start (2 * half) b in absurd (omega arith),
 )
 
-module _ (ports n : ℕ) (list m a b f g : List ℕ) (size : length m ≡ flows list) (sp : Split (portOf list) m a b) (sf : Sound ports n list a f) (sg : Sound ports n list b g) where
+module _ (ports n : ℕ) (list m a b f g : List ℕ) (size : length m ≡ flows list) (sp : Split (portOf list) m a b) (sf : LaidEvenly ports n list a f) (sg : LaidEvenly ports n list b g) where
   lf : length f ≡ n * ports
   lf = sf .0 .size
 
@@ -111,7 +111,7 @@ module _ (ports n : ℕ) (list m a b f g : List ℕ) (size : length m ≡ flows 
       let k : r < length g = omega (arith, length-append f g) in
       rw (e, getD-append-add f g r 0, at) (sg .0 .each-right r k))
 
-  slot-once : (t o : ℕ) → t < 2 * n → o < ports → cells (output o) ports list (runOf ports t 1 (f ++ g)) ≤ 1
+  slot-once : (t o : ℕ) → t < 2 * n → o < ports → cells (portOn output o) ports list (runOf ports t 1 (f ++ g)) ≤ 1
   slot-once t o h ho =
       byLt t n
       (λ l. rw (run-first ports n t 1 f g lf (omega arith)) (sf .0 .once t o l ho))
@@ -129,7 +129,7 @@ module _ (ports n : ℕ) (list m a b f g : List ℕ) (size : length m ≡ flows 
       rw (e, d, z, run-first ports n 0 n f g lf (omega arith), run-all ports n f lf, run-second ports n 0 n f g lf, run-all ports n g (sg .0 .size), front, back)
       (halves-near (portOf list) m a b sp c)
 
-  halves-balanced : (c : Class) → Of ports c → (start half : ℕ) → ((start ≡ 0) × (2 * half ≡ 2 * n)) ⊎ (Block n start (2 * half) ⊎ ((t : ℕ) × (start ≡ n + t) × Block n t (2 * half)))
+  halves-balanced : (c : Class) → OnSwitch ports c → (start half : ℕ) → ((start ≡ 0) × (2 * half ≡ 2 * n)) ⊎ (Block n start (2 * half) ⊎ ((t : ℕ) × (start ≡ n + t) × Block n t (2 * half)))
       → Near 1 (cells c ports list (runOf ports start half (f ++ g))) (cells c ports list (runOf ports (start + half) half (f ++ g)))
   halves-balanced c of start half (inl (e, d)) = whole-near c start half e (omega arith)
   halves-balanced c of start half (inr (inl b)) =
@@ -139,7 +139,7 @@ module _ (ports n : ℕ) (list m a b f g : List ℕ) (size : length m ≡ flows 
       let d : n + t + half ≡ n + (t + half) = omega arith in
       rw (e, d, run-second ports n t half f g lf, run-second ports n (t + half) half f g lf) (sg .1 c of t half b)
 
-  pub halves-sound : Sound ports (2 * n) list m (f ++ g)
+  pub halves-sound : LaidEvenly ports (2 * n) list m (f ++ g)
   halves-sound = (
     record {
       size = length-append f g ∙ omega (arith, lf, sg .0 .size);
@@ -150,8 +150,8 @@ module _ (ports n : ℕ) (list m a b f g : List ℕ) (size : length m ≡ flows 
     λ c of start half b. halves-balanced c of start half (block-part (2 * n) n start (2 * half) refl b),
   )
 
-pub rules-sound : (ports k : ℕ) (list m entries : List ℕ) → length m ≡ flows list → Placed ports (portOf list) (flows list) → Fits ports (2 ^ k) (portOf list) m
-    → Scheduled ports (portOf list) k m entries → Sound ports (2 ^ k) list m entries
+pub rules-sound : (ports k : ℕ) (list m entries : List ℕ) → length m ≡ flows list → AtInputs ports (portOf list) (flows list) → Fits ports (2 ^ k) (portOf list) m
+    → Scheduled ports (portOf list) k m entries → LaidEvenly ports (2 ^ k) list m entries
 unfolding Scheduled
 rules-sound ports zero list m entries size placed fits s = slot-sound ports list m entries size placed fits s
 rules-sound ports (suc k) list m entries size placed fits s =
@@ -163,7 +163,7 @@ rules-sound ports (suc k) list m entries size placed fits s =
     (rules-sound ports k list (s .second) (s .back) (sp .second-size ∙ size) placed (half .1) (s .second-half)))
 
 -- Demand 2, for a list whose load fits: the entries meet the rules, nothing else does, and they are legal and balanced.
-pub one-frame : (ports k : ℕ) (list : List ℕ) → Placed ports (portOf list) (flows list) → Fits ports (2 ^ k) (portOf list) (countsOf list)
+pub one-frame : (ports k : ℕ) (list : List ℕ) → AtInputs ports (portOf list) (flows list) → Fits ports (2 ^ k) (portOf list) (countsOf list)
     → OneFrame ports k list (frameOf ports (portOf list) k (countsOf list))
 one-frame ports k list placed fits =
     let m = countsOf list in

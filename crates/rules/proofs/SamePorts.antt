@@ -8,7 +8,7 @@ use native.Mathlib.Omega.{arith}
 use lib.Dec.{eqb}
 use lib.ListN.{length, set, replicate}
 use Rattle.rules.specs.Words.{if, both, upFrom, keep, Every}
-use Rattle.rules.specs.Flows.{Side, inputs, links, outputOf}
+use Rattle.rules.specs.Flows.{End, inputs, links, outputOf}
 use Rattle.rules.specs.Rules.{odd, oddsAt, single, singlesOf}
 use Rattle.rules.specs.Schedule.{partnerIn, partner, outputPartner, favoursBy, favours, halfBy, halfOf, put, slotOf, frameOf}
 use Rattle.rules.proofs.Cases.{byLt}
@@ -61,27 +61,27 @@ module _ (f g : ℕ → ℕ) (m : List ℕ) (e : (p : ℕ) → p < length m → 
       (ap (λ (y : ℕ). singlesOf f m (outputOf y * 4) 4) (e p h) ∙ singles-same (outputOf (g p) * 4) 4))
       (λ h. output-none m p h f ∙ sym (output-none m p h g))
 
-pub favours-same : (f g : Side → ℕ → ℕ) (m : List ℕ) → ((s : Side) (p : ℕ) → p < length m → f s p ≡ g s p) → favours f m ≡ favours g m
+pub favours-same : (f g : End → ℕ → ℕ) (m : List ℕ) → ((s : End) (p : ℕ) → p < length m → f s p ≡ g s p) → favours f m ≡ favours g m
 unfolding favours
 favours-same f g m e =
     ap₂ (λ (i o : ℕ → ℕ). favoursBy i o m)
     (fun-ext (partner-same (f inputs) (g inputs) m (e inputs))) (fun-ext (output-same (f links) (g links) m (e links)))
 
 -- ---- the frame
-put-same : (f g : Side → ℕ → ℕ) (n : ℕ) → ((p : ℕ) → p < n → f inputs p ≡ g inputs p) → (l slot : List ℕ) → Every (λ p. p < n) l → put f l slot ≡ put g l slot
+put-same : (f g : End → ℕ → ℕ) (n : ℕ) → ((p : ℕ) → p < n → f inputs p ≡ g inputs p) → (l slot : List ℕ) → Every (λ p. p < n) l → put f l slot ≡ put g l slot
 put-same f g n e [] slot al = refl
 put-same f g n e (p ∷ l) slot al =
     ap (λ (x : ℕ). put f l (set slot x (suc p))) (e p (al .0)) ∙ put-same f g n e l (set slot (g inputs p) (suc p)) (al .1)
 
 -- a slot is written by the inputs alone
-pub slot-same : (ports : ℕ) (f g : Side → ℕ → ℕ) (m : List ℕ) → ((p : ℕ) → p < length m → f inputs p ≡ g inputs p) → slotOf ports f m ≡ slotOf ports g m
+pub slot-same : (ports : ℕ) (f g : End → ℕ → ℕ) (m : List ℕ) → ((p : ℕ) → p < length m → f inputs p ≡ g inputs p) → slotOf ports f m ≡ slotOf ports g m
 unfolding slotOf
 slot-same ports f g m e =
     put-same f g (length m) e (keep (odd m) (upFrom 0 (length m))) (replicate ports 0)
     (every-map (λ p. (odd m p ≡ true) × (p < length m)) (λ p. p < length m) (λ p k. k .1) (keep (odd m) (upFrom 0 (length m)))
     (keep-every (odd m) (length m) 0 (length m) (omega arith)))
 
-pub frame-same : (ports : ℕ) (f g : Side → ℕ → ℕ) (k : ℕ) (m : List ℕ) → ((s : Side) (p : ℕ) → p < length m → f s p ≡ g s p)
+pub frame-same : (ports : ℕ) (f g : End → ℕ → ℕ) (k : ℕ) (m : List ℕ) → ((s : End) (p : ℕ) → p < length m → f s p ≡ g s p)
     → frameOf ports f k m ≡ frameOf ports g k m
 unfolding frameOf
 frame-same ports f g zero m e = slot-same ports f g m (e inputs)
@@ -89,5 +89,5 @@ frame-same ports f g (suc k) m e =
     ap (λ (c : List ℕ). frameOf ports f k (halfBy 1 m c) ++ frameOf ports f k (halfBy 2 m c)) (favours-same f g m e)
     ∙ ap₂ _++_ (frame-same ports f g k (halfOf g 1 m) (half 1)) (frame-same ports f g k (halfOf g 2 m) (half 2))
   where
-    half : (h : ℕ) (s : Side) (p : ℕ) → p < length (halfOf g h m) → f s p ≡ g s p
+    half : (h : ℕ) (s : End) (p : ℕ) → p < length (halfOf g h m) → f s p ≡ g s p
     half h s p l = e s p (omega (arith, half-length h m (favours g m) (favours-law g m .len)))

@@ -10,7 +10,7 @@ use lib.ListN.{length, getD, set, replicate, length-set, length-replicate}
 use lib.Seq.{getD-set-same, getD-set-other}
 use borrow.Author.Tests.{eqb-true, eq-eqb}
 use Rattle.rules.specs.Words.{if, both, upFrom}
-use Rattle.rules.specs.Flows.{Side, inputs, links}
+use Rattle.rules.specs.Flows.{End, inputs, links}
 use Rattle.rules.specs.Rules.{odd}
 use Rattle.rules.specs.Schedule.{walk, groupOf, favouring, level, settleAt, settle, favours}
 use Rattle.rules.proofs.Cases.{byBool, byEq, both-true, both-false, within-yes, within-true}
@@ -18,14 +18,14 @@ use Rattle.rules.proofs.Lists.{zero-at}
 use Rattle.rules.proofs.Partners.{odd-lt, partner-at, partner-twice}
 use Rattle.rules.proofs.Singles.{mate, output-twice, output-odd}
 use Rattle.rules.proofs.Favouring.{none-favour, unsettled-less}
-use Rattle.rules.proofs.Walks.{Good, Pairing, Fine, Walked, grow, grow-fine, walk-keeps, walk-law}
-use Rattle.rules.proofs.Shares.{Shared, group-shares, Level, EvenMore, level-two, odd-two}
+use Rattle.rules.proofs.Walks.{Opposite, Pairing, Fine, Walked, grow, grow-fine, walk-keeps, walk-law}
+use Rattle.rules.proofs.Shares.{BothWays, group-shares, Level, EvenMore, level-two, odd-two}
 
 -- what is settled is odd, and each settled count's partner is settled with the other half
 pub record Settled (m : List ℕ) (i o : ℕ → ℕ) (c : List ℕ) : Type 0 where
   pub fine : Fine (length m) (odd m) c
-  pub ins : (q : ℕ) → Good i c q
-  pub outs : (q : ℕ) → Good o c q
+  pub ins : (q : ℕ) → Opposite i c q
+  pub outs : (q : ℕ) → Opposite o c q
 
 -- what c has settled, c′ has settled alike
 abbrev pub Keeps : List ℕ → List ℕ → Type 0
@@ -105,7 +105,7 @@ module _ (m : List ℕ) (i o : ℕ → ℕ) (pi : Pairing (odd m) i) (po : Pairi
     group-first = let e = start-in in walk-keeps (length m) o i p h (walk (length m) i o p h (set c p h)) p (omega arith) ∙ e
 
   -- the group of p is taken, and c becomes d
-  pub record Taken (p : ℕ) (c d : List ℕ) : Type 0 where
+  pub record GroupSettled (p : ℕ) (c d : List ℕ) : Type 0 where
     pub odd-count : odd m p ≡ true
     pub unsettled : getD c p 0 ≡ 0
     pub half : ℕ
@@ -116,7 +116,7 @@ module _ (m : List ℕ) (i o : ℕ → ℕ) (pi : Pairing (odd m) i) (po : Pairi
     pub even-first : Level c → EvenMore c d → half ≡ 1
 
   take-group : (p : ℕ) (c : List ℕ) → length c ≡ length m → odd m p ≡ true → getD c p 0 ≡ 0
-      → Taken p c (if (level (groupOf i o m 1 p c)) (groupOf i o m 1 p c) (groupOf i o m 2 p c))
+      → GroupSettled p c (if (level (groupOf i o m 1 p c)) (groupOf i o m 1 p c) (groupOf i o m 2 p c))
   take-group p c len od z =
       byBool (level one)
       (λ e. rw e (record {
@@ -143,14 +143,14 @@ module _ (m : List ℕ) (i o : ℕ → ℕ) (pi : Pairing (odd m) i) (po : Pairi
       one : List ℕ
       one = groupOf i o m 1 p c
 
-      shares : Shared c one (groupOf i o m 2 p c)
+      shares : BothWays c one (groupOf i o m 2 p c)
       shares = group-shares (length m) (odd m) (odd-lt m) i o m p c pi po refl len od z
 
       no : level one ≡ false → Level one → ⊥
       no e l = true≢false (sym (within-yes (favouring 2 one) (favouring 2 one + 1) (favouring 1 one) (l .0) (l .1)) ∙ e)
 
   -- one position of the scan: either it is odd and not settled, and its group is taken, or nothing changes
-  pub settle-cases : {P : Type 0} (p : ℕ) (c : List ℕ) → length c ≡ length m → (Taken p c (settleAt i o m p c) → P)
+  pub settle-cases : {P : Type 0} (p : ℕ) (c : List ℕ) → length c ≡ length m → (GroupSettled p c (settleAt i o m p c) → P)
       → (both (odd m p) (eqb (getD c p 0) 0) ≡ false → settleAt i o m p c ≡ c → P) → P
   unfolding settleAt
   settle-cases p c len f g =
@@ -209,26 +209,26 @@ module _ (m : List ℕ) (i o : ℕ → ℕ) (pi : Pairing (odd m) i) (po : Pairi
   scan-level (suc a) = let l = scan-level a in settle-cases a (scan a) (scan-settled a .fine .len) (λ t. t .level l) (λ e k. rw k l)
 
 -- ---- the whole
-pub pairings : (port : Side → ℕ → ℕ) (m : List ℕ) (s : Side) → Pairing (odd m) (mate port m s)
+pub pairings : (port : End → ℕ → ℕ) (m : List ℕ) (s : End) → Pairing (odd m) (mate port m s)
 pairings port m inputs = record { twice = partner-twice (port inputs) m; odds = λ p o. partner-at (port inputs) m p o .0 }
 pairings port m links = record { twice = output-twice (port links) m; odds = output-odd (port links) m }
 
 -- each count has the half that it favours, an even one 0, and partners on a side favour opposite halves
-pub record Favoured (m : List ℕ) (mate : Side → ℕ → ℕ) (c : List ℕ) : Type 0 where
+pub record Favoured (m : List ℕ) (mate : End → ℕ → ℕ) (c : List ℕ) : Type 0 where
   pub len : length c ≡ length m
   pub evens : (q : ℕ) → odd m q ≡ false → getD c q 0 ≡ 0
   pub low : (q : ℕ) → odd m q ≡ true → 1 ≤ getD c q 0
   pub high : (q : ℕ) → getD c q 0 ≤ 2
-  pub mates : (s : Side) (q : ℕ) → odd m q ≡ true → mate s q ≢ q → getD c (mate s q) 0 + getD c q 0 ≡ 3
+  pub mates : (s : End) (q : ℕ) → odd m q ≡ true → mate s q ≢ q → getD c (mate s q) 0 + getD c q 0 ≡ 3
 
 -- what the counts favour is what the scan leaves
-pub favours-scan : (port : Side → ℕ → ℕ) (m : List ℕ)
+pub favours-scan : (port : End → ℕ → ℕ) (m : List ℕ)
     → favours port m ≡ scan m (mate port m inputs) (mate port m links) (pairings port m inputs) (pairings port m links) (length m)
 unfolding favours
 favours-scan port m =
     scan-from m (mate port m inputs) (mate port m links) (pairings port m inputs) (pairings port m links) (length m) 0 (length m) (omega arith)
 
-pub favours-law : (port : Side → ℕ → ℕ) (m : List ℕ) → Favoured m (mate port m) (favours port m)
+pub favours-law : (port : End → ℕ → ℕ) (m : List ℕ) → Favoured m (mate port m) (favours port m)
 favours-law port m =
     record {
       len = st .fine .len;
@@ -256,11 +256,11 @@ favours-law port m =
     done : (q : ℕ) → odd m q ≡ true → getD (favours port m) q 0 ≢ 0
     done q e = rw (favours-scan port m) (scan-done m i o pi po (length m) q (odd-lt m q e) e)
 
-    sides : (s : Side) (q : ℕ) → odd m q ≡ true → mate port m s q ≢ q → getD (favours port m) (mate port m s q) 0 + getD (favours port m) q 0 ≡ 3
+    sides : (s : End) (q : ℕ) → odd m q ≡ true → mate port m s q ≢ q → getD (favours port m) (mate port m s q) 0 + getD (favours port m) q 0 ≡ 3
     sides inputs q e = st .ins q (done q e)
     sides links q e = st .outs q (done q e)
 
 -- as many favour the first half as the second, or one more
-pub favours-level : (port : Side → ℕ → ℕ) (m : List ℕ) → Level (favours port m)
+pub favours-level : (port : End → ℕ → ℕ) (m : List ℕ) → Level (favours port m)
 favours-level port m =
     rw (favours-scan port m) (scan-level m (mate port m inputs) (mate port m links) (pairings port m inputs) (pairings port m links) (length m))

@@ -44,7 +44,7 @@ pub record Both (h g : ℕ) (c d w v : List ℕ) : Type 0 where
 
 -- ---- a group, settled from c with its first count favouring the first half in one, the second half in two; besides the
 -- first count, a of its counts are settled by the walk along inputs and b by the one along outputs
-pub record Shared (c one two : List ℕ) : Type 0 where
+pub record BothWays (c one two : List ℕ) : Type 0 where
   pub a : ℕ
   pub b : ℕ
   pub one-first : favouring 1 one ≡ favouring 1 c + 1 + a / 2 + b / 2
@@ -86,7 +86,7 @@ module _ (n : ℕ) (od : ℕ → Bool) (od-lt : (p : ℕ) → od p ≡ true → 
       (record { count = 0; alike = a; own = omega arith; other = omega arith; own′ = omega arith; other′ = omega arith }))
 
   pub group-shares : (i o : ℕ → ℕ) (m : List ℕ) (p : ℕ) (c : List ℕ) → Pairing od i → Pairing od o → length m ≡ n → length c ≡ n → od p ≡ true
-      → getD c p 0 ≡ 0 → Shared c (groupOf i o m 1 p c) (groupOf i o m 2 p c)
+      → getD c p 0 ≡ 0 → BothWays c (groupOf i o m 1 p c) (groupOf i o m 2 p c)
   group-shares i o m p c pi po lm l e z =
       let p-lt : p < length c = omega (arith, od-lt p e) in
       let start = alike-set c c p 1 2 (record { len = refl; there = λ q h. h; back = λ q h. h }) p-lt (omega arith) (omega arith) in
@@ -118,7 +118,7 @@ pub same-shares : (x a b : ℕ) → (2 * x + (1 + a + b)) % 2 ≡ 0 → 1 + a / 
 same-shares x a b e = byEq (a % 2) 0 (λ h. omega arith) (λ h. omega arith)
 
 -- where one way round does not leave the halves level, the other does, and the group has an odd number of counts
-module _ {c one two : List ℕ} (s : Shared c one two) (l : Level c) (no : Level one → ⊥) where
+module _ {c one two : List ℕ} (s : BothWays c one two) (l : Level c) (no : Level one → ⊥) where
   pub level-two : Level two
   level-two =
       let a = s .one-first in

@@ -10,7 +10,7 @@ use lib.Dec.{eqb}
 use lib.ListN.{length}
 use borrow.Author.Tests.{eq-eqb, ne-eqb}
 use Rattle.rules.specs.Words.{if, both, Every}
-use Rattle.rules.specs.Flows.{Side, inputs, links, outputOf, Class, flow, input, output, link, total}
+use Rattle.rules.specs.Flows.{End, inputs, links, outputOf, Class, flow, portOn, input, output, link, total}
 use Rattle.rules.specs.Rules.{odd, oddsAt, Partners, single, singlesOf, partnered}
 use Rattle.rules.specs.Schedule.{partnerIn, partner, outputPartner}
 use Rattle.rules.proofs.Cases.{byBool, byEq}
@@ -169,14 +169,14 @@ module _ (port : ℕ → ℕ) (m : List ℕ) where
 
 -- ---- the two sides
 -- the partner of a count at its input, and at its output
-abbrev pub mate : (Side → ℕ → ℕ) → List ℕ → Side → ℕ → ℕ
+abbrev pub mate : (End → ℕ → ℕ) → List ℕ → End → ℕ → ℕ
 mate port m inputs = partner (port inputs) m
 mate port m links = outputPartner (port links) m
 
-module _ (port : Side → ℕ → ℕ) (m : List ℕ) where
+module _ (port : End → ℕ → ℕ) (m : List ℕ) where
   -- partners by the rule are odd, differ, and are each other's partner on one of the sides
   pub record Paired (p q : ℕ) : Type 0 where
-    pub side : Side
+    pub side : End
     pub odd-first : odd m p ≡ true
     pub odd-second : odd m q ≡ true
     pub differ : p ≢ q
@@ -186,7 +186,7 @@ module _ (port : Side → ℕ → ℕ) (m : List ℕ) where
   nobody : {P : Type 0} (p q : ℕ) → Partners [] p q → P
   nobody p q w = absurd (omega (arith, partners-two [] p q w))
 
-  at-port : (s : Side) (x p q : ℕ) → Partners (oddsAt (port s) m x) p q
+  at-port : (s : End) (x p q : ℕ) → Partners (oddsAt (port s) m x) p q
       → (odd m p ≡ true) × (odd m q ≡ true) × (p ≢ q) × (partner (port s) m p ≡ q) × (partner (port s) m q ≡ p)
   at-port s x p q w =
       let r = rule-mates (oddsAt (port s) m x) p q (odds-apart (port s) m x) w in
@@ -195,7 +195,7 @@ module _ (port : Side → ℕ → ℕ) (m : List ℕ) where
 
   pub rule-partner : (c : Class) (p q : ℕ) → Partners (partnered c port m) p q → Paired p q
   rule-partner (flow f) p q w = nobody p q w
-  rule-partner (input i) p q w =
+  rule-partner (portOn input i) p q w =
       let r = at-port inputs i p q w in
       record { side = inputs; odd-first = r .0; odd-second = r .1; differ = r .2; there = r .3; back = r .4 }
   rule-partner (link x) p q w =
@@ -208,7 +208,7 @@ module _ (port : Side → ℕ → ℕ) (m : List ℕ) where
         there = output-linked (port links) m p (λ e. r .2 (sym e ∙ r .3)) ∙ r .3;
         back = output-linked (port links) m q (λ e. r .2 (sym (r .4) ∙ e)) ∙ r .4;
       }
-  rule-partner (output o) p q w =
+  rule-partner (portOn output o) p q w =
       let l = singlesOf (port links) m (o * 4) 4 in
       let r = rule-mates l p q (singles-apart (port links) m (o * 4) 4) w in
       let e = partners-every (Single (port links) m (o * 4) 4) l p q (singles-every (port links) m (o * 4) 4) w in
@@ -228,11 +228,11 @@ module _ (port : Side → ℕ → ℕ) (m : List ℕ) where
   rule-partner total p q w = nobody p q w
 
   -- and who has another for a partner on a side is a partner by the rule
-  pub partner-rule : (s : Side) (p : ℕ) → mate port m s p ≢ p
+  pub partner-rule : (s : End) (p : ℕ) → mate port m s p ≢ p
       → (c : Class) × (Partners (partnered c port m) p (mate port m s p) ⊎ Partners (partnered c port m) (mate port m s p) p)
-  partner-rule inputs p n = (input (port inputs p), mates-rule (oddsAt (port inputs) m (port inputs p)) p n)
+  partner-rule inputs p n = (portOn input (port inputs p), mates-rule (oddsAt (port inputs) m (port inputs p)) p n)
   partner-rule links p n =
       byEq (partner (port links) m p) p
       (λ e. let d = output-single (port links) m p e in
-      (output (outputOf (port links p)), rw d (mates-rule (singlesOf (port links) m (outputOf (port links p) * 4) 4) p (λ k. n (d ∙ k)))))
+      (portOn output (outputOf (port links p)), rw d (mates-rule (singlesOf (port links) m (outputOf (port links p) * 4) 4) p (λ k. n (d ∙ k)))))
       (λ k. (link (port links p), rw (output-linked (port links) m p k) (mates-rule (oddsAt (port links) m (port links p)) p k)))

@@ -11,7 +11,7 @@ use lib.ListN.{length, getD, set, replicate, length-set, length-replicate}
 use lib.Seq.{getD-set-same, getD-set-other, ext-getD}
 use borrow.Author.Tests.{eqb-true, eq-eqb}
 use Rattle.rules.specs.Words.{if, upFrom, keep}
-use Rattle.rules.specs.Flows.{flows, Side, inputs, portOf, Class, flow, loadIn, Fits}
+use Rattle.rules.specs.Flows.{flows, End, inputs, portOf, Class, flow, loadIn, Fits}
 use Rattle.rules.specs.Frames.{right, cells}
 use Rattle.rules.specs.Rules.{odd, Slot}
 use Rattle.rules.specs.Schedule.{put, slotOf}
@@ -23,15 +23,15 @@ use Rattle.rules.proofs.Lists.{zero-at}
 use Rattle.rules.proofs.Flows.{right-flow, flow-counts, exact-all}
 
 -- ---- what is written into a slot
-put-length : (port : Side → ℕ → ℕ) (l s : List ℕ) → length (put port l s) ≡ length s
+put-length : (port : End → ℕ → ℕ) (l s : List ℕ) → length (put port l s) ≡ length s
 put-length port [] s = refl
 put-length port (p ∷ l) s = put-length port l (set s (port inputs p) (suc p)) ∙ length-set s (port inputs p) (suc p)
 
-pub slot-length : (ports : ℕ) (port : Side → ℕ → ℕ) (m : List ℕ) → length (slotOf ports port m) ≡ ports
+pub slot-length : (ports : ℕ) (port : End → ℕ → ℕ) (m : List ℕ) → length (slotOf ports port m) ≡ ports
 unfolding slotOf
 slot-length ports port m = put-length port (keep (odd m) (upFrom 0 (length m))) (replicate ports 0) ∙ length-replicate ports 0
 
-module _ (port : Side → ℕ → ℕ) (m : List ℕ) (i : ℕ) where
+module _ (port : End → ℕ → ℕ) (m : List ℕ) (i : ℕ) where
   -- what is at i after all is as it was, or was written
   put-any : (P : ℕ → Type 0) (n a : ℕ) (s : List ℕ) → i < length s → ((p : ℕ) → a ≤ p → p < a + n → odd m p ≡ true → port inputs p ≡ i → P (suc p)) → P (getD s i 0)
       → P (getD (put port (keep (odd m) (upFrom a n)) s) i 0)
@@ -75,10 +75,10 @@ module _ (port : Side → ℕ → ℕ) (m : List ℕ) (i : ℕ) where
 
 -- ---- the slot of counts that fit one slot
 -- the first n flows are of inputs of the switch
-abbrev pub Placed : ℕ → (Side → ℕ → ℕ) → ℕ → Type 0
-Placed ports port n = (f : ℕ) → f < n → port inputs f < ports
+abbrev pub AtInputs : ℕ → (End → ℕ → ℕ) → ℕ → Type 0
+AtInputs ports port n = (f : ℕ) → f < n → port inputs f < ports
 
-module _ (ports : ℕ) (port : Side → ℕ → ℕ) (m : List ℕ) (placed : Placed ports port (length m)) (fits : Fits ports 1 port m) where
+module _ (ports : ℕ) (port : End → ℕ → ℕ) (m : List ℕ) (placed : AtInputs ports port (length m)) (fits : Fits ports 1 port m) where
   -- what a flow adds to the load of its input
   at-own : (f : ℕ) → if (eqb (port inputs f) (port inputs f)) (getD m f 0) 0 ≡ getD m f 0
   at-own f = rw (eq-eqb (port inputs f) (port inputs f) refl)
@@ -118,7 +118,7 @@ module _ (ports : ℕ) (port : Side → ℕ → ℕ) (m : List ℕ) (placed : Pl
           omega arith)
 
 -- ---- whatever meets the rule
-module _ (ports : ℕ) (port : Side → ℕ → ℕ) (m entries : List ℕ) (sl : Slot ports port m entries) where
+module _ (ports : ℕ) (port : End → ℕ → ℕ) (m entries : List ℕ) (sl : Slot ports port m entries) where
   one-of : (f : ℕ) → f < length m → odd m f ≡ true → getD entries (port inputs f) 0 ≡ suc f
   one-of f h od =
       byEq (getD entries (port inputs f) 0) (suc f) (λ e. e)
@@ -141,7 +141,7 @@ module _ (ports : ℕ) (port : Side → ℕ → ℕ) (m entries : List ℕ) (sl 
       (λ i h. let hi : i < ports = (let k = sl .size in omega arith) in sym (only-at i (getD entries i 0) hi refl))
 
 -- ---- its entries are right, and its cells are its counts
-module _ (ports : ℕ) (list m entries : List ℕ) (size : length m ≡ flows list) (placed : Placed ports (portOf list) (flows list))
+module _ (ports : ℕ) (list m entries : List ℕ) (size : length m ≡ flows list) (placed : AtInputs ports (portOf list) (flows list))
     (sl : Slot ports (portOf list) m entries) where
   right-at : (i v : ℕ) → i < ports → getD entries i 0 ≡ v → right list i v ≡ true
   right-at i zero h e = refl

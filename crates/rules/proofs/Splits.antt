@@ -10,7 +10,7 @@ use lib.ListN.{length, getD}
 use lib.Seq.{ext-getD}
 use borrow.Author.Tests.{eqb-true, eqb-false, eq-eqb, ne-eqb, lt-ltb, le-ltb, ltb-true, ltb-false}
 use Rattle.rules.specs.Words.{bit, upFrom, keep, Near, Every}
-use Rattle.rules.specs.Flows.{Side, Class}
+use Rattle.rules.specs.Flows.{End, Class}
 use Rattle.rules.specs.Rules.{odd, partnered, Partners, Joined, Group, favoursFirst, Split}
 use Rattle.rules.specs.Schedule.{favours, halfBy, halfOf}
 use Rattle.rules.proofs.Cases.{byBool, byEq, is-yes, is-no}
@@ -18,7 +18,7 @@ use Rattle.rules.proofs.Lists.{every-map}
 use Rattle.rules.proofs.Singles.{mate, rule-partner, partner-rule}
 use Rattle.rules.proofs.Settled.{pairings, favours-law}
 use Rattle.rules.proofs.Kept.{keep-alike, keep-parts}
-use Rattle.rules.proofs.Groups.{Reached, reached-closed, joined-reached}
+use Rattle.rules.proofs.Groups.{JoinedBy, reached-closed, joined-reached}
 use Rattle.rules.proofs.Ties.{lists-every, has-group, even-favours, odd-test, odd-lists, odd-share}
 
 -- ---- halves by what each count favours
@@ -34,16 +34,16 @@ half-length h [] c e = refl
 half-length h (x ∷ m) [] e = absurd (omega arith)
 half-length h (x ∷ m) (y ∷ c) e = ap suc (half-length h m c (omega arith))
 
-module _ (port : Side → ℕ → ℕ) (m : List ℕ) where
+module _ (port : End → ℕ → ℕ) (m : List ℕ) where
   -- what each half gets of a count, by what it favours
-  pub record Given (p a b : ℕ) : Type 0 where
+  pub record Gets (p a b : ℕ) : Type 0 where
     pub first : getD (halfOf port 1 m) p 0 ≡ a
     pub second : getD (halfOf port 2 m) p 0 ≡ b
 
   abbrev colour : ℕ → ℕ
   colour p = getD (favours port m) p 0
 
-  given : (p x y : ℕ) → bit (eqb (colour p) 1) ≡ x → bit (eqb (colour p) 2) ≡ y → Given p (getD m p 0 / 2 + x) (getD m p 0 / 2 + y)
+  given : (p x y : ℕ) → bit (eqb (colour p) 1) ≡ x → bit (eqb (colour p) 2) ≡ y → Gets p (getD m p 0 / 2 + x) (getD m p 0 / 2 + y)
   given p x y e f =
       let l = favours-law port m .len in
       record {
@@ -51,13 +51,13 @@ module _ (port : Side → ℕ → ℕ) (m : List ℕ) where
         second = half-at 2 m (favours port m) p (omega arith) l ∙ ap (λ (t : ℕ). getD m p 0 / 2 + t) f;
       }
 
-  pub given-even : (p : ℕ) → odd m p ≡ false → Given p (getD m p 0 / 2 + 0) (getD m p 0 / 2 + 0)
+  pub given-even : (p : ℕ) → odd m p ≡ false → Gets p (getD m p 0 / 2 + 0) (getD m p 0 / 2 + 0)
   given-even p e = let z = favours-law port m .evens p e in given p 0 0 (is-no (colour p) 1 (omega arith)) (is-no (colour p) 2 (omega arith))
 
-  pub given-one : (p : ℕ) → colour p ≡ 1 → Given p (getD m p 0 / 2 + 1) (getD m p 0 / 2 + 0)
+  pub given-one : (p : ℕ) → colour p ≡ 1 → Gets p (getD m p 0 / 2 + 1) (getD m p 0 / 2 + 0)
   given-one p e = given p 1 0 (is-yes (colour p) 1 e) (is-no (colour p) 2 (omega arith))
 
-  pub given-two : (p : ℕ) → colour p ≢ 1 → odd m p ≡ true → Given p (getD m p 0 / 2 + 0) (getD m p 0 / 2 + 1)
+  pub given-two : (p : ℕ) → colour p ≢ 1 → odd m p ≡ true → Gets p (getD m p 0 / 2 + 0) (getD m p 0 / 2 + 1)
   given-two p n e =
       let a = favours-law port m .low p e in
       let b = favours-law port m .high p in
@@ -87,11 +87,11 @@ module _ (port : Side → ℕ → ℕ) (m : List ℕ) where
   opposite-is a b x y e = byEq b 1 (λ k. rw (eq-eqb b 1 k) (ne-eqb a 1 (omega arith))) (λ k. rw (ne-eqb b 1 k) (eq-eqb a 1 (omega arith)))
 
   -- what holds of each that the first count of a group reaches holds of each of the group
-  group-every : (P : ℕ → Type 0) (p : ℕ) (group : List ℕ) → Group port m p group → ((q : ℕ) → Reached (mate port m) p q → P q) → Every P group
+  group-every : (P : ℕ → Type 0) (p : ℕ) (group : List ℕ) → Group port m p group → ((q : ℕ) → JoinedBy (mate port m) p q → P q) → Every P group
   group-every P p group x h =
       every-map (Joined port m p) P (λ q j. h q (joined-reached port m p q j)) group (lists-every (length m) (Joined port m p) group (x .counts))
 
-  group-odd : (p : ℕ) (group : List ℕ) → Group port m p group → (q : ℕ) → Reached (mate port m) p q → odd m q ≡ true
+  group-odd : (p : ℕ) (group : List ℕ) → Group port m p group → (q : ℕ) → JoinedBy (mate port m) p q → odd m q ≡ true
   group-odd p group x q j = reached-closed (mate port m) p (λ r. odd m r ≡ true) (x .odd-count) (λ s. pairings port m s .odds) q j
 
   -- those of a group that favour the first half
@@ -146,7 +146,7 @@ module _ (port : Side → ℕ → ℕ) (m : List ℕ) where
     flip x true e = rw e
     flip x false e = rw e
 
-    agree-on : (way : Bool → Bool) → ((x : Bool) → way (not x) ≡ not (way x)) → (s : Side) (p : ℕ) → Agrees way p → Agrees way (mate port m s p)
+    agree-on : (way : Bool → Bool) → ((x : Bool) → way (not x) ≡ not (way x)) → (s : End) (p : ℕ) → Agrees way p → Agrees way (mate port m s p)
     agree-on way turns s p g =
         byEq (mate port m s p) p (λ e. rw e g)
         (λ n.

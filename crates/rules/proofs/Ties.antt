@@ -9,7 +9,7 @@ use lib.Dec.{eqb}
 use lib.ListN.{length, getD}
 use borrow.Author.Tests.{eqb-true, eqb-false, eq-eqb, ne-eqb}
 use Rattle.rules.specs.Words.{bit, upFrom, keep, sumTo, Every}
-use Rattle.rules.specs.Flows.{Side, inputs, links}
+use Rattle.rules.specs.Flows.{End, inputs, links}
 use Rattle.rules.specs.Rules.{odd, Joined, Lists, Group, OddGroup}
 use Rattle.rules.specs.Schedule.{favouring, favours}
 use Rattle.rules.proofs.Cases.{byBool, byEq}
@@ -20,7 +20,7 @@ use Rattle.rules.proofs.Lists.{every-map}
 use Rattle.rules.proofs.Favouring.{none-favour}
 use Rattle.rules.proofs.Singles.{mate}
 use Rattle.rules.proofs.Settled.{Keeps, pairings, group-first, favours-scan, favours-law}
-use Rattle.rules.proofs.Groups.{Reached, reached-joined, joined-reached, state, state-settled, state-keeps, state-level, Takes, takes-cases, takes-first, taken-before, first-takes, member, member-yes, member-no, members, members-size, members-share}
+use Rattle.rules.proofs.Groups.{JoinedBy, reached-joined, joined-reached, state, state-settled, state-keeps, state-level, TakesGroup, takes-cases, takes-first, taken-before, first-takes, member, member-yes, member-no, members, members-size, members-share}
 
 -- ---- lists of numbers of which something holds
 lists-same : (n : ℕ) (P : ℕ → Type 0) (k l : List ℕ) → Lists n P k → Lists n P l → k ≡ l
@@ -48,13 +48,13 @@ turn-on k f g f′ g′ e l h =
 same-parity : (l f g x : ℕ) → l + (f + g) ≡ x → (x + f + g) % 2 ≡ l % 2
 same-parity l f g x e = let d : x + f + g ≡ l + 2 * (f + g) = omega arith in rw d (omega arith)
 
-module _ (port : Side → ℕ → ℕ) (m : List ℕ) where
+module _ (port : End → ℕ → ℕ) (m : List ℕ) where
   -- what is settled before position a comes
   abbrev scanned : ℕ → List ℕ
   scanned a = state m (mate port m) (pairings port m) a
 
   abbrev TakesAt : ℕ → Type 0
-  TakesAt p = Takes m (mate port m) (pairings port m) p
+  TakesAt p = TakesGroup m (mate port m) (pairings port m) p
 
   abbrev first-half : ℕ → ℕ
   first-half a = favouring 1 (scanned a)
@@ -81,7 +81,7 @@ module _ (port : Side → ℕ → ℕ) (m : List ℕ) where
       }
 
   -- every odd count is of a group
-  pub has-group : (q : ℕ) → odd m q ≡ true → (p : ℕ) × (group : List ℕ) × Group port m p group × Reached (mate port m) p q
+  pub has-group : (q : ℕ) → odd m q ≡ true → (p : ℕ) × (group : List ℕ) × Group port m p group × JoinedBy (mate port m) p q
   has-group q e =
       let n : getD (favours port m) q 0 ≢ 0 = (let l = favours-law port m .low q e in omega arith) in
       let l = taken-before m (mate port m) (pairings port m) (length m) q (rw (favours-scan port m) at n) in

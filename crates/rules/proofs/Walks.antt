@@ -13,8 +13,8 @@ use Rattle.rules.proofs.Cases.{byEq}
 use Rattle.rules.proofs.Favouring.{settled-less}
 
 -- ---- what a walk keeps
-abbrev pub Good : (ℕ → ℕ) → List ℕ → ℕ → Type 0
-Good f c q = getD c q 0 ≢ 0 → f q ≢ q → getD c (f q) 0 + getD c q 0 ≡ 3
+abbrev pub Opposite : (ℕ → ℕ) → List ℕ → ℕ → Type 0
+Opposite f c q = getD c q 0 ≢ 0 → f q ≢ q → getD c (f q) 0 + getD c q 0 ≡ 3
 
 pub record Pairing (od : ℕ → Bool) (f : ℕ → ℕ) : Type 0 where
   pub twice : (p : ℕ) → f (f p) ≡ p
@@ -27,21 +27,21 @@ pub record Fine (n : ℕ) (od : ℕ → Bool) (c : List ℕ) : Type 0 where
 
 pub record Walked (n : ℕ) (od : ℕ → Bool) (go back : ℕ → ℕ) (x y : ℕ) (c : List ℕ) : Type 0 where
   pub fine : Fine n od c
-  pub goes : (q : ℕ) → q ≢ x → Good go c q
-  pub backs : (q : ℕ) → q ≢ y → Good back c q
+  pub goes : (q : ℕ) → q ≢ x → Opposite go c q
+  pub backs : (q : ℕ) → q ≢ y → Opposite back c q
 
 pub record Walking (n : ℕ) (od : ℕ → Bool) (go back : ℕ → ℕ) (p h x y : ℕ) (c : List ℕ) : Type 0 where
   pub fine : Fine n od c
   pub low : 1 ≤ h
   pub high : h ≤ 2
   pub head : getD c p 0 ≡ h
-  pub goes : (q : ℕ) → q ≢ p → q ≢ x → Good go c q
-  pub backs : (q : ℕ) → q ≢ y → Good back c q
+  pub goes : (q : ℕ) → q ≢ p → q ≢ x → Opposite go c q
+  pub backs : (q : ℕ) → q ≢ y → Opposite back c q
   pub at-x : x < n → getD c x 0 ≡ 3 - h
   pub at-y : y < n → getD c y 0 ≡ h
 
 -- a count newly settled leaves a good one good
-pub grow : (f : ℕ → ℕ) (c : List ℕ) (q v r : ℕ) → ((s : ℕ) → getD c s 0 ≤ 2) → getD c q 0 ≡ 0 → r ≢ q → Good f c r → Good f (set c q v) r
+pub grow : (f : ℕ → ℕ) (c : List ℕ) (q v r : ℕ) → ((s : ℕ) → getD c s 0 ≤ 2) → getD c q 0 ≡ 0 → r ≢ q → Opposite f c r → Opposite f (set c q v) r
 grow f c q v r two z ne g s n =
     let e1 = getD-set-other c q r v 0 ne in
     let g1 = g (omega arith) n in
@@ -89,7 +89,7 @@ module _ (n : ℕ) (od : ℕ → Bool) (od-lt : (p : ℕ) → od p ≡ true → 
   walk-stop : (go back : ℕ → ℕ) (p h x y : ℕ) (c : List ℕ) → Pairing od go → Walking n od go back p h x y c → getD c (go p) 0 ≢ 0 → Walked n od go back x y c
   walk-stop go back p h x y c pg w s = record { fine = w .fine; goes = goes; backs = w .backs }
     where
-      at-head : Good go c p
+      at-head : Opposite go c p
       at-head sp mv =
           byEq (go p) x
           (λ e.
@@ -101,8 +101,8 @@ module _ (n : ℕ) (od : ℕ → Bool) (od-lt : (p : ℕ) → od p ≡ true → 
           let a = ap (λ (t : ℕ). getD c t 0) (pg .twice p) in
           omega arith)
 
-      goes : (q : ℕ) → q ≢ x → Good go c q
-      goes q qx = byEq q p (λ e. subst (λ (t : ℕ). Good go c t) (sym e) at-head) (λ e. w .goes q e qx)
+      goes : (q : ℕ) → q ≢ x → Opposite go c q
+      goes q qx = byEq q p (λ e. subst (λ (t : ℕ). Opposite go c t) (sym e) at-head) (λ e. w .goes q e qx)
 
   walk-step : (go back : ℕ → ℕ) (p h x y : ℕ) (c : List ℕ) → Pairing od go → Walking n od go back p h x y c → getD c (go p) 0 ≡ 0
       → Walking n od back go (go p) (3 - h) y x (set c (go p) (3 - h))
@@ -113,8 +113,8 @@ module _ (n : ℕ) (od : ℕ → Bool) (od-lt : (p : ℕ) → od p ≡ true → 
         high = omega arith;
         head = same;
         goes = λ r rq ry. grow back c q v r (w .fine .two) z rq (w .backs r ry);
-        backs = λ r rx. byEq r q (λ e. subst (λ (t : ℕ). Good go c′ t) (sym e) at-new)
-            (λ rq. byEq r p (λ e. subst (λ (t : ℕ). Good go c′ t) (sym e) at-old) (λ rp. grow go c q v r (w .fine .two) z rq (w .goes r rp rx)));
+        backs = λ r rx. byEq r q (λ e. subst (λ (t : ℕ). Opposite go c′ t) (sym e) at-new)
+            (λ rq. byEq r p (λ e. subst (λ (t : ℕ). Opposite go c′ t) (sym e) at-old) (λ rp. grow go c q v r (w .fine .two) z rq (w .goes r rp rx)));
         at-x = λ yn. let a = w .at-y yn in let b = getD-set-other c q y v 0 (off y (omega arith)) in omega arith;
         at-y = λ xn. let a = w .at-x xn in getD-set-other c q x v 0 (off x (omega arith)) ∙ a;
       }
@@ -146,10 +146,10 @@ module _ (n : ℕ) (od : ℕ → Bool) (od-lt : (p : ℕ) → od p ≡ true → 
       old : getD c′ p 0 ≡ h
       old = getD-set-other c q p v 0 p-q ∙ w .head
 
-      at-old : Good go c′ p
+      at-old : Opposite go c′ p
       at-old s m = omega (arith, same, old)
 
-      at-new : Good go c′ q
+      at-new : Opposite go c′ q
       at-new s m = let a = ap (λ (t : ℕ). getD c′ t 0) (pg .twice p) in omega (arith, same, old)
 
   pub walk-law : (k : ℕ) (go back : ℕ → ℕ) (p h x y : ℕ) (c : List ℕ) → Pairing od go → Pairing od back → Walking n od go back p h x y c → favouring 0 c < k

@@ -6,7 +6,7 @@ use mathlib.Core.Bool.{Bool, true, not}
 use lib.Dec.{eqb}
 use lib.ListN.{length, getD, take, drop}
 use Rattle.rules.specs.Words.{if, both, bit, within, first, sumTo, Near}
-use Rattle.rules.specs.Flows.{flows, inputs, portOf, Class, flow, input, output, link, total, Of, isOf, load}
+use Rattle.rules.specs.Flows.{flows, inputs, portOf, Class, flow, portOn, input, output, link, total, OnSwitch, isOf, load}
 
 -- A frame is its slots, first slot first; a slot is one entry per input: the number of the flow that it sends a cell of, from 1,
 -- or 0 for idle. So entry q of any whole slots, end to end, is that of input q % ports.
@@ -24,8 +24,8 @@ right list at e = if (eqb e 0) true (both (isFlow list e) (eqb (portOf list inpu
 -- entry of its own that is not 0. So one that is no flow counts for its input only.
 abbrev pub counts : Class → List ℕ → ℕ → ℕ → Bool
 counts (flow f) list at e = both (isFlow list e) (isOf (flow f) (portOf list) (e - 1))
-counts (input i) list at e = both (eqb at i) (not (eqb e 0))
-counts (output o) list at e = both (isFlow list e) (isOf (output o) (portOf list) (e - 1))
+counts (portOn input i) list at e = both (eqb at i) (not (eqb e 0))
+counts (portOn output o) list at e = both (isFlow list e) (isOf (portOn output o) (portOf list) (e - 1))
 counts (link x) list at e = both (isFlow list e) (isOf (link x) (portOf list) (e - 1))
 counts total list at e = both (isFlow list e) (isOf total (portOf list) (e - 1))
 
@@ -58,7 +58,7 @@ pub record Legal (ports slots : ℕ) (list entries : List ℕ) : Type 0 where
   pub size : length entries ≡ slots * ports
   pub each-right : (q : ℕ) → q < length entries → right list (q % ports) (getD entries q 0) ≡ true
   pub exact : (f : ℕ) → f < flows list → cells (flow f) ports list entries ≡ load (flow f) list
-  pub once : (s o : ℕ) → s < slots → o < ports → cells (output o) ports list (runOf ports s 1 entries) ≤ 1
+  pub once : (s o : ℕ) → s < slots → o < ports → cells (portOn output o) ports list (runOf ports s 1 entries) ≤ 1
 
 -- Rule 1: a block is the whole frame, or either half of a block; it is named by its first slot and its size.
 pub data Block (slots : ℕ) : ℕ → ℕ → Type 0 where
@@ -70,5 +70,5 @@ pub data Block (slots : ℕ) : ℕ → ℕ → Type 0 where
 -- the total.
 abbrev pub Balanced : ℕ → ℕ → List ℕ → List ℕ → Type 0
 Balanced ports slots list entries =
-    (c : Class) → Of ports c → (start half : ℕ) → Block slots start (2 * half)
+    (c : Class) → OnSwitch ports c → (start half : ℕ) → Block slots start (2 * half)
     → Near 1 (cells c ports list (runOf ports start half entries)) (cells c ports list (runOf ports (start + half) half entries))

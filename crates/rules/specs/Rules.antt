@@ -6,7 +6,7 @@ use mathlib.Core.Bool.{Bool, true, false, not}
 use lib.Dec.{eqb, ltb}
 use lib.ListN.{length, getD}
 use Rattle.rules.specs.Words.{both, bit, upFrom, keep, Near}
-use Rattle.rules.specs.Flows.{Side, inputs, links, Class, flow, input, output, link, total}
+use Rattle.rules.specs.Flows.{End, inputs, links, Class, flow, portOn, input, output, link, total}
 
 -- A block has a count for each flow, of which the input and the link are given; an odd one is named by its flow.
 
@@ -35,15 +35,15 @@ singlesOf port m x (suc n) = single (oddsAt port m x) ++ singlesOf port m (suc x
 
 -- The odd counts that are partnered, in their order. At an input all of them, by rising flow number. At an output first those of one
 -- link, by rising flow number; then the single ones left, at most one a link, by rising link.
-abbrev pub partnered : Class → (Side → ℕ → ℕ) → List ℕ → List ℕ
+abbrev pub partnered : Class → (End → ℕ → ℕ) → List ℕ → List ℕ
 partnered (flow f) port m = []
-partnered (input i) port m = oddsAt (port inputs) m i
-partnered (output o) port m = singlesOf (port links) m (o * 4) 4
+partnered (portOn input i) port m = oddsAt (port inputs) m i
+partnered (portOn output o) port m = singlesOf (port links) m (o * 4) 4
 partnered (link x) port m = oddsAt (port links) m x
 partnered total port m = []
 
 -- Rule 5: a group is all odd counts joined by partnership, directly or through others, at inputs, links and outputs.
-pub data Joined (port : Side → ℕ → ℕ) (m : List ℕ) (p : ℕ) : ℕ → Type 0 where
+pub data Joined (port : End → ℕ → ℕ) (m : List ℕ) (p : ℕ) : ℕ → Type 0 where
   itself : Joined port m p p
   onward : (c : Class) {q r : ℕ} → Joined port m p q → Partners (partnered c port m) q r → Joined port m p r
   backward : (c : Class) {q r : ℕ} → Joined port m p q → Partners (partnered c port m) r q → Joined port m p r
@@ -56,13 +56,13 @@ pub record Lists (n : ℕ) (P : ℕ → Type 0) (l : List ℕ) : Type 0 where
   pub listed : l ≡ keep test (upFrom 0 n)
 
 -- A group is taken by its first count in the order of the flows, p; these are its counts, rising.
-pub record Group (port : Side → ℕ → ℕ) (m : List ℕ) (p : ℕ) (group : List ℕ) : Type 0 where
+pub record Group (port : End → ℕ → ℕ) (m : List ℕ) (p : ℕ) (group : List ℕ) : Type 0 where
   pub odd-count : odd m p ≡ true
   pub first : (q : ℕ) → Joined port m p q → p ≤ q
   pub counts : Lists (length m) (Joined port m p) group
 
 -- A group with an odd number of counts is taken by p.
-pub record OddGroup (port : Side → ℕ → ℕ) (m : List ℕ) (p : ℕ) : Type 0 where
+pub record OddGroup (port : End → ℕ → ℕ) (m : List ℕ) (p : ℕ) : Type 0 where
   pub group : List ℕ
   pub taken : Group port m p group
   pub odd-number : length group % 2 ≡ 1
@@ -77,7 +77,7 @@ abbrev pub LargerShare : ℕ → ℕ → ℕ → Type 0
 LargerShare n all firsts = (n % 2 ≡ 1 → all < 2 * firsts) × (n % 2 ≡ 0 → 2 * firsts < all)
 
 -- The counts m of a block, shared between its halves, a and b, over the input and the link of each flow.
-pub record Split (port : Side → ℕ → ℕ) (m a b : List ℕ) : Type 0 where
+pub record Split (port : End → ℕ → ℕ) (m a b : List ℕ) : Type 0 where
   pub first-size : length a ≡ length m
   pub second-size : length b ≡ length m
   -- Rule 2: an even count gives half to each, an odd one gives one half one cell more than the other.
@@ -93,13 +93,13 @@ pub record Split (port : Side → ℕ → ℕ) (m a b : List ℕ) : Type 0 where
       → LargerShare (suc (length before)) (length group) (length (keep (favoursFirst a b) group))
 
 -- Rule 6: the counts of a block of one slot are the slot's cells. An entry that is not 0 is the number of a flow of its input.
-pub record Slot (ports : ℕ) (port : Side → ℕ → ℕ) (m entries : List ℕ) : Type 0 where
+pub record Slot (ports : ℕ) (port : End → ℕ → ℕ) (m entries : List ℕ) : Type 0 where
   pub size : length entries ≡ ports
   pub own : (i f : ℕ) → i < ports → getD entries i 0 ≡ suc f → (f < length m) × (port inputs f ≡ i)
   pub same : (f : ℕ) → f < length m → bit (eqb (getD entries (port inputs f) 0) (suc f)) ≡ getD m f 0
 
 -- A block that is halved: the rules on each half, which P says, give the entries end to end.
-pub record Halved (port : Side → ℕ → ℕ) (P : List ℕ → List ℕ → Type 0) (m entries : List ℕ) : Type 0 where
+pub record Halved (port : End → ℕ → ℕ) (P : List ℕ → List ℕ → Type 0) (m entries : List ℕ) : Type 0 where
   pub first : List ℕ
   pub second : List ℕ
   pub front : List ℕ
@@ -110,6 +110,6 @@ pub record Halved (port : Side → ℕ → ℕ) (P : List ℕ → List ℕ → T
   pub joined : entries ≡ front ++ back
 
 -- The entries of a block of 2 ^ k slots meet rules 1 to 6 for the counts m. The recursion goes down to single slots.
-unfoldable pub Scheduled : ℕ → (Side → ℕ → ℕ) → ℕ → List ℕ → List ℕ → Type 0
+unfoldable pub Scheduled : ℕ → (End → ℕ → ℕ) → ℕ → List ℕ → List ℕ → Type 0
 Scheduled ports port zero m entries = Slot ports port m entries
 Scheduled ports port (suc k) m entries = Halved port (Scheduled ports port k) m entries

@@ -5,7 +5,7 @@ use mathlib.Core.Bool.{Bool, true, false}
 use lib.Dec.{eqb}
 use lib.ListN.{length, getD, set, replicate}
 use Rattle.rules.specs.Words.{if, both, bit, within, upFrom, keep}
-use Rattle.rules.specs.Flows.{Side, inputs, links, outputOf}
+use Rattle.rules.specs.Flows.{End, inputs, links, outputOf}
 use Rattle.rules.specs.Rules.{odd, oddsAt, singlesOf}
 
 -- The partner of p in a list, first with second, third with fourth, ..; a single one is its own.
@@ -63,7 +63,7 @@ settle i o m (p ∷ l) c = settle i o m l (settleAt i o m p c)
 abbrev pub favoursBy : (ℕ → ℕ) → (ℕ → ℕ) → List ℕ → List ℕ
 favoursBy i o m = settle i o m (upFrom 0 (length m)) (replicate (length m) 0)
 
-unfoldable pub favours : (Side → ℕ → ℕ) → List ℕ → List ℕ
+unfoldable pub favours : (End → ℕ → ℕ) → List ℕ → List ℕ
 favours port m = favoursBy (partner (port inputs) m) (outputPartner (port links) m) m
 
 -- What half h gets of each count.
@@ -72,19 +72,19 @@ halfBy h [] c = []
 halfBy h (x ∷ m) [] = []
 halfBy h (x ∷ m) (y ∷ c) = (x / 2 + bit (eqb y h)) ∷ halfBy h m c
 
-abbrev pub halfOf : (Side → ℕ → ℕ) → ℕ → List ℕ → List ℕ
+abbrev pub halfOf : (End → ℕ → ℕ) → ℕ → List ℕ → List ℕ
 halfOf port h m = halfBy h m (favours port m)
 
 -- The flows of a list, written into a slot: at each one's input its number, from 1.
-abbrev pub put : (Side → ℕ → ℕ) → List ℕ → List ℕ → List ℕ
+abbrev pub put : (End → ℕ → ℕ) → List ℕ → List ℕ → List ℕ
 put port [] slot = slot
 put port (f ∷ l) slot = put port l (set slot (port inputs f) (suc f))
 
-unfoldable pub slotOf : ℕ → (Side → ℕ → ℕ) → List ℕ → List ℕ
+unfoldable pub slotOf : ℕ → (End → ℕ → ℕ) → List ℕ → List ℕ
 slotOf ports port m = put port (keep (odd m) (upFrom 0 (length m))) (replicate ports 0)
 
 -- The entries of a block of 2 ^ k slots.
-unfoldable pub frameOf : ℕ → (Side → ℕ → ℕ) → ℕ → List ℕ → List ℕ
+unfoldable pub frameOf : ℕ → (End → ℕ → ℕ) → ℕ → List ℕ → List ℕ
 frameOf ports port zero m = slotOf ports port m
 frameOf ports port (suc k) m =
     let c = favours port m in

@@ -12,7 +12,7 @@ use Rattle.rules.specs.Flows.{countsOf}
 use Rattle.calls.specs.Refusals.{report, refusal, accepted, answered, bad-frame, overloads}
 use Rattle.rules.specs.Frames.{levels}
 use Rattle.rules.specs.OddShares.{settled}
-use Rattle.calls.specs.Build.{buildChecks, buildAccepts, frameFor, acceptance, built, left}
+use Rattle.calls.specs.Build.{buildChecks, buildAccepts, frameFor, acceptance, built, frameAfter}
 use Rattle.calls.specs.declared.Refusal.{Refusal}
 use Rattle.calls.specs.declared.Refusal.the-variants.{FrameLength}
 use Rattle.calls.specs.declared.Answer.{Answer}
@@ -21,7 +21,7 @@ use Rattle.calls.proofs.Reports.{report-clear, report-stops, clear-none, clear-
 use Rattle.calls.proofs.Demand2.{past-load, past-frame, clear-allows, accepts-yes}
 use Rattle.calls.specs.Demand2.{Accepts}
 use Rattle.calls.proofs.Work.{work-built}
-use Rattle.admission.specs.Lists.{ListAnswer, Taken}
+use Rattle.admission.specs.Lists.{ListAnswer, ListFits}
 use Rattle.admission.specs.Overloads.{EveryLoad, decided}
 use Rattle.admission.proofs.Listed.{list-refused, list-well, well-taken}
 use Rattle.admission.proofs.Deciding.{decided-loads}
@@ -30,10 +30,10 @@ use Rattle.schedule.specs.Steps.{Fillable}
 -- the answer is Build's, and so are the entries
 pub record Done (ports slots : ℕ) (list limits buffer answer entries : List ℕ) : Type 0 where
   pub answers : answer ≡ built ports slots list limits buffer
-  pub leaves : entries ≡ left ports slots list limits buffer
+  pub leaves : entries ≡ frameAfter ports slots list limits buffer
 
 pub done : (ports slots : ℕ) (list limits buffer answer entries : List ℕ) → Done ports slots list limits buffer answer entries
-    → (answer ≡ built ports slots list limits buffer) × (entries ≡ left ports slots list limits buffer)
+    → (answer ≡ built ports slots list limits buffer) × (entries ≡ frameAfter ports slots list limits buffer)
 done ports slots list limits buffer answer entries d = (d .answers, d .leaves)
 
 module _ {ports slots : ℕ} {list : List ℕ} (limits buffer : List ℕ) where
@@ -49,7 +49,7 @@ module _ {ports slots : ℕ} {list : List ℕ} (limits buffer : List ℕ) where
     unfolding buildChecks
     list-done {x} e = refused x (list-refused is e (bad-frame ports slots buffer ∷ overloads ports slots list limits) (acceptance ports slots list limits buffer))
 
-    pub taken : a ≡ Accepted → Taken ports list
+    pub taken : a ≡ Accepted → ListFits ports list
     taken well = well-taken (list-well is well)
 
     module _ (well : a ≡ Accepted) {t : Bool} (t-is : t ≡ not (eqb (length buffer) (slots * ports))) where

@@ -5,7 +5,7 @@ use mathlib.Core.List.{List}
 use native.Mathlib.Omega.{arith}
 use lib.ListN.{length, getD}
 use borrow.Author.Tests.{eq-eqb}
-use Rattle.rules.specs.Flows.{flows, numberOf, inputs, portOf, countsOf, input}
+use Rattle.rules.specs.Flows.{flows, numberOf, inputs, portOf, countsOf, portOn, input}
 use Rattle.rules.specs.Frames.{levels}
 use Rattle.rules.specs.OddShares.{settled}
 use Rattle.rules.specs.Schedule.{frameOf}
@@ -15,7 +15,7 @@ use Rattle.rules.proofs.Flows.{counts-length, counts-at}
 use Rattle.rules.proofs.Halves.{load-has}
 use Rattle.calls.proofs.Demand2.{well-placed}
 use Rattle.rules.proofs.SamePorts.{frame-same}
-use Rattle.planes.specs.Planes.{counts, Block}
+use Rattle.planes.specs.Planes.{countsIn, BlockPlanes}
 use Rattle.planes.specs.Steps.{Loaded}
 use Rattle.planes.proofs.Counts as in-planes
 use Rattle.split.specs.Steps.{tabled}
@@ -26,7 +26,7 @@ module _ {ports slots : ℕ} {list buffer : List ℕ} (f : Fillable ports slots 
   cells-most : (q : ℕ) → q < flows list → numberOf 2 list q ≤ slots
   cells-most q h =
       let i-lt = well-placed (f .well) q h in
-      omega (arith, f .fits (portOf list inputs q) i-lt .0, load-has (input (portOf list inputs q)) (portOf list) (countsOf list) q (omega (arith, counts-length list)) (eq-eqb (portOf list inputs q) (portOf list inputs q) refl), counts-at list q h)
+      omega (arith, f .fits (portOf list inputs q) i-lt .0, load-has (portOn input (portOf list inputs q)) (portOf list) (countsOf list) q (omega (arith, counts-length list)) (eq-eqb (portOf list inputs q) (portOf list inputs q) refl), counts-at list q h)
 
   power : slots ≡ 2 ^ levels slots
   power = f .well .power .is ∙ ap (λ (k : ℕ). 2 ^ k) (sym (power-level (f .well .power)))
@@ -37,11 +37,11 @@ module _ {ports slots : ℕ} {list buffer : List ℕ} (f : Fillable ports slots 
   pub cells-room : (q : ℕ) → q < flows list → numberOf 2 list q < 2 ^ 11
   cells-room q h = omega (arith, cells-most q h, power, pow-less (levels slots) 11 (omega (arith, levels-low)))
 
-  loaded-counts : {m : ℕ} {planes : List ℕ} → m ≡ levels slots → Loaded list planes → counts (suc m) planes (flows list) ≡ countsOf list
+  loaded-counts : {m : ℕ} {planes : List ℕ} → m ≡ levels slots → Loaded list planes → countsIn (suc m) planes (flows list) ≡ countsOf list
   loaded-counts {m} e g =
       g .same (suc m) (omega (arith, levels-low)) (λ q h. omega (arith, cells-most q h, power, ap (λ (k : ℕ). 2 ^ k) e, pow-less m (suc m) (omega arith)))
 
-  pub loaded-block : {m n : ℕ} {planes : List ℕ} → m ≡ levels slots → n ≡ flows list → Loaded list planes → Block m n planes
+  pub loaded-block : {m n : ℕ} {planes : List ℕ} → m ≡ levels slots → n ≡ flows list → Loaded list planes → BlockPlanes m n planes
   loaded-block {m} {n} {planes} e d g =
       let few = f .well .few in
       record {
@@ -64,13 +64,13 @@ module _ {ports slots : ℕ} {list buffer : List ℕ} (f : Fillable ports slots 
 
   -- what the planes and the tables give is what the list gives
   module _ {m n : ℕ} {planes : List ℕ} (e : m ≡ levels slots) (d : n ≡ flows list) (g : Loaded list planes) where
-    same-counts : counts (suc m) planes n ≡ countsOf list
-    same-counts = ap (counts (suc m) planes) d ∙ loaded-counts e g
+    same-counts : countsIn (suc m) planes n ≡ countsOf list
+    same-counts = ap (countsIn (suc m) planes) d ∙ loaded-counts e g
 
-    pub all-settled : {r : ℕ} → r ≡ settled m (counts (suc m) planes n) → r ≡ settled (levels slots) (countsOf list)
+    pub all-settled : {r : ℕ} → r ≡ settled m (countsIn (suc m) planes n) → r ≡ settled (levels slots) (countsOf list)
     all-settled f = f ∙ ap₂ settled e same-counts
 
-    pub all-filled : {ins outs entries : List ℕ} → Tabled list ins outs → entries ≡ frameOf ports (tabled ins outs) m (counts (suc m) planes n) → entries ≡ frameFor ports slots list
+    pub all-filled : {ins outs entries : List ℕ} → Tabled list ins outs → entries ≡ frameOf ports (tabled ins outs) m (countsIn (suc m) planes n) → entries ≡ frameFor ports slots list
     all-filled {ins} {outs} t f =
         f
         ∙ ap₂ (frameOf ports (tabled ins outs)) e same-counts

@@ -10,14 +10,14 @@ use mir.Val.{Fits}
 use borrow.Rule.Slice.PartMut.{putMid}
 use lib.ListN.{length, take, drop, length-append, length-drop, drop-of-length-le}
 use lib.Seq.{take-at, length-take-le, length-front}
-use Rattle.rules.specs.Flows.{Side}
+use Rattle.rules.specs.Flows.{End}
 use Rattle.rules.specs.Schedule.{halfOf, slotOf, frameOf}
 use Rattle.rules.proofs.Levels.{pow-less}
 use Rattle.rules.proofs.Slots.{slot-length}
 use Rattle.rules.proofs.OneFrame.{frame-length}
 use Rattle.rules.proofs.SamePorts.{slot-same}
-use Rattle.planes.specs.Planes.{counts, halves, Ends, Block, Mask}
-use Rattle.planes.specs.Steps.{Halved, Others}
+use Rattle.planes.specs.Planes.{countsIn, halves, Ends, BlockPlanes, Mask}
+use Rattle.planes.specs.Steps.{HalfPlanes, Others}
 use Rattle.planes.proofs.Counts.{block-ends}
 use Rattle.planes.proofs.Halved.{halved-counts, halved-block}
 use Rattle.split.specs.Steps.{tabled, Favours}
@@ -32,11 +32,11 @@ one-slot ports e f = f ∙ ap (λ (k : ℕ). 2 ^ k * ports) e ∙ omega arith
 slot-tabled : (ports : ℕ) (ins outs m : List ℕ) → slotOf ports (atInputs ins) m ≡ slotOf ports (tabled ins outs) m
 slot-tabled ports ins outs m = slot-same ports (atInputs ins) (tabled ins outs) m (λ p l. refl)
 
-pub frame-one : (ports m n : ℕ) (planes ins outs f : List ℕ) → m ≡ 0 → f ≡ slotOf ports (atInputs ins) (counts 1 planes n)
-    → f ≡ frameOf ports (tabled ins outs) m (counts (suc m) planes n)
+pub frame-one : (ports m n : ℕ) (planes ins outs f : List ℕ) → m ≡ 0 → f ≡ slotOf ports (atInputs ins) (countsIn 1 planes n)
+    → f ≡ frameOf ports (tabled ins outs) m (countsIn (suc m) planes n)
 unfolding frameOf
 frame-one ports m n planes ins outs f e g =
-    g ∙ slot-tabled ports ins outs (counts 1 planes n) ∙ ap (λ (k : ℕ). frameOf ports (tabled ins outs) k (counts (suc k) planes n)) (sym e)
+    g ∙ slot-tabled ports ins outs (countsIn 1 planes n) ∙ ap (λ (k : ℕ). frameOf ports (tabled ins outs) k (countsIn (suc k) planes n)) (sym e)
 
 -- ---- a block of more, which is longer than its halves,
 pub shorter : (m t : ℕ) → 1 ≤ m → 2 ^ m ≡ t → 2 ^ (m - 1) < t
@@ -44,26 +44,26 @@ shorter m t some e = omega (arith, pow-less (m - 1) m (omega arith))
 
 -- and whose halves are written into the halves of its entries
 pub half-counts : {h m n : ℕ} {planes ins outs mask half : List ℕ} → Favours h n planes ins outs mask → h ≢ 0
-    → Halved m n planes mask half → m ≢ 0 → counts (suc (m - 1)) half n ≡ halfOf (tabled ins outs) h (counts (suc m) planes n)
+    → HalfPlanes m n planes mask half → m ≢ 0 → countsIn (suc (m - 1)) half n ≡ halfOf (tabled ins outs) h (countsIn (suc m) planes n)
 half-counts {m = m} {n} {half = half} v one w some =
     let up : suc (m - 1) ≡ m = omega arith in
-    ap (λ (k : ℕ). counts k half n) up ∙ halved-counts w ∙ half-is v one m
+    ap (λ (k : ℕ). countsIn k half n) up ∙ halved-counts w ∙ half-is v one m
 
 -- the cells of one slot of a block of two
-pub two-ends : {n : ℕ} {planes mask cells : List ℕ} → Halved 1 n planes mask cells → Block 1 n planes → Mask n planes mask → Ends n cells
+pub two-ends : {n : ℕ} {planes mask cells : List ℕ} → HalfPlanes 1 n planes mask cells → BlockPlanes 1 n planes → Mask n planes mask → Ends n cells
 two-ends w b k = block-ends (halved-block w b k (omega arith))
 
-pub two-slot : (ports : ℕ) (port : Side → ℕ → ℕ) {n : ℕ} {planes mask cells s : List ℕ} → Halved 1 n planes mask cells → s ≡ slotOf ports port (counts 1 cells n) → s ≡ slotOf ports port (halves 1 planes mask n)
+pub two-slot : (ports : ℕ) (port : End → ℕ → ℕ) {n : ℕ} {planes mask cells s : List ℕ} → HalfPlanes 1 n planes mask cells → s ≡ slotOf ports port (countsIn 1 cells n) → s ≡ slotOf ports port (halves 1 planes mask n)
 two-slot ports port w e = e ∙ ap (slotOf ports port) (halved-counts w)
 
 -- what is asked of a block, and what it gives, where it has two slots
-pub block-two : {m n : ℕ} {planes : List ℕ} → m ≡ 1 → Block m n planes → Block 1 n planes
-block-two {n = n} {planes} e b = subst (λ (k : ℕ). Block k n planes) e b
+pub block-two : {m n : ℕ} {planes : List ℕ} → m ≡ 1 → BlockPlanes m n planes → BlockPlanes 1 n planes
+block-two {n = n} {planes} e b = subst (λ (k : ℕ). BlockPlanes k n planes) e b
 
 pub length-two : (ports : ℕ) {m l : ℕ} → m ≡ 1 → l ≡ 2 ^ m * ports → l ≡ 2 ^ 1 * ports
 length-two ports e f = f ∙ ap (λ (k : ℕ). 2 ^ k * ports) e
 
-frame-more : (ports : ℕ) (port : Side → ℕ → ℕ) (k : ℕ) (m : List ℕ)
+frame-more : (ports : ℕ) (port : End → ℕ → ℕ) (k : ℕ) (m : List ℕ)
     → frameOf ports port k (halfOf port 1 m) ++ frameOf ports port k (halfOf port 2 m) ≡ frameOf ports port (suc k) m
 unfolding frameOf
 frame-more ports port k m = refl
@@ -113,7 +113,7 @@ module _ (ports m : ℕ) (f : List ℕ) (some : m ≢ 0) (l : length f ≡ 2 ^ m
       → length (take (length (e ++ drop (length f / 2) f) - length f / 2) (drop (length f / 2) (e ++ drop (length f / 2) f))) ≡ 2 ^ (m - 1) * ports
   back-is e h = back-length f e (length f / 2) (omega arith) h ∙ omega (arith, two-parts)
 
-  module _ (port : Side → ℕ → ℕ) where
+  module _ (port : End → ℕ → ℕ) where
     -- the rules' entries of the first half are as many as it has room for
     front-size : (c e : List ℕ) → e ≡ frameOf ports port (m - 1) c → length e ≡ length (take (length f / 2) f)
     front-size c e d = ap length d ∙ frame-length ports port (m - 1) c ∙ sym front-is
@@ -157,13 +157,13 @@ module _ {ports : ℕ} (f : List ℕ) (l : length f ≡ 2 ^ 1 * ports) where
 
 -- they are the block of the rules
 pub frame-two : {ports m n : ℕ} {planes ins outs mask other f : List ℕ} → m ≡ 1 → Favours 1 n planes ins outs mask → TwoSlots ports n planes ins mask other f
-    → f ≡ frameOf ports (tabled ins outs) m (counts (suc m) planes n)
+    → f ≡ frameOf ports (tabled ins outs) m (countsIn (suc m) planes n)
 unfolding frameOf
 frame-two {ports} {m} {n} {planes} {ins} {outs} {mask} {other} {f} e v t =
     t .same
     ∙ ap₂ _++_ (slot v (omega arith)) (slot (favours-second v (t .others)) (omega arith))
-    ∙ ap (λ (k : ℕ). frameOf ports (tabled ins outs) k (counts (suc k) planes n)) (sym e)
+    ∙ ap (λ (k : ℕ). frameOf ports (tabled ins outs) k (countsIn (suc k) planes n)) (sym e)
   where
     slot : {h : ℕ} {mask : List ℕ} → Favours h n planes ins outs mask → h ≢ 0
-        → slotOf ports (atInputs ins) (halves 1 planes mask n) ≡ slotOf ports (tabled ins outs) (halfOf (tabled ins outs) h (counts 2 planes n))
-    slot {h} v some = ap (slotOf ports (atInputs ins)) (half-is v some 1) ∙ slot-tabled ports ins outs (halfOf (tabled ins outs) h (counts 2 planes n))
+        → slotOf ports (atInputs ins) (halves 1 planes mask n) ≡ slotOf ports (tabled ins outs) (halfOf (tabled ins outs) h (countsIn 2 planes n))
+    slot {h} v some = ap (slotOf ports (atInputs ins)) (half-is v some 1) ∙ slot-tabled ports ins outs (halfOf (tabled ins outs) h (countsIn 2 planes n))

@@ -7,7 +7,7 @@ use native.Mathlib.Omega.{arith}
 use native.Mathlib.Nat.{mul-le-mul, pow-le-pow-right}
 use lib.ListN.{length, getD}
 use Rattle.rules.specs.Words.{sumTo}
-use Rattle.rules.specs.Flows.{Side}
+use Rattle.rules.specs.Flows.{End}
 use Rattle.rules.specs.Rules.{odd}
 use Rattle.rules.specs.Schedule.{halfOf}
 use Rattle.rules.specs.OddShares.{oddShares, settled}
@@ -16,7 +16,7 @@ use Rattle.rules.proofs.Sums.{sum-ext, sum-zero}
 use Rattle.rules.proofs.Kept.{kept-length}
 use Rattle.rules.proofs.Splits.{split-is}
 use Rattle.calls.proofs.Work.{settled-halves, settled-room}
-use Rattle.planes.specs.Planes.{counts, oddAt, oddsIn}
+use Rattle.planes.specs.Planes.{countsIn, oddAt, oddsIn}
 use Rattle.planes.proofs.Lists.{keep-most}
 use Rattle.planes.proofs.Counts.{counts-length, odds-are}
 
@@ -27,29 +27,29 @@ none-settled m c e = sym (ap (λ (k : ℕ). settled k c) e ∙ sum-zero (length 
 
 -- ---- a block of more
 -- how many of the first n counts are odd
-odds-number : (m n : ℕ) (planes : List ℕ) → length (oddsIn n planes) ≡ sumTo n (λ p. getD (counts (suc m) planes n) p 0 % 2)
+odds-number : (m n : ℕ) (planes : List ℕ) → length (oddsIn n planes) ≡ sumTo n (λ p. getD (countsIn (suc m) planes n) p 0 % 2)
 odds-number m n planes =
     ap length (odds-are m n planes)
-    ∙ kept-length (odd (counts (suc m) planes n)) n
+    ∙ kept-length (odd (countsIn (suc m) planes n)) n
     ∙ sum-ext n _ _ (λ p h.
-    let x = getD (counts (suc m) planes n) p 0 in
+    let x = getD (countsIn (suc m) planes n) p 0 in
     byEq (x % 2) 1 (λ e. is-yes (x % 2) 1 e ∙ sym e) (λ e. is-no (x % 2) 1 e ∙ omega arith))
 
 -- they have room in a number of 64 bits, and so has what is settled in a half
 pub here-low : (n h : ℕ) (planes : List ℕ) → n ≤ 528 → h ≡ length (oddsIn n planes) → h ≤ 528
 here-low n h planes t e = omega (arith, keep-most (oddAt planes) 0 n)
 
-pub half-low : (m k n : ℕ) (planes : List ℕ) (f : ℕ) → m ≤ 10 → n ≤ 528 → f ≡ settled (m - 1) (counts k planes n) → f ≤ 528 * 1024
+pub half-low : (m k n : ℕ) (planes : List ℕ) (f : ℕ) → m ≤ 10 → n ≤ 528 → f ≡ settled (m - 1) (countsIn k planes n) → f ≤ 528 * 1024
 half-low m k n planes f v t e =
     let size : 2 ^ (m - 1) ≤ 2 ^ 10 = pow-le-pow-right (omega arith) {j = 10} (omega arith) in
-    let number : length (counts k planes n) ≤ 528 = omega (arith, counts-length k planes n) in
-    omega (arith, settled-room (m - 1) (counts k planes n), mul-le-mul number size)
+    let number : length (countsIn k planes n) ≤ 528 = omega (arith, counts-length k planes n) in
+    omega (arith, settled-room (m - 1) (countsIn k planes n), mul-le-mul number size)
 
-pub summed : (port : Side → ℕ → ℕ) (m n : ℕ) (planes a b : List ℕ) (h f g : ℕ) → m ≢ 0 → h ≡ length (oddsIn n planes)
-    → a ≡ halfOf port 1 (counts (suc m) planes n) → b ≡ halfOf port 2 (counts (suc m) planes n)
-    → f ≡ settled (m - 1) a → g ≡ settled (m - 1) b → h + f + g ≡ settled m (counts (suc m) planes n)
+pub summed : (port : End → ℕ → ℕ) (m n : ℕ) (planes a b : List ℕ) (h f g : ℕ) → m ≢ 0 → h ≡ length (oddsIn n planes)
+    → a ≡ halfOf port 1 (countsIn (suc m) planes n) → b ≡ halfOf port 2 (countsIn (suc m) planes n)
+    → f ≡ settled (m - 1) a → g ≡ settled (m - 1) b → h + f + g ≡ settled m (countsIn (suc m) planes n)
 summed port m n planes a b h f g some eh ha hb ef eg =
-    let c : List ℕ = counts (suc m) planes n in
+    let c : List ℕ = countsIn (suc m) planes n in
     let odds : ℕ → ℕ = λ p. getD c p 0 % 2 in
     let up : suc (m - 1) ≡ m = omega arith in
     let here : h ≡ sumTo (length c) odds = eh ∙ odds-number m n planes ∙ ap (λ j. sumTo j odds) (sym (counts-length (suc m) planes n)) in
@@ -59,9 +59,9 @@ summed port m n planes a b h f g some eh ha hb ef eg =
     omega (arith, here, front, back, whole, ap (λ (j : ℕ). settled j c) up)
 
 -- a block of two slots has none within
-pub settled-two : (m n : ℕ) (planes : List ℕ) (h : ℕ) → m ≡ 1 → h ≡ length (oddsIn n planes) → h ≡ settled m (counts (suc m) planes n)
+pub settled-two : (m n : ℕ) (planes : List ℕ) (h : ℕ) → m ≡ 1 → h ≡ length (oddsIn n planes) → h ≡ settled m (countsIn (suc m) planes n)
 settled-two m n planes h e eh =
-    let c : List ℕ = counts (suc m) planes n in
+    let c : List ℕ = countsIn (suc m) planes n in
     let a : List ℕ = halfOf (λ s p. 0) 1 c in
     let b : List ℕ = halfOf (λ s p. 0) 2 c in
     omega (arith, summed (λ s p. 0) m n planes a b h 0 0 (omega arith) eh refl refl (none-settled (m - 1) a (omega arith)) (none-settled (m - 1) b (omega arith)))

@@ -8,18 +8,18 @@ use lib.ListN.{set, length, length-set}
 use lib.Seq.{getD-set-same, getD-set-other}
 use borrow.Author.Tests.{ne-eqb}
 use Rattle.rules.specs.Words.{if, Within}
-use Rattle.rules.specs.Flows.{Side, inputs, links, flows, outputOf, numberOf, portOf}
+use Rattle.rules.specs.Flows.{End, inputs, links, flows, outputOf, numberOf, portOf}
 use Rattle.rules.proofs.Cases.{byEq}
 use Rattle.calls.specs.Demand2.{Ported, Linked}
-use Rattle.admission.specs.Lists.{Taken}
+use Rattle.admission.specs.Lists.{ListFits}
 use Rattle.planes.specs.Digits.{digit}
 use Rattle.planes.specs.Steps.{PutAt}
 use Rattle.planes.proofs.Digits.{digit-none, if-same, if-other}
-use Rattle.split.specs.Steps.{Wide, lookup, tabled, Sides, Outputs, Shared}
+use Rattle.split.specs.Steps.{Wide, lookup, tabled, Sides, Outputs, MultiLink}
 use Rattle.schedule.specs.Steps.{Tables, Tabled}
 
 -- ---- one more flow
-pub record Tabling (list : List ℕ) (n f shared : ℕ) (ins outs : List ℕ) : Type 0 where
+pub record Tabling (list : List ℕ) (n f multi : ℕ) (ins outs : List ℕ) : Type 0 where
   pub all : n ≡ flows list
   pub few : flows list ≤ 512
   pub ported : Ported 16 list
@@ -27,10 +27,10 @@ pub record Tabling (list : List ℕ) (n f shared : ℕ) (ins outs : List ℕ) : 
   pub most : f ≤ n
   pub in-len : Wide ins
   pub out-len : Wide outs
-  pub has : (s : Side) (q : ℕ) → q < f → tabled ins outs s q ≡ portOf list s q
-  pub outputs : Shared f shared outs
+  pub has : (s : End) (q : ℕ) → q < f → tabled ins outs s q ≡ portOf list s q
+  pub outputs : MultiLink f multi outs
 
-pub tabling-start : {list ins outs : List ℕ} {n : ℕ} → n ≡ flows list → Taken 16 list → Wide ins → Wide outs → Tabling list n 0 0 ins outs
+pub tabling-start : {list ins outs : List ℕ} {n : ℕ} → n ≡ flows list → ListFits 16 list → Wide ins → Wide outs → Tabling list n 0 0 ins outs
 tabling-start e t a b =
     record {
       all = e;
@@ -49,9 +49,9 @@ one-more : (f : ℕ → ℕ) (l : List ℕ) (p x : ℕ) → p < length l → x �
 one-more f l p x h e g q k = byEq q p (λ d. rw d (getD-set-same l p x 0 h ∙ e)) (λ d. getD-set-other l p q x 0 d ∙ g q (omega arith))
 
 -- the digit of the output of one link more, unless it is the first
-shared-more : (n shared x d r : ℕ) (outs : List ℕ) → n < length outs → x < 64 → d ≡ if (eqb (x % 4) 0) 0 1 → PutAt shared (outputOf x) d r → Shared n shared outs
-    → Shared (n + 1) r (set outs n x)
-shared-more n shared x d r outs h low ed u s = record { few = few; low = each; others = others }
+multi-more : (n multi x d r : ℕ) (outs : List ℕ) → n < length outs → x < 64 → d ≡ if (eqb (x % 4) 0) 0 1 → PutAt multi (outputOf x) d r → MultiLink n multi outs
+    → MultiLink (n + 1) r (set outs n x)
+multi-more n multi x d r outs h low ed u s = record { few = few; low = each; others = others }
   where
     few : Outputs r
     few o a = byEq o (outputOf x) (λ e. omega arith) (λ e. s .few o (omega (arith, u .put o, if-other o (outputOf x) d e)))
@@ -71,7 +71,7 @@ shared-more n shared x d r outs h low ed u s = record { few = few; low = each; o
             byEq (x % 4) 0 (λ e. e)
             (λ e. let one : d ≡ 1 = rw (ne-eqb (x % 4) 0 e) at ed in absurd (omega (arith, u .put (outputOf x), if-same (outputOf x) (outputOf x) d refl)))
 
-module _ {list ins outs : List ℕ} {n f shared : ℕ} (t : Tabling list n f shared ins outs) (h : f < n) where
+module _ {list ins outs : List ℕ} {n f multi : ℕ} (t : Tabling list n f multi ins outs) (h : f < n) where
   pub tabling-in : f < flows list
   tabling-in = omega (arith, t .all)
 
@@ -88,7 +88,7 @@ module _ {list ins outs : List ℕ} {n f shared : ℕ} (t : Tabling list n f sha
   pub link-in : Within 1 4 (numberOf 3 list f)
   link-in = t .linked f tabling-in
 
-  pub tabling-on : {x y d r : ℕ} → x ≡ numberOf 0 list f → y ≡ portOf list links f → y < 64 → d ≡ if (eqb (y % 4) 0) 0 1 → PutAt shared (outputOf y) d r
+  pub tabling-on : {x y d r : ℕ} → x ≡ numberOf 0 list f → y ≡ portOf list links f → y < 64 → d ≡ if (eqb (y % 4) 0) 0 1 → PutAt multi (outputOf y) d r
       → Tabling list n (f + 1) r (set ins f (x - 1)) (set outs f y)
   unfolding portOf
   tabling-on {x} {y} {d} {r} ex ey low ed put =
@@ -101,30 +101,30 @@ module _ {list ins outs : List ℕ} {n f shared : ℕ} (t : Tabling list n f sha
         in-len = length-set ins f (x - 1) ∙ t .in-len;
         out-len = length-set outs f y ∙ t .out-len;
         has = has;
-        outputs = shared-more f shared y d r outs (omega (arith, t .out-len, tabling-low)) low ed put (t .outputs);
+        outputs = multi-more f multi y d r outs (omega (arith, t .out-len, tabling-low)) low ed put (t .outputs);
       }
     where
-      has : (s : Side) (q : ℕ) → q < f + 1 → tabled (set ins f (x - 1)) (set outs f y) s q ≡ portOf list s q
+      has : (s : End) (q : ℕ) → q < f + 1 → tabled (set ins f (x - 1)) (set outs f y) s q ≡ portOf list s q
       has inputs = one-more (portOf list inputs) ins f (x - 1) (omega (arith, t .in-len, tabling-low)) (omega arith) (t .has inputs)
       has links = one-more (portOf list links) outs f y (omega (arith, t .out-len, tabling-low)) ey (t .has links)
 
-module _ {list ins outs : List ℕ} {n f shared : ℕ} (t : Tabling list n f shared ins outs) (h : n ≤ f) where
+module _ {list ins outs : List ℕ} {n f multi : ℕ} (t : Tabling list n f multi ins outs) (h : n ≤ f) where
   all-tabled : f ≡ flows list
   all-tabled = omega (arith, t .all, t .most)
 
   pub tabling-end : Tabled list ins outs
   tabling-end = record { has = λ s q k. t .has s q (omega (arith, all-tabled)) }
 
-  pub shared-end : Shared (flows list) shared outs
-  shared-end = rw (sym all-tabled) (t .outputs)
+  pub multi-end : MultiLink (flows list) multi outs
+  multi-end = rw (sym all-tabled) (t .outputs)
 
 -- ---- the tables of a list
-module _ {ports : ℕ} {list ins outs : List ℕ} (t : Taken ports list) (h : Tabled list ins outs) where
+module _ {ports : ℕ} {list ins outs : List ℕ} (t : ListFits ports list) (h : Tabled list ins outs) where
   low : (f : ℕ) → f < flows list → lookup ins f < ports
   unfolding portOf
   low f l = let p = t .ported inputs f l in omega (arith, h .has inputs f l)
 
-  pub tables-of : {n shared : ℕ} → Shared (flows list) shared outs → n ≡ flows list → Tables ports n shared ins outs
+  pub tables-of : {n multi : ℕ} → MultiLink (flows list) multi outs → n ≡ flows list → Tables ports n multi ins outs
   tables-of s e =
       record {
         few = t .most;
@@ -133,7 +133,7 @@ module _ {ports : ℕ} {list ins outs : List ℕ} (t : Taken ports list) (h : Ta
       }
 
 -- a list's ports are among 16
-pub taken-most : {ports : ℕ} {list : List ℕ} → Taken ports list → Taken 16 list
+pub taken-most : {ports : ℕ} {list : List ℕ} → ListFits ports list → ListFits 16 list
 taken-most t =
     record {
       most = omega arith;
@@ -142,9 +142,9 @@ taken-most t =
       linked = t .linked;
     }
 
-pub sides-of : {ports n shared : ℕ} {ins outs : List ℕ} → Tables ports n shared ins outs → Sides n ins outs
-sides-of {ports} {n} {shared} {ins} {outs} t = record { most = t .at-inputs .most; low = low64 }
+pub sides-of : {ports n multi : ℕ} {ins outs : List ℕ} → Tables ports n multi ins outs → Sides n ins outs
+sides-of {ports} {n} {multi} {ins} {outs} t = record { most = t .at-inputs .most; low = low64 }
   where
-    low64 : (s : Side) (p : ℕ) → p < n → tabled ins outs s p < 64
+    low64 : (s : End) (p : ℕ) → p < n → tabled ins outs s p < 64
     low64 inputs p h = omega (arith, t .at-inputs .low p h, t .few)
     low64 links p h = t .at-outputs .low p h

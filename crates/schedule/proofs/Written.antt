@@ -14,12 +14,12 @@ use Rattle.rules.specs.Rules.{odd}
 use Rattle.rules.specs.Schedule.{put, slotOf}
 use Rattle.rules.proofs.Lists.{every-map}
 use Rattle.planes.specs.Digits.{places}
-use Rattle.planes.specs.Planes.{counts, oddsIn, wordsOf, Ends}
+use Rattle.planes.specs.Planes.{countsIn, oddsIn, wordsOf, Ends}
 use Rattle.planes.proofs.Lowest.{rest, places-none, next-place, next-zeros, next-fits}
 use Rattle.planes.proofs.Placed.{word-below, words-odds, odds-past}
 use Rattle.planes.proofs.Counts.{counts-length, odds-are}
 use Rattle.split.specs.Steps.{lookup}
-use Rattle.schedule.specs.Steps.{Table, atInputs, Placed, PutBy}
+use Rattle.schedule.specs.Steps.{Table, atInputs, AtSlot, PutBy}
 
 -- ---- clear
 pub record Cleared (ports : ℕ) (s₀ : List ℕ) (i : ℕ) (s : List ℕ) : Type 0 where
@@ -49,10 +49,10 @@ put-append ins (x ∷ l) k s = put-append ins l k (set s (lookup ins x) (suc x))
 pub record Putting (ins : List ℕ) (base x : ℕ) (s : List ℕ) (left : ℕ) (t : List ℕ) : Type 0 where
   pub len : length t ≡ length s
   pub fits : left < 2 ^ 64
-  pub placed : Placed ins (length s) (places base 64 left)
+  pub placed : AtSlot ins (length s) (places base 64 left)
   pub same : put (atInputs ins) (places base 64 left) t ≡ put (atInputs ins) (places base 64 x) s
 
-pub putting-start : {ins s : List ℕ} {base x : ℕ} → Placed ins (length s) (places base 64 x) → x < 2 ^ 64 → Putting ins base x s x s
+pub putting-start : {ins s : List ℕ} {base x : ℕ} → AtSlot ins (length s) (places base 64 x) → x < 2 ^ 64 → Putting ins base x s x s
 putting-start p f = record { len = refl; fits = f; placed = p; same = refl }
 
 module _ {ins s t : List ℕ} {base x left : ℕ} (g : Putting ins base x s left t) (some : left ≢ 0) where
@@ -99,7 +99,7 @@ pub writing-start : {ins planes s : List ℕ} {ports : ℕ} → s ≡ replicate 
 writing-start {ports = ports} e = record { len = ap length e ∙ length-replicate {A = ℕ} ports 0; same = e }
 
 module _ {ports : ℕ} {ins planes t : List ℕ} {w : ℕ} (g : Writing ins planes ports w t) where
-  pub writing-placed : {n words : ℕ} → Table ports n ins → Ends n planes → w < words → words ≡ wordsOf n → Placed ins (length t) (places (w * 64) 64 (getD planes w 0))
+  pub writing-placed : {n words : ℕ} → Table ports n ins → Ends n planes → w < words → words ≡ wordsOf n → AtSlot ins (length t) (places (w * 64) 64 (getD planes w 0))
   writing-placed {n} k e h v =
       let few = e .few in
       record {
@@ -120,10 +120,10 @@ module _ {ports : ℕ} {ins planes t : List ℕ} {w : ℕ} (g : Writing ins plan
 
 -- ---- the slot
 pub writing-end : {ports n : ℕ} {ins planes t : List ℕ} {w words : ℕ} → Writing ins planes ports w t → w ≤ words → words ≤ w → words ≡ wordsOf n
-    → Ends n planes → t ≡ slotOf ports (atInputs ins) (counts 1 planes n)
+    → Ends n planes → t ≡ slotOf ports (atInputs ins) (countsIn 1 planes n)
 unfolding slotOf
 writing-end {ports} {n} {ins} {planes} {t} {w} {words} g a b v e =
-    let c : List ℕ = counts 1 planes n in
+    let c : List ℕ = countsIn 1 planes n in
     let len : length c ≡ n = counts-length 1 planes n in
     g .same
     ∙ ap (λ (l : List ℕ). put (atInputs ins) l (replicate ports 0)) (odds-past e (w * 64) (omega arith) (omega arith) ∙ odds-are 0 n planes)

@@ -4,12 +4,12 @@ use mathlib.Core.Path.{_≡_}
 use mathlib.Core.List.{List, _++_}
 use lib.ListN.{length}
 use Rattle.rules.specs.Words.{Every}
-use Rattle.rules.specs.Flows.{Side, flows, portOf, countsOf, Fits}
+use Rattle.rules.specs.Flows.{End, flows, portOf, countsOf, Fits}
 use Rattle.rules.specs.Schedule.{put, slotOf}
 use Rattle.calls.specs.Demand2.{WellFormed}
 use Rattle.planes.specs.Planes.{halves}
 use Rattle.planes.specs.Steps.{Others}
-use Rattle.split.specs.Steps.{lookup, tabled, Shared}
+use Rattle.split.specs.Steps.{lookup, tabled, MultiLink}
 
 -- ---- what is built
 -- A well-formed load that fits, and a frame of the right size.
@@ -24,22 +24,22 @@ pub record Table (ports n : ℕ) (table : List ℕ) : Type 0 where
   pub most : n ≤ 528
   pub low : (p : ℕ) → p < n → lookup table p < ports
 
-pub record Tables (ports n shared : ℕ) (ins outs : List ℕ) : Type 0 where
+pub record Tables (ports n multi : ℕ) (ins outs : List ℕ) : Type 0 where
   pub few : ports ≤ 16
   pub at-inputs : Table ports n ins
-  pub at-outputs : Shared n shared outs
+  pub at-outputs : MultiLink n multi outs
 
 -- Two tables have the input and the link of every flow of a list.
 pub record Tabled (list ins outs : List ℕ) : Type 0 where
-  pub has : (s : Side) (f : ℕ) → f < flows list → tabled ins outs s f ≡ portOf list s f
+  pub has : (s : End) (f : ℕ) → f < flows list → tabled ins outs s f ≡ portOf list s f
 
 -- ---- slots
 -- A slot is written by the inputs alone: the ports of one table stand for both sides.
-abbrev pub atInputs : List ℕ → Side → ℕ → ℕ
+abbrev pub atInputs : List ℕ → End → ℕ → ℕ
 atInputs ins s = lookup ins
 
 -- A list has positions at the inputs of a slot.
-pub record Placed (ins : List ℕ) (ports : ℕ) (list : List ℕ) : Type 0 where
+pub record AtSlot (ins : List ℕ) (ports : ℕ) (list : List ℕ) : Type 0 where
   pub each : Every (λ p. (p < 528) × (lookup ins p < ports)) list
 
 -- The slot was s, and with the numbers of a list written it is t.

@@ -22,8 +22,8 @@ ghost use Rattle.rules.specs.Flows.{countsOf};
 ghost use Rattle.rules.specs.Frames.{levels};
 ghost use Rattle.rules.specs.Schedule.{frameOf};
 ghost use Rattle.rules.specs.OddShares.{settled};
-ghost use Rattle.calls.specs.Build.{frameFor, outcome, built, left};
-ghost use Rattle.planes.specs.Planes.{counts, Block};
+ghost use Rattle.calls.specs.Build.{frameFor, outcome, built, frameAfter};
+ghost use Rattle.planes.specs.Planes.{countsIn, BlockPlanes};
 ghost use Rattle.split.specs.Steps.{tabled, Scratch};
 ghost use Rattle.schedule.specs.Steps.{Fillable, Tables};
 
@@ -36,17 +36,17 @@ fn block(
     ports: usize,
     ins: &[u8; 528],
     outs: &[u8; 528],
-    shared: u64,
+    multi_link: u64,
     odds: &mut [u16; 528],
     in_mates: &mut [u16; 528],
     out_mates: &mut [u16; 528],
     group: &mut [u16; 528],
     frame: &mut [u16],
 ) -> usize
-    requires { ⌜ (1 ≤ m) × (m ≤ 10) × Tables ports n shared (now ins) (now outs) × Block m n (now planes)
+    requires { ⌜ (1 ≤ m) × (m ≤ 10) × Tables ports n «multi_link» (now ins) (now outs) × BlockPlanes m n (now planes)
         × Scratch (now odds) (now «in_mates») (now «out_mates») (now group) × (length (now frame) ≡ 2 ^ m * ports) ⌝ }
-    ensures { λ r. ⌜ (r ≡ settled m (counts (suc m) (now (planes .entry)) n))
-        × (now (frame .exit) ≡ frameOf ports (tabled (now (ins .entry)) (now (outs .entry))) m (counts (suc m) (now (planes .entry)) n))
+    ensures { λ r. ⌜ (r ≡ settled m (countsIn (suc m) (now (planes .entry)) n))
+        × (now (frame .exit) ≡ frameOf ports (tabled (now (ins .entry)) (now (outs .entry))) m (countsIn (suc m) (now (planes .entry)) n))
         × Scratch (now (odds .exit)) (now («in_mates» .exit)) (now («out_mates» .exit)) (now (group .exit)) ⌝ }
 {
     let mut mask = [0u64; 9];
@@ -55,7 +55,7 @@ fn block(
         n,
         ins,
         outs,
-        shared,
+        multi_link,
         odds,
         in_mates,
         out_mates,
@@ -76,7 +76,7 @@ fn block(
             ports,
             ins,
             outs,
-            shared,
+            multi_link,
             odds,
             in_mates,
             out_mates,
@@ -92,7 +92,7 @@ fn block(
             ports,
             ins,
             outs,
-            shared,
+            multi_link,
             odds,
             in_mates,
             out_mates,
@@ -115,7 +115,7 @@ fn fill(ports: usize, slots: usize, list: &[u16], frame: &mut [u16]) -> usize
     let mut ins = [0u8; 528];
     let mut outs = [0u8; 528];
     load(list, &mut planes);
-    let shared = positions::tabulate(list, &mut ins, &mut outs);
+    let multi_link = positions::tabulate(list, &mut ins, &mut outs);
     if m == 0 {
         slots::write(&planes, n, ports, &ins, frame);
         return 0;
@@ -131,7 +131,7 @@ fn fill(ports: usize, slots: usize, list: &[u16], frame: &mut [u16]) -> usize
         ports,
         &ins,
         &outs,
-        shared,
+        multi_link,
         &mut odds,
         &mut in_mates,
         &mut out_mates,
@@ -149,7 +149,7 @@ pub fn build(
     frame: &mut [u16],
 ) -> Built
     ensures { λ r. ⌜ (outcome r ≡ built ports slots (now (list .entry)) limits (now (frame .entry)))
-        × (now (frame .exit) ≡ left ports slots (now (list .entry)) limits (now (frame .entry))) ⌝ }
+        × (now (frame .exit) ≡ frameAfter ports slots (now (list .entry)) limits (now (frame .entry))) ⌝ }
 {
     if let Answer::Refused(refusal) = check_list(ports, slots, list) {
         return Built::Refused(refusal);

@@ -8,12 +8,12 @@ ghost use Prim.Native.Nat.{_%_, _≤_};
 ghost use lib.Dec.{eqb};
 ghost use Rattle.rules.specs.Words.{if};
 ghost use Rattle.rules.specs.Flows.{flows};
-ghost use Rattle.admission.specs.Lists.{Taken};
-ghost use Rattle.split.specs.Steps.{Wide, Shared};
+ghost use Rattle.admission.specs.Lists.{ListFits};
+ghost use Rattle.split.specs.Steps.{Wide, MultiLink};
 ghost use Rattle.schedule.specs.Steps.{Tabled};
 
 // 0 for the first link of an output, 1 for any other.
-fn further(link: usize) -> u64
+fn beyond_first_link(link: usize) -> u64
     ensures { λ r. ⌜ (r ≡ if (eqb (link % 4) 0) 0 1) × (r ≤ 1) ⌝ }
 {
     if link % 4 == 0 { 0 } else { 1 }
@@ -21,18 +21,18 @@ fn further(link: usize) -> u64
 
 // Read from the list once, for all blocks. The answer has a digit for each output that has flows on others than its first link.
 pub(crate) fn tabulate(list: &[u16], ins: &mut [u8; 528], outs: &mut [u8; 528]) -> u64
-    requires { ⌜ Taken 16 (now list) × Wide (now ins) × Wide (now outs) ⌝ }
-    ensures { λ r. ⌜ Tabled (now (list .entry)) (now (ins .exit)) (now (outs .exit)) × Shared (flows (now (list .entry))) r (now (outs .exit)) ⌝ }
+    requires { ⌜ ListFits 16 (now list) × Wide (now ins) × Wide (now outs) ⌝ }
+    ensures { λ r. ⌜ Tabled (now (list .entry)) (now (ins .exit)) (now (outs .exit)) × MultiLink (flows (now (list .entry))) r (now (outs .exit)) ⌝ }
 {
     let count = flows_of(list);
-    let mut shared: u64 = 0;
+    let mut multi_link: u64 = 0;
     let mut f: usize = 0;
     while f < count {
         let link = link_of(list, f);
         ins[f] = (number_of(list, f, 0) - 1) as u8;
         outs[f] = link as u8;
-        shared = put_digit(shared, link / 4, further(link));
+        multi_link = put_digit(multi_link, link / 4, beyond_first_link(link));
         f += 1;
     }
-    shared
+    multi_link
 }

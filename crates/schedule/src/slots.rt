@@ -8,8 +8,8 @@ ghost use Prim.Native.Nat.{_*_, _^_, _≤_};
 ghost use lib.ListN.{length, replicate};
 ghost use Rattle.rules.specs.Schedule.{slotOf};
 ghost use Rattle.planes.specs.Digits.{places};
-ghost use Rattle.planes.specs.Planes.{counts, halves, Ends, Block, Mask};
-ghost use Rattle.schedule.specs.Steps.{Table, atInputs, Placed, PutBy, TwoSlots};
+ghost use Rattle.planes.specs.Planes.{countsIn, halves, Ends, BlockPlanes, Mask};
+ghost use Rattle.schedule.specs.Steps.{Table, atInputs, AtSlot, PutBy, TwoSlots};
 
 // Every input is idle until a cell is written.
 fn clear(ports: usize, slot: &mut [u16])
@@ -25,7 +25,7 @@ fn clear(ports: usize, slot: &mut [u16])
 
 // The entry at an input is the number of its flow, from 1.
 fn put_cells(x: u64, base: usize, ins: &[u8; 528], slot: &mut [u16])
-    requires { ⌜ (base ≤ 512) × Placed (now ins) (length (now slot)) (places base 64 x) ⌝ }
+    requires { ⌜ (base ≤ 512) × AtSlot (now ins) (length (now slot)) (places base 64 x) ⌝ }
     ensures { λ _. ⌜ PutBy (now (ins .entry)) (places base 64 x) (now (slot .entry)) (now (slot .exit)) ⌝ }
 {
     let mut rest = x;
@@ -40,7 +40,7 @@ fn put_cells(x: u64, base: usize, ins: &[u8; 528], slot: &mut [u16])
 // In a block of one slot the odd counts are the cells.
 pub(crate) fn write(cells: &[u64], n: usize, ports: usize, ins: &[u8; 528], slot: &mut [u16])
     requires { ⌜ Table ports n (now ins) × Ends n (now cells) × (9 ≤ length (now cells)) × (length (now slot) ≡ ports) ⌝ }
-    ensures { λ _. ⌜ now (slot .exit) ≡ slotOf ports (atInputs (now (ins .entry))) (counts 1 (now (cells .entry)) n) ⌝ }
+    ensures { λ _. ⌜ now (slot .exit) ≡ slotOf ports (atInputs (now (ins .entry))) (countsIn 1 (now (cells .entry)) n) ⌝ }
 {
     clear(ports, slot);
     let words = words_of(n);
@@ -60,7 +60,7 @@ fn write_half(
     ins: &[u8; 528],
     slot: &mut [u16],
 )
-    requires { ⌜ Table ports n (now ins) × Block 1 n (now planes) × Mask n (now planes) (now mask) × (length (now slot) ≡ ports) ⌝ }
+    requires { ⌜ Table ports n (now ins) × BlockPlanes 1 n (now planes) × Mask n (now planes) (now mask) × (length (now slot) ≡ ports) ⌝ }
     ensures { λ _. ⌜ now (slot .exit) ≡ slotOf ports (atInputs (now (ins .entry))) (halves 1 (now (planes .entry)) (now (mask .entry)) n) ⌝ }
 {
     let mut cells = [0u64; 9];
@@ -77,7 +77,7 @@ pub(crate) fn write_two(
     ins: &[u8; 528],
     frame: &mut [u16],
 )
-    requires { ⌜ Table ports n (now ins) × Block 1 n (now planes) × Mask n (now planes) (now mask) × (length (now frame) ≡ 2 ^ 1 * ports) ⌝ }
+    requires { ⌜ Table ports n (now ins) × BlockPlanes 1 n (now planes) × Mask n (now planes) (now mask) × (length (now frame) ≡ 2 ^ 1 * ports) ⌝ }
     ensures { λ _. ⌜ TwoSlots ports n (now (planes .entry)) (now (ins .entry)) (now (mask .entry)) (now (mask .exit)) (now (frame .exit)) ⌝ }
 {
     let mid = frame.len() / 2;

@@ -9,7 +9,7 @@ use lib.ListN.{length}
 use lib.Pow.{pow-pos}
 use borrow.Author.Tests.{ltb-false, not-false, eqb-true}
 use Rattle.rules.specs.Words.{within}
-use Rattle.calls.specs.Refusals.{Check, report, clear, refusal, answered, listChecks, bad-frame, bad-slot}
+use Rattle.calls.specs.Refusals.{Check, report, none-holds, refusal, answered, listChecks, bad-frame, bad-slot}
 use Rattle.calls.specs.Service.{classOf, whoWithin, bad-who, bad-length, lead, served, countChecks, service}
 use Rattle.rules.specs.Frames.{repeated, cells}
 use Rattle.rules.specs.Flows.{links}
@@ -27,7 +27,7 @@ use Rattle.calls.proofs.Replies.{count, reply-refused, reply-counted}
 use Rattle.calls.proofs.Demand2.{past-load, well-clear}
 use Rattle.admission.specs.Lists.{ListAnswer}
 use Rattle.admission.proofs.Listed.{list-refused, list-well}
-use Rattle.service.specs.Whom.{Sent, Asked}
+use Rattle.service.specs.Whom.{Sent, CountAsked}
 
 -- what comes after the checks of the list
 abbrev restOf : ℕ → ℕ → List ℕ → List ℕ → Who → ℕ → ℕ → List Check
@@ -65,7 +65,7 @@ module _ {ports slots : ℕ} {list : List ℕ} {a : Answer} (frame : List ℕ) (
             length-shut e = refused-by RunLength (rw (sym l ∙ l', sym s ∙ s', sym p ∙ p', sym m ∙ e))
 
             module _ (m' : f ≡ false) where
-              pub asked : Asked ports slots list frame who (start - 1) len
+              pub asked : CountAsked ports slots list frame who (start - 1) len
               asked =
                   let w = list-well is yes in
                   let sent : Sent list = record { from-one = λ f h. w .ported links f h .0; linked = w .linked } in
@@ -86,6 +86,6 @@ module _ {ports slots : ℕ} {list : List ℕ} {a : Answer} (frame : List ℕ) (
                   → r .lead ≡ lead (classOf who) ports slots list frame (start - 1) len → served (Counted r) ≡ service ports slots list frame who start len
               unfolding countChecks
               run-counted f g =
-                  let clear-all : clear (countChecks ports slots list frame who start len) ≡ true
+                  let clear-all : none-holds (countChecks ports slots list frame who start len) ≡ true
                   = clear-then (listChecks ports slots list) (restOf ports slots list frame who start len) (well-clear ports slots list (list-well is yes)) ∙ rw (sym l ∙ l', sym s ∙ s', sym p ∙ p', sym m ∙ m') in
                   rw (f, g) (reply-counted ports slots list frame who start len clear-all)

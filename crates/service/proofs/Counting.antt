@@ -10,7 +10,7 @@ use lib.Dec.{eqb}
 use lib.ListN.{length, getD, List·getD-eq-default}
 use borrow.Author.Tests.{ne-eqb}
 use Rattle.rules.specs.Words.{both, bit, sumTo}
-use Rattle.rules.specs.Flows.{Class, flow, input, output, link, total}
+use Rattle.rules.specs.Flows.{Class, flow, portOn, input, output, link, total}
 use Rattle.rules.specs.Frames.{counts, cells}
 use Rattle.rules.proofs.Cases.{byLt}
 use Rattle.rules.proofs.Sums.{sum-zero, sum-one, sum-append}
@@ -38,8 +38,8 @@ elsewhere at i b n = rw (ne-eqb at i n)
 -- no entry before the first
 first-none : (c : Class) (list : List ℕ) (ports t e : ℕ) → firstEntry c < nextEntry ports c → t < firstEntry c → counts c list (t % ports) e ≡ false
 first-none (flow f) list ports t e l h = absurd (omega arith)
-first-none (input i) list ports t e l h = elsewhere (t % ports) i _ (λ d. let m = mod-eq-of-lt {n = t} {m = ports} (omega arith) in omega arith)
-first-none (output o) list ports t e l h = absurd (omega arith)
+first-none (portOn input i) list ports t e l h = elsewhere (t % ports) i _ (λ d. let m = mod-eq-of-lt {n = t} {m = ports} (omega arith) in omega arith)
+first-none (portOn output o) list ports t e l h = absurd (omega arith)
 first-none (link x) list ports t e l h = absurd (omega arith)
 first-none total list ports t e l h = absurd (omega arith)
 
@@ -47,16 +47,16 @@ first-none total list ports t e l h = absurd (omega arith)
 between-none : (c : Class) (list : List ℕ) (ports q t e : ℕ) → q % nextEntry ports c ≡ firstEntry c → t < nextEntry ports c → t ≢ 0
     → counts c list ((q + t) % ports) e ≡ false
 between-none (flow f) list ports q t e at l n = absurd (n (omega arith))
-between-none (input i) list ports q t e at l n = elsewhere ((q + t) % ports) i _ (λ d. n (remainder-moves q t ports l (d ∙ sym at)))
-between-none (output o) list ports q t e at l n = absurd (n (omega arith))
+between-none (portOn input i) list ports q t e at l n = elsewhere ((q + t) % ports) i _ (λ d. n (remainder-moves q t ports l (d ∙ sym at)))
+between-none (portOn output o) list ports q t e at l n = absurd (n (omega arith))
 between-none (link x) list ports q t e at l n = absurd (n (omega arith))
 between-none total list ports q t e at l n = absurd (n (omega arith))
 
 -- at each the entry alone decides
 here-counts : (c : Class) (list : List ℕ) (ports q e : ℕ) → q % nextEntry ports c ≡ firstEntry c → counts c list (q % ports) e ≡ counts c list (firstEntry c) e
 here-counts (flow f) list ports q e at = refl
-here-counts (input i) list ports q e at = rw at
-here-counts (output o) list ports q e at = refl
+here-counts (portOn input i) list ports q e at = rw at
+here-counts (portOn output o) list ports q e at = refl
 here-counts (link x) list ports q e at = refl
 here-counts total list ports q e at = refl
 

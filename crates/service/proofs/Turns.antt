@@ -11,7 +11,7 @@ use Rattle.rules.specs.Frames.{cells, runOf, repeated}
 use Rattle.calls.specs.Service.{classOf, lead}
 use Rattle.calls.specs.declared.Who.{Who}
 use Rattle.rules.proofs.Runs.{cells-most, repeated-most, cells-turns}
-use Rattle.service.specs.Whom.{Framed, Asked}
+use Rattle.service.specs.Whom.{Framed, CountAsked}
 
 -- the entries of a run inside a frame
 pub part-run : (ports start len : ℕ) (entries : List ℕ) → take (start * ports + len * ports - start * ports) (drop (start * ports) entries) ≡ runOf ports start len entries
@@ -30,7 +30,7 @@ module _ {ports slots : ℕ} {entries : List ℕ} (f : Framed ports slots entrie
   pub run-inside : (start len : ℕ) → start + len ≤ slots → start * ports + len * ports ≤ length entries
   run-inside start len h = omega (arith, f .size, mul-le-mul-right ports h)
 
-module _ {ports slots : ℕ} {list entries : List ℕ} {who : Who} {start len : ℕ} (a : Asked ports slots list entries who start len) where
+module _ {ports slots : ℕ} {list entries : List ℕ} {who : Who} {start len : ℕ} (a : CountAsked ports slots list entries who start len) where
   -- what the whole frame holds, and a run of at most 1,000,000 slots
   pub whole-fits : {n : ℕ} → n ≡ cells (classOf who) ports list entries → n ≤ 16384
   whole-fits e = omega (arith, e, cells-most (classOf who) ports list entries, frame-short (a .framed))

@@ -7,7 +7,7 @@ use native.Mathlib.Omega.{arith}
 use lib.Dec.{eqb}
 use borrow.Author.Tests.{eq-eqb, ne-eqb}
 use Rattle.rules.specs.Words.{bit, within}
-use Rattle.rules.specs.Flows.{flows, numberOf, Class, flow, input, output, link, total, Of}
+use Rattle.rules.specs.Flows.{flows, numberOf, Class, flow, portOn, input, output, link, total, OnSwitch}
 use Rattle.rules.specs.Frames.{counts}
 use Rattle.calls.specs.Service.{classOf, whoWithin}
 use Rattle.calls.specs.declared.Who.{Who}
@@ -15,7 +15,7 @@ use Rattle.calls.specs.declared.Who.the-variants.{Flow, Input, Output}
 use Rattle.rules.proofs.Cases.{byEq, within-true, within-yes, within-above}
 use Rattle.rules.proofs.Flows.{output-is, flow-counts}
 use Rattle.calls.proofs.Replies.{who-of}
-use Rattle.service.specs.Whom.{Sent, whoNumber, Numbered, Named, firstEntry, nextEntry}
+use Rattle.service.specs.Whom.{Sent, whoNumber, WhoNumbered, Named, firstEntry, nextEntry}
 
 -- ---- refusal 12
 pub flow-alone : (ports : ℕ) (list : List ℕ) {f n : ℕ} (who : Who) {a : Bool} → who ≡ Flow f → n ≡ flows list → a ≡ not (within 1 n f) → a ≡ not (whoWithin ports list who)
@@ -37,7 +37,7 @@ module _ {ports : ℕ} {list : List ℕ} {who : Who} (n : Named ports list who) 
   pub named-from-one : 1 ≤ whoNumber who
   named-from-one = named-low ports list who (n .within-is)
 
-  pub named-numbered : Numbered list who
+  pub named-numbered : WhoNumbered list who
   named-numbered =
       record {
         from-one = named-from-one;
@@ -54,10 +54,10 @@ module _ {who : Who} (low : 1 ≤ whoNumber who) where
 
 -- ---- the entries that can count
 -- the first is one of the first slot, and the next at most sixteen later
-first-low : (ports : ℕ) (c : Class) → Of ports c → firstEntry c < nextEntry ports c
+first-low : (ports : ℕ) (c : Class) → OnSwitch ports c → firstEntry c < nextEntry ports c
 first-low ports (flow f) of = omega arith
-first-low ports (input i) of = of
-first-low ports (output o) of = omega arith
+first-low ports (portOn input i) of = of
+first-low ports (portOn output o) of = omega arith
 first-low ports (link x) of = omega arith
 first-low ports total of = omega arith
 
@@ -82,17 +82,17 @@ module _ (who : Who) where
 
 -- ---- an entry of an output
 module _ (list : List ℕ) (e to : ℕ) where
-  pub idle-sends : e ≡ 0 → false ≡ counts (output (to - 1)) list 0 e
+  pub idle-sends : e ≡ 0 → false ≡ counts (portOn output (to - 1)) list 0 e
   idle-sends z = rw z
 
   module _ (some : e ≡ 0 → ⊥) {n : ℕ} (is : n ≡ flows list) where
-    pub none-sends : n < e → false ≡ counts (output (to - 1)) list 0 e
+    pub none-sends : n < e → false ≡ counts (portOn output (to - 1)) list 0 e
     none-sends h = rw (within-above 1 (flows list) e (omega arith) (omega arith))
 
     pub flow-in : e ≤ n → e - 1 < flows list
     flow-in h = omega arith
 
-    pub flow-sends : Sent list → 1 ≤ to → e ≤ n → {x : ℕ} → x ≡ numberOf 1 list (e - 1) → eqb x to ≡ counts (output (to - 1)) list 0 e
+    pub flow-sends : Sent list → 1 ≤ to → e ≤ n → {x : ℕ} → x ≡ numberOf 1 list (e - 1) → eqb x to ≡ counts (portOn output (to - 1)) list 0 e
     flow-sends sent low h {x} d =
         let w = sent .from-one (e - 1) (flow-in h) in
         rw (within-yes 1 (flows list) e (omega arith) (omega arith), output-is list (e - 1) (sent .linked (e - 1) (flow-in h)))
@@ -104,7 +104,7 @@ back : (o : ℕ) → 1 ≤ o → o ≡ suc (o - 1)
 back o l = omega arith
 
 -- an entry there counts for a flow if it is its number, for an input if it is not 0, for an output if it is a flow of it
-module _ {list : List ℕ} (who : Who) (e : ℕ) (n : Numbered list who) {r : ℕ} where
+module _ {list : List ℕ} (who : Who) (e : ℕ) (n : WhoNumbered list who) {r : ℕ} where
   pub flow-of-counts : {f : ℕ} → who ≡ Flow f → r ≡ bit (eqb e f) → r ≡ bit (counts (classOf who) list (firstEntry (classOf who)) e)
   flow-of-counts {f} is d =
       let low : 1 ≤ f = subst (λ (w : Who). 1 ≤ whoNumber w) is (n .from-one) in
@@ -114,5 +114,5 @@ module _ {list : List ℕ} (who : Who) (e : ℕ) (n : Numbered list who) {r : �
   pub input-counts : {i : ℕ} → who ≡ Input i → r ≡ bit (not (eqb e 0)) → r ≡ bit (counts (classOf who) list (firstEntry (classOf who)) e)
   input-counts {i} is d = rw (is, eq-eqb (i - 1) (i - 1) refl) d
 
-  pub output-counts : {o : ℕ} {b : Bool} → who ≡ Output o → b ≡ counts (output (o - 1)) list 0 e → r ≡ bit b → r ≡ bit (counts (classOf who) list (firstEntry (classOf who)) e)
+  pub output-counts : {o : ℕ} {b : Bool} → who ≡ Output o → b ≡ counts (portOn output (o - 1)) list 0 e → r ≡ bit b → r ≡ bit (counts (classOf who) list (firstEntry (classOf who)) e)
   output-counts {o} is q d = rw is (d ∙ ap bit q)

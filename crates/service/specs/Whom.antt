@@ -4,7 +4,7 @@ use mathlib.Core.Path.{_≡_}
 use mathlib.Core.List.{List}
 use mathlib.Core.Bool.{true}
 use lib.ListN.{length}
-use Rattle.rules.specs.Flows.{flows, numberOf, Class, flow, input, output, link, total}
+use Rattle.rules.specs.Flows.{flows, numberOf, Class, flow, portOn, input, output, link, total}
 use Rattle.calls.specs.Service.{whoWithin}
 use Rattle.calls.specs.declared.Who.{Who}
 use Rattle.calls.specs.declared.Who.the-variants.{Flow, Input, Output}
@@ -22,7 +22,7 @@ whoNumber (Input i) = i
 whoNumber (Output o) = o
 
 -- Whom a count is for has a number from 1 on, and is in the list if it is a flow.
-pub record Numbered (list : List ℕ) (who : Who) : Type 0 where
+pub record WhoNumbered (list : List ℕ) (who : Who) : Type 0 where
   pub from-one : 1 ≤ whoNumber who
   pub listed : (f : ℕ) → who ≡ Flow f → f ≤ flows list
   pub sent : Sent list
@@ -35,16 +35,16 @@ pub record Named (ports : ℕ) (list : List ℕ) (who : Who) : Type 0 where
 -- An input has its entries at one place of each slot, a flow, an output, a link and the total anywhere: where the first stands,
 abbrev pub firstEntry : Class → ℕ
 firstEntry (flow f) = 0
-firstEntry (input i) = i
-firstEntry (output o) = 0
+firstEntry (portOn input i) = i
+firstEntry (portOn output o) = 0
 firstEntry (link x) = 0
 firstEntry total = 0
 
 -- and how many entries later the next.
 abbrev pub nextEntry : ℕ → Class → ℕ
 nextEntry ports (flow f) = 1
-nextEntry ports (input i) = ports
-nextEntry ports (output o) = 1
+nextEntry ports (portOn input i) = ports
+nextEntry ports (portOn output o) = 1
 nextEntry ports (link x) = 1
 nextEntry ports total = 1
 
@@ -56,7 +56,7 @@ pub record Framed (ports slots : ℕ) (entries : List ℕ) : Type 0 where
   pub size : length entries ≡ slots * ports
 
 -- What is asked is not refused; the start is numbered from 0.
-pub record Asked (ports slots : ℕ) (list entries : List ℕ) (who : Who) (start len : ℕ) : Type 0 where
+pub record CountAsked (ports slots : ℕ) (list entries : List ℕ) (who : Who) (start len : ℕ) : Type 0 where
   pub framed : Framed ports slots entries
   pub named : Named ports list who
   pub start-is : start < slots

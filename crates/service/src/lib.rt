@@ -9,7 +9,7 @@ ghost use Rattle.rules.specs.Words.{bit};
 ghost use Rattle.rules.specs.Flows.{output};
 ghost use Rattle.rules.specs.Frames.{counts, cells, runOf, repeated};
 ghost use Rattle.calls.specs.Service.{classOf, whoWithin, lead, served, service};
-ghost use Rattle.service.specs.Whom.{Sent, whoNumber, Numbered, Named, firstEntry, nextEntry, Framed, Asked};
+ghost use Rattle.service.specs.Whom.{Sent, whoNumber, WhoNumbered, Named, firstEntry, nextEntry, Framed, CountAsked};
 use flows::flows_of;
 use flows::number_of;
 use calls::Answer;
@@ -89,7 +89,7 @@ fn sends_to(list: &[u16], entry: usize, to: usize) -> bool
 
 // 1 where an entry that stands there counts, else 0.
 fn counted(list: &[u16], who: Who, entry: usize) -> usize
-    requires { ⌜ Numbered (now list) who ⌝ }
+    requires { ⌜ WhoNumbered (now list) who ⌝ }
     ensures { λ r. ⌜ r ≡ bit (counts (classOf who) (now (list .entry)) (firstEntry (classOf who)) entry) ⌝ }
 {
     match who {
@@ -143,7 +143,7 @@ fn run_cells(
     len: usize,
     whole: usize,
 ) -> usize
-    requires { ⌜ Asked ports slots (now list) (now frame) who start len × (whole ≡ cells (classOf who) ports (now list) (now frame)) ⌝ }
+    requires { ⌜ CountAsked ports slots (now list) (now frame) who start len × (whole ≡ cells (classOf who) ports (now list) (now frame)) ⌝ }
     ensures { λ r. ⌜ r ≡ cells (classOf who) ports (now (list .entry)) (repeated ports slots (now (frame .entry)) start len) ⌝ }
 {
     let rest = len % slots;
@@ -174,7 +174,7 @@ fn count_run(
     start: usize,
     len: usize,
 ) -> Count
-    requires { ⌜ Asked ports slots (now list) (now frame) who start len ⌝ }
+    requires { ⌜ CountAsked ports slots (now list) (now frame) who start len ⌝ }
     ensures { λ r. ⌜ r .cells ≡ cells (classOf who) ports (now (list .entry)) (repeated ports slots (now (frame .entry)) start len) ⌝ }
     ensures { λ r. ⌜ r .lead ≡ lead (classOf who) ports slots (now (list .entry)) (now (frame .entry)) start len ⌝ }
 {

@@ -14,8 +14,8 @@ use denote.Enum.Declared.{tagOf}
 use borrow.Author.Tests.{lt-ltb, le-ltb}
 use Rattle.rules.specs.Words.{if, both, Every}
 use Rattle.rules.specs.Flows.{stride}
-use Rattle.calls.specs.Refusals.{report, clear, listChecks, bad-frame, refusal, portOverloads, linkOverload, overloads, slotsEach}
-use Rattle.calls.specs.Build.{buildChecks, frameFor, outcome, acceptance, built, left}
+use Rattle.calls.specs.Refusals.{report, none-holds, listChecks, bad-frame, refusal, portOverloads, linkOverload, overloads, slotsEach}
+use Rattle.calls.specs.Build.{buildChecks, frameFor, outcome, acceptance, built, frameAfter}
 use Rattle.sheets.specs.Sheet.{Asked, loads, refused, overloaded, lines, readPorts, readSheet, printed, printFrame, response}
 use Rattle.calls.specs.declared.Refusal.{Refusal}
 use Rattle.calls.specs.declared.Refusal.the-variants as variants
@@ -31,12 +31,12 @@ use Rattle.reading.proofs.Reading.{the-type}
 use Rattle.reading.specs.Reading.{LoadsRead, SheetOf}
 use Rattle.printing.specs.Printing.{Printed, Sized, frameBytes}
 use Rattle.printing.proofs.Prints.{frame-bytes}
-use Rattle.sheet.specs.Response.{Readable, bytesOf, Lies, Printable, Answered, Whole}
+use Rattle.sheet.specs.Response.{ReadLines, bytesOf, Lies, Printable, Answered, Whole}
 use Rattle.reading.specs.declared.Reading.{Reading}
 use Rattle.reading.specs.declared.Reading.the-variants.{Ports, Slots, Pair, Loads, Refused}
 
 -- ---- building
-module _ (ports slots n : ℕ) (list frame : List ℕ) (x : Readable ports slots n list frame) where
+module _ (ports slots n : ℕ) (list frame : List ℕ) (x : ReadLines ports slots n list frame) where
   abbrev part : List ℕ
   part = take (n * stride) list
 
@@ -73,7 +73,7 @@ module _ (ports slots n : ℕ) (list frame : List ℕ) (x : Readable ports slots
   report-three =
       past-frame ports slots part well room (sym room-size) (overloads ports slots part each) (acceptance ports slots part each room)
 
-  clear-three : clear (buildChecks ports slots part each room) ≡ clear (overloads ports slots part each)
+  clear-three : none-holds (buildChecks ports slots part each room) ≡ none-holds (overloads ports slots part each)
   unfolding buildChecks
   clear-three =
       clear-then (listChecks ports slots part) (bad-frame ports slots room ∷ overloads ports slots part each) (x .fine)
@@ -82,13 +82,13 @@ module _ (ports slots n : ℕ) (list frame : List ℕ) (x : Readable ports slots
   refuse-three : Every Refuses (overloads ports slots part each)
   refuse-three = ((λ e. omega arith), ((λ e. omega arith), ((λ e. omega arith), tt)))
 
-  pub built-yes : (a : Built) (mid : List ℕ) (settled : ℕ) → outcome a ≡ built ports slots part each room → mid ≡ left ports slots part each room
+  pub built-yes : (a : Built) (mid : List ℕ) (settled : ℕ) → outcome a ≡ built ports slots part each room → mid ≡ frameAfter ports slots part each room
       → a ≡ builds.Accepted settled → length mid ≡ length room
       → Answered (overloaded (loads ports slots part)) (mid ++ drop (slots * ports) frame) (Loads ports slots n)
   built-yes a mid settled e f g k =
       let two = portOverloads ports slots part in
       let three = overloads ports slots part each in
-      let c : clear three ≡ true =
+      let c : none-holds three ≡ true =
       clear-none three (acceptance ports slots part each room) refuse-three (ap (λ l. getD l 0 0) (sym report-three ∙ (sym e ∙ ap outcome g))) in
       let d = clear-parts two (linkOverload ports part each ∷ []) c .0 in
       let h : take (slots * ports) (mid ++ drop (slots * ports) frame) ≡ mid = take-at mid (drop (slots * ports) frame) (slots * ports) (k ∙ sym room-size) in
@@ -105,7 +105,7 @@ module _ (ports slots n : ℕ) (list frame : List ℕ) (x : Readable ports slots
       let two = portOverloads ports slots part in
       let taken = acceptance ports slots part each room in
       let k : report two taken ≡ refusal r = sym (slots-report ports slots part ports-low taken) ∙ (sym report-three ∙ (sym e ∙ ap outcome g)) in
-      let c : clear two ≡ false = clear-some two taken refl (λ z. refusal-number r (ap (λ l. getD l 0 0) (sym k) ∙ z)) in
+      let c : none-holds two ≡ false = clear-some two taken refl (λ z. refusal-number r (ap (λ l. getD l 0 0) (sym k) ∙ z)) in
       record {
         prints = ap printed (ap (λ b. if b (loads ports slots part) (refused (report two []))) c
             ∙ ap refused (report-refused two [] taken c ∙ k));
@@ -133,7 +133,7 @@ pub loads-known : (asked : Asked) (list : List ℕ) (r : Reading) (ports slots n
 loads-known asked list r ports slots n x e = rw e at x
 
 pub loads-readable : (asked : Asked) (list : List ℕ) (r : Reading) (ports slots n : ℕ) (frame : List ℕ) → SheetOf asked list r → r ≡ Loads ports slots n
-    → length frame ≡ 16384 → Readable ports slots n list frame
+    → length frame ≡ 16384 → ReadLines ports slots n list frame
 loads-readable asked list r ports slots n frame x e h =
     let y = loads-known asked list r ports slots n x e in
     record { fine = y .fine; few = y .few; size = y .size; room = h }

@@ -5,15 +5,15 @@ use mathlib.Core.List.{List, [], _++_}
 use mathlib.Core.Bool.{true}
 use lib.ListN.{length, take, drop}
 use Rattle.rules.specs.Flows.{stride}
-use Rattle.calls.specs.Refusals.{clear, listChecks, refusal}
+use Rattle.calls.specs.Refusals.{none-holds, listChecks, refusal}
 use Rattle.sheets.specs.Sheet.{Asked, printed, printFrame, printRefusal}
 use Rattle.reading.specs.declared.Reading.{Reading}
 use Rattle.reading.specs.declared.Reading.the-variants.{Ports, Slots, Pair, Loads, Refused}
 
 -- The n flows read, at the front of a list, of which none of 1, 2, 3, 21, 22 and 23 holds, and the buffer that their frame is built
 -- in.
-pub record Readable (ports slots n : ℕ) (list frame : List ℕ) : Type 0 where
-  pub fine : clear (listChecks ports slots (take (n * stride) list)) ≡ true
+pub record ReadLines (ports slots n : ℕ) (list frame : List ℕ) : Type 0 where
+  pub fine : none-holds (listChecks ports slots (take (n * stride) list)) ≡ true
   pub few : n ≤ 512
   pub size : length list ≡ 2048
   pub room : length frame ≡ 16384

@@ -5,7 +5,7 @@ ghost use lib.ListN.{length, take};
 ghost use Rattle.rules.specs.Flows.{stride};
 ghost use Rattle.sheets.specs.Sheet.{loads, overloaded, readSheet, response};
 ghost use Rattle.printing.specs.Printing.{Printed};
-ghost use Rattle.sheet.specs.Response.{Readable, bytesOf, Printable, Answered, Whole};
+ghost use Rattle.sheet.specs.Response.{ReadLines, bytesOf, Printable, Answered, Whole};
 use flows::LIST_MOST;
 use flows::STRIDE;
 use calls::Built;
@@ -26,7 +26,7 @@ const FRAME_MOST: usize = 16384;
 
 // Builds the frame of the flows read, at the front of the buffer: 5, then 6; 24 never, each link's limit being the slots.
 fn build_loads(ports: usize, slots: usize, flows: usize, list: &[u16], frame: &mut [u16]) -> Reading
-    requires { ⌜ Readable ports slots flows (now list) (now frame) ⌝ }
+    requires { ⌜ ReadLines ports slots flows (now list) (now frame) ⌝ }
     ensures { λ r. ⌜ Answered (overloaded (loads ports slots (take (flows * stride) (now (list .entry))))) (now (frame .exit)) r ⌝ }
 {
     let numbers = flows * STRIDE;

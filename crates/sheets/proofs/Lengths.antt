@@ -9,12 +9,12 @@ use lib.ListN.{length, getD, set, take, drop, replicate, length-append, length-t
 use lib.Seq.{getD-drop, set-out, getD-set-same, getD-set-other}
 use borrow.Author.Tests.{eq-eqb, ne-eqb, eqb-false, leb-true, leb-false, ltb-false, not-true, not-false}
 use Rattle.rules.specs.Words.{if, both, within, upFrom, keep, Every}
-use Rattle.rules.specs.Flows.{flows, Side, inputs, portOf, countsOf, Class, input, output, isOf, loadIn, load}
-use Rattle.calls.specs.Refusals.{Check, report, clear, bad-ports, bad-slots, lowestAbove, overload, portOverloads}
+use Rattle.rules.specs.Flows.{flows, End, inputs, portOf, countsOf, Class, portOn, input, output, isOf, loadIn, load}
+use Rattle.calls.specs.Refusals.{Check, report, none-holds, bad-ports, bad-slots, lowestAbove, overload, portOverloads}
 use Rattle.rules.specs.Frames.{levels}
 use Rattle.rules.specs.Rules.{odd}
 use Rattle.rules.specs.Schedule.{favours, halfBy, put, slotOf, frameOf}
-use Rattle.sheets.specs.Sheet.{text, decimal, portsLine, slotsLine, pairLine, lines, numberIn, same, bad-line, bad-line-flow, bad-port, Asked, loads, refused, unless, most, readPairs, readSlots, readPorts, bad-sheet, overloaded, readSheet, printCells, printSlots, printFrame, printRefusal, printed, response}
+use Rattle.sheets.specs.Sheet.{text, decimal, portsLine, slotsLine, pairLine, lines, numberIn, same, bad-line, line-past-512, bad-port, Asked, loads, refused, unless, most, readPairs, readSlots, readPorts, bad-sheet, overloaded, readSheet, printCells, printSlots, printFrame, printRefusal, printed, response}
 use Rattle.rules.proofs.Cases.{byBool, byEq, byLt, both-true, within-true}
 use Rattle.rules.proofs.Sums.{sum-most}
 use Rattle.rules.proofs.Searches.{first-high}
@@ -74,11 +74,11 @@ set-low n l p v h low q =
 
 -- ---- the entries of a frame
 -- those that are written into a slot are numbers of flows
-put-low : (n : ℕ) (port : Side → ℕ → ℕ) (m l slot : List ℕ) → Every (λ f. (odd m f ≡ true) × (f < n)) l → Low n slot → Low n (put port l slot)
+put-low : (n : ℕ) (port : End → ℕ → ℕ) (m l slot : List ℕ) → Every (λ f. (odd m f ≡ true) × (f < n)) l → Low n slot → Low n (put port l slot)
 put-low n port m [] slot e x = x
 put-low n port m (f ∷ l) slot e x = put-low n port m l (set slot (port inputs f) (suc f)) (e .1) (set-low n slot (port inputs f) (suc f) (e .0 .1) x)
 
-slot-low : (ports : ℕ) (port : Side → ℕ → ℕ) (m : List ℕ) → Low (length m) (slotOf ports port m)
+slot-low : (ports : ℕ) (port : End → ℕ → ℕ) (m : List ℕ) → Low (length m) (slotOf ports port m)
 unfolding slotOf
 slot-low ports port m =
     put-low (length m) port m (keep (odd m) (upFrom 0 (length m))) (replicate ports 0)
@@ -90,7 +90,7 @@ half-short h (x ∷ m) [] = omega arith
 half-short h (x ∷ m) (y ∷ c) = omega (arith, half-short h m c)
 
 -- no entry is above the number of flows
-frame-low : (ports : ℕ) (port : Side → ℕ → ℕ) (k n : ℕ) (m : List ℕ) → length m ≤ n → Low n (frameOf ports port k m)
+frame-low : (ports : ℕ) (port : End → ℕ → ℕ) (k n : ℕ) (m : List ℕ) → length m ≤ n → Low n (frameOf ports port k m)
 unfolding frameOf
 frame-low ports port zero n m h = λ q. omega (arith, slot-low ports port m q)
 frame-low ports port (suc k) n m h =
@@ -183,8 +183,8 @@ Asks (loads ports slots list) = Read ports slots list
 Asks (refused r) = Short r
 
 -- checks that refuse shortly leave what is asked for, or a short refusal
-unless-asks : (cs : List Check) (asked : Asked) → Every (λ c. Short (c .1)) cs → (clear cs ≡ true → Asks asked) → Asks (unless cs asked)
-unless-asks cs asked s f = byBool (clear cs) (λ e. rw e (f e)) (λ e. rw e (report-short cs s))
+unless-asks : (cs : List Check) (asked : Asked) → Every (λ c. Short (c .1)) cs → (none-holds cs ≡ true → Asks asked) → Asks (unless cs asked)
+unless-asks cs asked s f = byBool (none-holds cs) (λ e. rw e (f e)) (λ e. rw e (report-short cs s))
 
 -- a flow more
 flow-read : {ports slots : ℕ} {list : List ℕ} (i o m : ℕ) → Read ports slots list → flows list < 512 → i ≤ 65535 → o ≤ 65535 → m ≤ 65535
@@ -213,7 +213,7 @@ pairs-read ports slots number list (line ∷ ls) h x =
     let i = numberIn 0 line in
     let o = numberIn 1 line in
     let m = numberIn 2 line in
-    unless-asks (bad-line number line (pairLine i o m) (most i (most o m)) ∷ bad-line-flow list ∷ bad-port number ports i o ∷ [])
+    unless-asks (bad-line number line (pairLine i o m) (most i (most o m)) ∷ line-past-512 list ∷ bad-port number ports i o ∷ [])
     (readPairs ports slots (suc number) (list ++ (i ∷ o ∷ m ∷ 1 ∷ [])) ls)
     ((omega arith, (omega arith, tt)), ((omega arith, tt), ((omega arith, (omega arith, tt)), tt)))
     (λ e.
@@ -284,7 +284,7 @@ overloaded-asks : (asked : Asked) → Asks asked → Asks (overloaded asked)
 overloaded-asks (refused r) x = x
 overloaded-asks (loads ports slots list) x =
     unless-asks (portOverloads ports slots list) (loads ports slots list)
-    (overload-short 5 input x (omega arith), (overload-short 6 output x (omega arith), tt)) (λ e. x)
+    (overload-short 5 (portOn input) x (omega arith), (overload-short 6 (portOn output) x (omega arith), tt)) (λ e. x)
 
 -- what is asked for is printed as no more than 76,749 bytes
 printed-most : (asked : Asked) → Asks asked → length (printed asked) ≤ 76749

@@ -7,10 +7,10 @@ use lib.ListN.{length, getD, length-append, List·getD-append}
 use lib.Seq.{getD-append-add}
 use borrow.Author.Tests.{lt-leb, leb-false, not-false}
 use Rattle.rules.specs.Words.{within, Within}
-use Rattle.rules.specs.Flows.{stride, flows, numberOf, inputs, links, portOf, countsOf, output, load, input}
+use Rattle.rules.specs.Flows.{stride, flows, numberOf, inputs, links, portOf, countsOf, portOn, output, load, input}
 use Rattle.calls.specs.Refusals.{Check, report, overload, portOverloads}
 use Rattle.rules.specs.Schedule.{frameOf}
-use Rattle.sheets.specs.Sheet.{bad-sheet, printFrame, digits, portsLine, slotsLine, pairLine, lines, bad-line-flow, bad-port, Asked, loads, readPairs, readPorts, readSheet, response}
+use Rattle.sheets.specs.Sheet.{bad-sheet, printFrame, digits, portsLine, slotsLine, pairLine, lines, line-past-512, bad-port, Asked, loads, readPairs, readPorts, readSheet, response}
 use Rattle.sheets.specs.Sheet as asked
 use Rattle.rules.proofs.Cases.{byLt, both-true, within-yes, within-true}
 use Rattle.rules.specs.Frames.{Power}
@@ -87,7 +87,7 @@ well-more {list = list} i o m w h a b =
 
 -- ---- pair lines
 -- 21: there is room for a flow more
-few-tells : (list : List ℕ) → Tells (bad-line-flow list) (flows list < 512)
+few-tells : (list : List ℕ) → Tells (line-past-512 list) (flows list < 512)
 few-tells list = record { met = lt-leb 512 (flows list); known = leb-false 512 (flows list) }
 
 -- 8: both ports are ports of the switch
@@ -195,17 +195,17 @@ module _ (ports slots : ℕ) (list : List ℕ) where
       → asked.overloaded (loads ports slots list) ≡ asked.refused (n ∷ values)
   overload-asked h e = unless-refused (portOverloads ports slots list) (loads ports slots list) h e
 
-  input-asked : (x : ℕ) → Over input ports slots list x → asked.overloaded (loads ports slots list) ≡ asked.refused (5 ∷ suc x ∷ load (input x) list ∷ [])
+  input-asked : (x : ℕ) → Over (portOn input) ports slots list x → asked.overloaded (loads ports slots list) ≡ asked.refused (5 ∷ suc x ∷ load (portOn input x) list ∷ [])
   input-asked x o =
       overload-asked (omega arith)
-      (λ other. report-found (overload 5 input ports slots list) (overload 6 output ports slots list ∷ []) other (over-reported 5 input ports slots list x o))
+      (λ other. report-found (overload 5 (portOn input) ports slots list) (overload 6 (portOn output) ports slots list ∷ []) other (over-reported 5 (portOn input) ports slots list x o))
 
-  output-asked : Light input ports slots list → (x : ℕ) → Over output ports slots list x
-      → asked.overloaded (loads ports slots list) ≡ asked.refused (6 ∷ suc x ∷ load (output x) list ∷ [])
+  output-asked : Light (portOn input) ports slots list → (x : ℕ) → Over (portOn output) ports slots list x
+      → asked.overloaded (loads ports slots list) ≡ asked.refused (6 ∷ suc x ∷ load (portOn output x) list ∷ [])
   output-asked i x o =
       overload-asked (omega arith)
-      (λ other. report-on (overload 5 input ports slots list) (overload 6 output ports slots list ∷ []) other (overload-tells 5 input ports slots list .met i)
-      ∙ report-found (overload 6 output ports slots list) [] other (over-reported 6 output ports slots list x o))
+      (λ other. report-on (overload 5 (portOn input) ports slots list) (overload 6 (portOn output) ports slots list ∷ []) other (overload-tells 5 (portOn input) ports slots list .met i)
+      ∙ report-found (overload 6 (portOn output) ports slots list) [] other (over-reported 6 (portOn output) ports slots list x o))
 
 module _ (bytes : List ℕ) where
   -- a sheet that is not too long is answered by what is read
@@ -227,8 +227,8 @@ module _ (bytes : List ℕ) where
   respond-some : length bytes ≤ 32768 → (given : Asked) → Reads bytes given → Exactly (Responds bytes) (response bytes)
   respond-some h (asked.refused r) g = exactly respond-only (lines-refused h g)
   respond-some h (loads ports slots list) g =
-      byOver 5 input ports slots list (λ x o. exactly respond-only (input-5 h g x o))
-      (λ i. byOver 6 output ports slots list (λ x o. exactly respond-only (output-6 h g i x o))
+      byOver 5 (portOn input) ports slots list (λ x o. exactly respond-only (input-5 h g x o))
+      (λ i. byOver 6 (portOn output) ports slots list (λ x o. exactly respond-only (output-6 h g i x o))
       (λ o.
       let w = reads-well g in
       let fits = light-fits ports slots list i o in

@@ -11,7 +11,7 @@ use lib.ListN.{length, getD, length-append}
 use borrow.Author.Tests.{lt-ltb, le-ltb, le-leb, leb-true, leb-false, eqb-true, eq-eqb, not-true}
 use Rattle.rules.specs.Words.{both, within}
 use Rattle.calls.specs.Refusals.{bad-ports, bad-slots}
-use Rattle.sheets.specs.Sheet.{text, digits, decimal, portsLine, slotsLine, pairLine, onFirst, lines, numbersFrom, numberIn, same, bad-line-flow, bad-port, loads, refused, unless, most, readPairs, readSlots, readPorts}
+use Rattle.sheets.specs.Sheet.{text, digits, decimal, portsLine, slotsLine, pairLine, onFirst, lines, numbersFrom, numberIn, same, line-past-512, bad-port, loads, refused, unless, most, readPairs, readSlots, readPorts}
 use Rattle.rules.proofs.Cases.{byBool, byLt, both-true, both-yes, within-yes}
 
 -- ---- digits
@@ -333,7 +333,7 @@ most-high a b n x y = byBool (leb a b) (λ e. rw e y) (λ e. rw e x)
 module _ (ports slots number : ℕ) (list : List ℕ) where
   pub pairs-yes : (i o m : ℕ) (t : List ℕ) → i ≤ 65535 → o ≤ 65535 → m ≤ 65535
       → readPairs ports slots number list (lines (pairLine i o m ++ t))
-      ≡ unless (bad-line-flow list ∷ bad-port number ports i o ∷ [])
+      ≡ unless (line-past-512 list ∷ bad-port number ports i o ∷ [])
       (readPairs ports slots (suc number) (list ++ (i ∷ o ∷ m ∷ 1 ∷ [])) (lines t))
   unfolding readPairs Whole
   pairs-yes i o m t a b c =

@@ -4,7 +4,7 @@ use mathlib.Core.Path.{_≡_}
 use mathlib.Core.List.{List, [], _∷_, _++_}
 use lib.ListN.{length}
 use Rattle.rules.specs.Words.{Within}
-use Rattle.rules.specs.Flows.{flows, portOf, countsOf, input, output, load, Fits}
+use Rattle.rules.specs.Flows.{flows, portOf, countsOf, portOn, input, output, load, Fits}
 use Rattle.rules.specs.Frames.{Power}
 use Rattle.rules.specs.Rules.{Scheduled}
 use Rattle.calls.specs.Demand2.{Light, Over}
@@ -49,10 +49,10 @@ pub data Reads : List ℕ → Asked → Type 0 where
 pub data Responds (bytes : List ℕ) : List ℕ → Type 0 where
   sheet-10 : 32768 < length bytes → Responds bytes (text "(refused 10)\n")
   lines-refused : {r : List ℕ} → length bytes ≤ 32768 → Reads bytes (asked.refused r) → Responds bytes (printRefusal r)
-  input-5 : {ports slots : ℕ} {list : List ℕ} → length bytes ≤ 32768 → Reads bytes (loads ports slots list) → (x : ℕ) → Over input ports slots list x
-      → Responds bytes (printRefusal (5 ∷ suc x ∷ load (input x) list ∷ []))
-  output-6 : {ports slots : ℕ} {list : List ℕ} → length bytes ≤ 32768 → Reads bytes (loads ports slots list) → Light input ports slots list
-      → (x : ℕ) → Over output ports slots list x → Responds bytes (printRefusal (6 ∷ suc x ∷ load (output x) list ∷ []))
+  input-5 : {ports slots : ℕ} {list : List ℕ} → length bytes ≤ 32768 → Reads bytes (loads ports slots list) → (x : ℕ) → Over (portOn input) ports slots list x
+      → Responds bytes (printRefusal (5 ∷ suc x ∷ load (portOn input x) list ∷ []))
+  output-6 : {ports slots : ℕ} {list : List ℕ} → length bytes ≤ 32768 → Reads bytes (loads ports slots list) → Light (portOn input) ports slots list
+      → (x : ℕ) → Over (portOn output) ports slots list x → Responds bytes (printRefusal (6 ∷ suc x ∷ load (portOn output x) list ∷ []))
   frame : {ports slots : ℕ} {list : List ℕ} → length bytes ≤ 32768 → Reads bytes (loads ports slots list) → Fits ports slots (portOf list) (countsOf list)
       → (p : Power slots) (laid : List ℕ) → Scheduled ports (portOf list) (p .k) (countsOf list) laid → Responds bytes (printFrame ports slots laid)
 

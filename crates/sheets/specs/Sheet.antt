@@ -9,7 +9,7 @@ use lib.Dec.{eqb, ltb, leb}
 use lib.ListN.{length, getD}
 use Rattle.rules.specs.Words.{if, both, within}
 use Rattle.rules.specs.Flows.{flows}
-use Rattle.calls.specs.Refusals.{Check, report, clear, bad-ports, bad-slots, portOverloads}
+use Rattle.calls.specs.Refusals.{Check, report, none-holds, bad-ports, bad-slots, portOverloads}
 use Rattle.calls.specs.Build.{frameFor}
 
 -- The bytes of a text.
@@ -73,8 +73,8 @@ abbrev pub bad-port : ℕ → ℕ → ℕ → ℕ → Check
 bad-port number ports i o = (not (both (within 1 ports i) (within 1 ports o)), 8 ∷ number ∷ [])
 
 -- 21: a pair line after 512 of them. Printed without its line.
-abbrev pub bad-line-flow : List ℕ → Check
-bad-line-flow list = (leb 512 (flows list), 21 ∷ [])
+abbrev pub line-past-512 : List ℕ → Check
+line-past-512 list = (leb 512 (flows list), 21 ∷ [])
 
 -- What a sheet asks for: ports, slots and a list; or its refusal.
 pub data Asked : Type 0 where
@@ -82,7 +82,7 @@ pub data Asked : Type 0 where
   refused : List ℕ → Asked
 
 abbrev pub unless : List Check → Asked → Asked
-unless checks asked = if (clear checks) asked (refused (report checks []))
+unless checks asked = if (none-holds checks) asked (refused (report checks []))
 
 abbrev pub most : ℕ → ℕ → ℕ
 most a b = if (leb a b) b a
@@ -96,7 +96,7 @@ readPairs ports slots number list (line ∷ ls) =
     let m = numberIn 2 line in
     unless (
     bad-line number line (pairLine i o m) (most i (most o m))
-    ∷ bad-line-flow list
+    ∷ line-past-512 list
     ∷ bad-port number ports i o
     ∷ []
     ) (readPairs ports slots (suc number) (list ++ (i ∷ o ∷ m ∷ 1 ∷ [])) ls)

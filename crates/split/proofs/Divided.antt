@@ -15,16 +15,16 @@ use Rattle.rules.proofs.Lists.{every-map}
 use Rattle.rules.proofs.Kept.{keep-every, keep-rising}
 use Rattle.rules.proofs.Settled.{favours-law}
 use Rattle.rules.proofs.Splits.{half-at, half-length}
-use Rattle.planes.specs.Planes.{digitAt, countAt, each, counts, halves, oddAt, oddsIn}
+use Rattle.planes.specs.Planes.{digitAt, countAt, each, countsIn, halves, oddAt, oddsIn}
 use Rattle.planes.specs.Steps.{Gathered, Marked, Others}
 use Rattle.planes.proofs.Lists.{keep-most, zeros-at}
 use Rattle.planes.proofs.Counts.{each-is, counts-length, counts-at, digit-le, odd-is, odds-are}
 use Rattle.planes.proofs.Marked.{others-mask}
-use Rattle.split.specs.Steps.{Sides, Shared, Odds, Mates, Scratch, tabled, Linked, LinkedOut, SettledBy, Favours}
+use Rattle.split.specs.Steps.{Sides, MultiLink, Odds, MateTable, Scratch, tabled, AllMated, MatedOut, SettledBy, Favours}
 use Rattle.split.proofs.Favoured.{favoured-is}
 
 -- ---- lists that nothing is in yet
-blank-mates : Mates (replicate 528 0)
+blank-mates : MateTable (replicate 528 0)
 blank-mates = record { len = length-replicate {A = ℕ} 528 0; low = λ p. omega (arith, zeros-at 528 p) }
 
 pub blank-scratch : Scratch (replicate 528 0) (replicate 528 0) (replicate 528 0) (replicate 528 0)
@@ -49,21 +49,21 @@ record Either (d f : ℕ) : Type 0 where
   on : d ≡ 1 → (1 ≤ f) × (f ≤ 2)
   off : d ≡ 0 → f ≡ 0
 
-either : (f m n : ℕ) (planes ins outs : List ℕ) (p : ℕ) → p < n → f ≡ getD (favours (tabled ins outs) (counts (suc m) planes n)) p 0 → Either (digitAt planes p) f
+either : (f m n : ℕ) (planes ins outs : List ℕ) (p : ℕ) → p < n → f ≡ getD (favours (tabled ins outs) (countsIn (suc m) planes n)) p 0 → Either (digitAt planes p) f
 either f m n planes ins outs p h e =
-    let law = favours-law (tabled ins outs) (counts (suc m) planes n) in
+    let law = favours-law (tabled ins outs) (countsIn (suc m) planes n) in
     let o = odd-is m planes n p h in
     record {
       on = λ d. let low = law .low p (sym o ∙ ap (λ (x : ℕ). eqb x 1) d) in let high = law .high p in (omega arith, omega arith);
       off = λ d. e ∙ law .evens p (sym o ∙ ap (λ (x : ℕ). eqb x 1) d);
     }
 
-module _ {n k shared : ℕ} {planes ins outs odds i o c mask : List ℕ} (s : Sides n ins outs) (sh : Shared n shared outs) (g : Gathered n planes odds k)
-    (li : Linked ins odds k i) (lo : LinkedOut shared outs odds k o) (st : SettledBy i o odds k (replicate 528 0) c) (mk : Marked n planes c mask) where
-  favoured-at : (m p : ℕ) → p < n → getD c p 0 ≡ getD (favours (tabled ins outs) (counts (suc m) planes n)) p 0
+module _ {n k multi : ℕ} {planes ins outs odds i o c mask : List ℕ} (s : Sides n ins outs) (sh : MultiLink n multi outs) (g : Gathered n planes odds k)
+    (li : AllMated ins odds k i) (lo : MatedOut multi outs odds k o) (st : SettledBy i o odds k (replicate 528 0) c) (mk : Marked n planes c mask) where
+  favoured-at : (m p : ℕ) → p < n → getD c p 0 ≡ getD (favours (tabled ins outs) (countsIn (suc m) planes n)) p 0
   favoured-at m p h =
       sym (getD-take n c p 0 h)
-      ∙ ap (λ (l : List ℕ). getD l p 0) (favoured-is (counts (suc m) planes n) s sh (counts-length (suc m) planes n) (g .same ∙ odds-are m n planes) li lo st)
+      ∙ ap (λ (l : List ℕ). getD l p 0) (favoured-is (countsIn (suc m) planes n) s sh (counts-length (suc m) planes n) (g .same ∙ odds-are m n planes) li lo st)
 
   pub favours-first : Favours 1 n planes ins outs mask
   favours-first =
@@ -78,9 +78,9 @@ module _ {n k shared : ℕ} {planes ins outs odds i o c mask : List ℕ} (s : Si
         has = λ m p h. here m p h;
       }
     where
-      here : (m p : ℕ) → p < n → digitAt mask p ≡ bit (eqb (getD (favours (tabled ins outs) (counts (suc m) planes n)) p 0) 1)
+      here : (m p : ℕ) → p < n → digitAt mask p ≡ bit (eqb (getD (favours (tabled ins outs) (countsIn (suc m) planes n)) p 0) 1)
       here m p h =
-          let f = getD (favours (tabled ins outs) (counts (suc m) planes n)) p 0 in
+          let f = getD (favours (tabled ins outs) (countsIn (suc m) planes n)) p 0 in
           let same = favoured-at m p h in
           let law = either f m n planes ins outs p h refl in
           byEq (digitAt planes p) 1
@@ -101,9 +101,9 @@ favours-second {n} {planes} {ins} {outs} {old} {mask} v w =
       has = λ m p h. here m p h;
     }
   where
-    here : (m p : ℕ) → p < n → digitAt mask p ≡ bit (eqb (getD (favours (tabled ins outs) (counts (suc m) planes n)) p 0) 2)
+    here : (m p : ℕ) → p < n → digitAt mask p ≡ bit (eqb (getD (favours (tabled ins outs) (countsIn (suc m) planes n)) p 0) 2)
     here m p h =
-        let f = getD (favours (tabled ins outs) (counts (suc m) planes n)) p 0 in
+        let f = getD (favours (tabled ins outs) (countsIn (suc m) planes n)) p 0 in
         let law = either f m n planes ins outs p h refl in
         let other = w .has p (omega arith) in
         let first = v .has m p h in
@@ -122,10 +122,10 @@ favours-second {n} {planes} {ins} {outs} {old} {mask} v w =
 -- ---- the halves
 -- what a mask gives is half h of the counts, by the rules
 pub half-is : {h n : ℕ} {planes ins outs mask : List ℕ} → Favours h n planes ins outs mask → h ≢ 0 → (m : ℕ)
-    → halves m planes mask n ≡ halfOf (tabled ins outs) h (counts (suc m) planes n)
+    → halves m planes mask n ≡ halfOf (tabled ins outs) h (countsIn (suc m) planes n)
 unfolding halves
 half-is {h} {n} {planes} {ins} {outs} {mask} v some m =
-    let c : List ℕ = counts (suc m) planes n in
+    let c : List ℕ = countsIn (suc m) planes n in
     let f = favours (tabled ins outs) c in
     let l : length f ≡ length c = favours-law (tabled ins outs) c .len in
     let size : length (halfBy h c f) ≡ n = half-length h c f l ∙ counts-length (suc m) planes n in

@@ -20,10 +20,10 @@ use Rattle.rules.proofs.SamePorts.{output-same}
 use Rattle.rules.proofs.Kept.{keep-same, keep-keep}
 use Rattle.rules.proofs.Favouring.{none-favour, settled-less, unsettled-most}
 use Rattle.rules.proofs.Walks.{walk-on, walk-off, walk-length}
-use Rattle.split.specs.Steps.{lookup, tabled, Sides, Shared, portIn, thoseAt, mateAmong, Linked, LinkedOut, walked, bothWays, groupSettled, allSettled, SettledBy}
+use Rattle.split.specs.Steps.{lookup, tabled, Sides, MultiLink, portIn, thoseAt, mateAmong, AllMated, MatedOut, walked, bothWays, groupSettled, allSettled, SettledBy}
 use Rattle.split.proofs.Lists.{every-kept}
 use Rattle.split.proofs.Walked.{walk-end}
-use Rattle.split.proofs.Linked.{Mated}
+use Rattle.split.proofs.Mated.{Mated}
 
 -- ---- walks
 none-zero : (c : List ℕ) (q : ℕ) → favouring 0 c ≤ 0 → q < length c → getD c q 0 ≢ 0
@@ -213,16 +213,16 @@ take-zeros (suc n) (suc k) h = ap (λ (l : List ℕ). 0 ∷ l) (take-zeros n k (
 
 -- ---- the half that each count favours
 -- the steps over a list of the odd counts of m settle what the definitions settle
-pub favoured-is : {n k shared : ℕ} {ins outs odds i o c : List ℕ} (m : List ℕ) → Sides n ins outs → Shared n shared outs → length m ≡ n
-    → take k odds ≡ keep (odd m) (upFrom 0 n) → Linked ins odds k i → LinkedOut shared outs odds k o → SettledBy i o odds k (replicate 528 0) c → take n c ≡ favours (tabled ins outs) m
+pub favoured-is : {n k multi : ℕ} {ins outs odds i o c : List ℕ} (m : List ℕ) → Sides n ins outs → MultiLink n multi outs → length m ≡ n
+    → take k odds ≡ keep (odd m) (upFrom 0 n) → AllMated ins odds k i → MatedOut multi outs odds k o → SettledBy i o odds k (replicate 528 0) c → take n c ≡ favours (tabled ins outs) m
 unfolding favours
-favoured-is {n} {k} {shared} {ins} {outs} {odds} {i} {o} {c} m t sh len g li lo s =
+favoured-is {n} {k} {multi} {ins} {outs} {odds} {i} {o} {c} m t sh len g li lo s =
     let z : List ℕ = replicate 528 0 in
     let i′ = partner (lookup ins) m in
     let o′ = outputPartner (lookup outs) m in
     let g′ : take k odds ≡ odds-of m = g ∙ ap (λ (j : ℕ). keep (odd m) (upFrom 0 j)) (sym len) in
     let di = does-inputs m ins i (λ p h. t .low inputs p (omega arith)) (subst (λ (l : List ℕ). Every (Mated ins i l) l) g′ (li .same)) in
-    let sh′ : Shared (length m) shared outs = subst (λ (j : ℕ). Shared j shared outs) (sym len) sh in
+    let sh′ : MultiLink (length m) multi outs = subst (λ (j : ℕ). MultiLink j multi outs) (sym len) sh in
     let do′ = does-outputs m outs o (λ p h. t .low links p (omega arith)) (lo .same m g′ sh′) in
     let wz : length m ≤ length z = omega (arith, t .most, length-replicate {A = ℕ} 528 0) in
     ap₂ (λ (j : ℕ) (d : List ℕ). take j d) (sym len) (s .same ∙ ap (λ (l : List ℕ). allSettled i o l z) g′)

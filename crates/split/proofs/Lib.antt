@@ -1,8 +1,8 @@
 -- Laws of the steps, one file for each that they are about.
 pub mod Lists
-pub mod Linked
+pub mod Mated
 pub mod Joined
-pub mod Turned
+pub mod Flipped
 pub mod Walked
 pub mod Settled
 pub mod Favoured

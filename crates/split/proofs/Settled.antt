@@ -13,13 +13,13 @@ use Rattle.rules.specs.Schedule.{favouring, level}
 use Rattle.rules.proofs.Cases.{byEq, within-yes, within-below, within-above}
 use Rattle.rules.proofs.Favouring.{settled-less, unsettled-most, favouring-more, favouring-same}
 use Rattle.rules.proofs.Shares.{same-shares}
-use Rattle.split.specs.Steps.{Wide, Odds, walked, Listed, Walks, turned, otherHalf, bothWays, groupSettled, largerHalf, Turn, Settles, allSettled, SettledBy}
+use Rattle.split.specs.Steps.{Wide, Odds, walked, Listed, Walks, flipped, otherHalf, bothWays, groupSettled, largerHalf, Next, Settles, allSettled, SettledBy}
 use Rattle.planes.proofs.Lists.{at-end}
-use Rattle.split.proofs.Turned.{turned-length}
+use Rattle.split.proofs.Flipped.{flipped-length}
 
 -- ---- whose turn it is
-turn-level : (half : ℕ) (c : List ℕ) → Turn half c → level c ≡ true
-turn-level half c t = let l = t .low in let h = t .high in let a = t .ahead in within-yes (favouring 2 c) (favouring 2 c + 1) (favouring 1 c) (omega arith) (omega arith)
+next-level : (half : ℕ) (c : List ℕ) → Next half c → level c ≡ true
+next-level half c t = let l = t .low in let h = t .high in let a = t .ahead in within-yes (favouring 2 c) (favouring 2 c + 1) (favouring 1 c) (omega arith) (omega arith)
 
 -- a group of an odd number of counts gives one half one more: that of its first count, where either walk settles an even number
 own-larger : (a b : ℕ) → (1 + a + b) % 2 ≡ 1 → a % 2 ≡ 0 → 1 + a / 2 + b / 2 ≡ (a + 1) / 2 + (b + 1) / 2 + 1
@@ -41,10 +41,10 @@ other-two : (h : ℕ) → h ≢ 1 → otherHalf h ≡ 1
 other-two h e = rw (ne-eqb h 1 e)
 
 -- ---- the group of a count
-module _ (i o : List ℕ) {p half : ℕ} {c : List ℕ} (len : Wide c) (t : Turn half c) where
+module _ (i o : List ℕ) {p half : ℕ} {c : List ℕ} (len : Wide c) (t : Next half c) where
   pub group-off : getD c p 0 ≢ 0 → Settles i o p c half c
   unfolding groupSettled
-  group-off z = record { len = len; turn = t; same = rw (ne-eqb (getD c p 0) 0 z) }
+  group-off z = record { len = len; next = t; same = rw (ne-eqb (getD c p 0) 0 z) }
 
   module _ (z : getD c p 0 ≡ 0) (p-lt : p < 528) (group : List ℕ) (size : Wide group) where
     at-first : take 1 (set group 0 p) ≡ p ∷ []
@@ -62,12 +62,12 @@ module _ (i o : List ℕ) {p half : ℕ} {c : List ℕ} (len : Wide c) (t : Turn
     module _ {n : ℕ} {listed d : List ℕ} (first : Walks i o p 1 (set group 0 p) (set c p 1) n listed d)
         {k : ℕ} {all one : List ℕ} (second : Walks o i p n listed d k all one) where
       abbrev two : List ℕ
-      two = turned (take k all) one
+      two = flipped (take k all) one
 
       one-is : one ≡ bothWays i o 1 p c
       one-is = second .first .same ∙ ap (walked o i p 1) (first .first .same)
 
-      begins : turned (take 1 (set group 0 p)) (set c p 1) ≡ set c p 2
+      begins : flipped (take 1 (set group 0 p)) (set c p 1) ≡ set c p 2
       begins = rw (at-first, getD-set-same c p 1 0 (omega arith)) (set-set c p 1 2)
 
       two-is : two ≡ bothWays i o 2 p c
@@ -92,21 +92,21 @@ module _ (i o : List ℕ) {p half : ℕ} {c : List ℕ} (len : Wide c) (t : Turn
       all-is = omega (arith, first .more, second .more)
 
       -- one way round leaves the halves level, or it does not and the other does
-      one-settles : (v : ℕ) → Turn v one → Settles i o p c v one
+      one-settles : (v : ℕ) → Next v one → Settles i o p c v one
       unfolding groupSettled
       one-settles v u =
           record {
             len = second .list .len;
-            turn = u;
-            same = one-is ∙ rw (eq-eqb (getD c p 0) 0 z, ap level (sym one-is) ∙ turn-level v one u);
+            next = u;
+            same = one-is ∙ rw (eq-eqb (getD c p 0) 0 z, ap level (sym one-is) ∙ next-level v one u);
           }
 
-      two-settles : (v : ℕ) → Turn v two → level one ≡ false → Settles i o p c v two
+      two-settles : (v : ℕ) → Next v two → level one ≡ false → Settles i o p c v two
       unfolding groupSettled
       two-settles v u e =
           record {
-            len = turned-length (take k all) one ∙ second .list .len;
-            turn = u;
+            len = flipped-length (take k all) one ∙ second .list .len;
+            next = u;
             same = two-is ∙ rw (eq-eqb (getD c p 0) 0 z, ap level (sym one-is) ∙ e);
           }
 
@@ -133,8 +133,8 @@ module _ (i o : List ℕ) {p half : ℕ} {c : List ℕ} (len : Wide c) (t : Turn
             let x = other-larger (n - 1) (k - n) more (omega (arith, first .more)) in
             one-settles v (record { low = omega arith; high = omega arith; ahead = omega (arith, t .ahead, one-first, one-second) }))
 
-        turned-settles : (v : ℕ) → largerHalf n ≢ half → v ≡ otherHalf half → Settles i o p c v two
-        turned-settles v r g =
+        flipped-settles : (v : ℕ) → largerHalf n ≢ half → v ≡ otherHalf half → Settles i o p c v two
+        flipped-settles v r g =
             let low = t .low in
             let high = t .high in
             byEq (n % 2) 1
@@ -156,11 +156,11 @@ module _ (i o : List ℕ) {p half : ℕ} {c : List ℕ} (len : Wide c) (t : Turn
             (within-below (favouring 2 one) (favouring 2 one + 1) (favouring 1 one) (omega (arith, t .ahead, one-first, one-second))))
 
         pub group-turned : {l v : ℕ} {d : List ℕ} → l ≡ largerHalf n → l ≢ half → v ≡ otherHalf half → d ≡ two → Settles i o p c v d
-        group-turned {l} {v} {d} f r g e = rw e (turned-settles v (rw f at r) g)
+        group-turned {l} {v} {d} f r g e = rw e (flipped-settles v (rw f at r) g)
 
 -- ---- before the first group
-pub turn-start : (c : List ℕ) → c ≡ replicate 528 0 → Turn 1 c
-turn-start c e =
+pub next-start : (c : List ℕ) → c ≡ replicate 528 0 → Next 1 c
+next-start c e =
     record {
       low = omega arith;
       high = omega arith;

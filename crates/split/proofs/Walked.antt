@@ -8,8 +8,8 @@ use lib.ListN.{length, getD, set, take, length-set}
 use Rattle.rules.specs.Schedule.{walk, favouring}
 use Rattle.rules.proofs.Favouring.{settled-less, unsettled-most, favouring-more, favouring-same}
 use Rattle.rules.proofs.Walks.{walk-on, walk-off}
-use Rattle.split.specs.Steps.{Wide, Mates, lookup, walked, WalkedBy, turned, Listed, Walks}
-use Rattle.split.proofs.Turned.{turned-length, listed-not, listed-zero, listed-room, listed-on, listed-turned}
+use Rattle.split.specs.Steps.{Wide, MateTable, lookup, walked, WalkedBy, flipped, Listed, Walks}
+use Rattle.split.proofs.Flipped.{flipped-length, listed-not, listed-zero, listed-room, listed-on, listed-turned}
 
 walk-one : (go back : ℕ → ℕ) (p h q d : ℕ) (c : List ℕ) → q ≡ go p → q < length c → getD c q 0 ≡ 0 → h < 3
     → walk (favouring 0 c + d) go back p h c ≡ walk (favouring 0 (set c q (3 - h)) + d) back go q (3 - h) (set c q (3 - h))
@@ -114,14 +114,14 @@ module _ {near far : List ℕ} {start half : ℕ} {c₀ : List ℕ} {p : ℕ} {c
 
 -- ---- the walk from a count that favours the first half, with its counts listed, and from one that favours the second
 pub record Walking (near far : List ℕ) (start count : ℕ) (listed favoured : List ℕ) (p n : ℕ) (group c : List ℕ) : Type 0 where
-  pub nears : Mates near
-  pub fars : Mates far
+  pub nears : MateTable near
+  pub fars : MateTable far
   pub list : Listed n group c
   pub more : count ≤ n
   pub first : Along near far start 1 favoured p c (n - count)
-  pub second : Along near far start 2 (turned (take count listed) favoured) p (turned (take n group) c) (n - count)
+  pub second : Along near far start 2 (flipped (take count listed) favoured) p (flipped (take n group) c) (n - count)
 
-pub walking-start : (near far : List ℕ) {start count : ℕ} {group c : List ℕ} → start < 528 → Mates near → Mates far → Listed count group c
+pub walking-start : (near far : List ℕ) {start count : ℕ} {group c : List ℕ} → start < 528 → MateTable near → MateTable far → Listed count group c
     → Walking near far start count group c start count group c
 walking-start near far {start} {count} {group} {c} h a b g =
     record {
@@ -130,7 +130,7 @@ walking-start near far {start} {count} {group} {c} h a b g =
       list = g;
       more = omega arith;
       first = along-start near far start 1 c (count - count) (omega arith) (g .len) h;
-      second = along-start near far start 2 (turned (take count group) c) (count - count) (omega arith) (turned-length (take count group) c ∙ g .len) h;
+      second = along-start near far start 2 (flipped (take count group) c) (count - count) (omega arith) (flipped-length (take count group) c ∙ g .len) h;
     }
 
 module _ {near far : List ℕ} {start count : ℕ} {listed favoured : List ℕ} {p n : ℕ} {group c : List ℕ}
@@ -154,7 +154,7 @@ module _ {near far : List ℕ} {start count : ℕ} {listed favoured : List ℕ} 
     first-listed : Listed (n + 1) (set group n q) (set c q 2)
     first-listed = listed-on (w .list) q z walking-at 2 (omega arith)
 
-    first-turned : turned (take (n + 1) (set group n q)) (set c q 2) ≡ set (turned (take n group) c) q 1
+    first-turned : flipped (take (n + 1) (set group n q)) (set c q 2) ≡ set (flipped (take n group) c) q 1
     first-turned = listed-turned (w .list) q z walking-at 2 1 refl
 
     module _ {r : ℕ} (f : r ≡ lookup far q) where
@@ -180,7 +180,7 @@ module _ {near far : List ℕ} {start count : ℕ} {listed favoured : List ℕ} 
         walking-on =
             let s : n + 1 + 1 - count ≡ n - count + 2 = omega (arith, w .more) in
             let y′ = listed-zero first-listed r y in
-            let t : turned (take (n + 1 + 1) (set (set group n q) (n + 1) r)) (set (set c q 2) r 1) ≡ set (set (turned (take n group) c) q 1) r 2 =
+            let t : flipped (take (n + 1 + 1) (set (set group n q) (n + 1) r)) (set (set c q 2) r 1) ≡ set (set (flipped (take n group) c) q 1) r 2 =
             listed-turned first-listed r y walking-at-2 1 2 refl ∙ ap (λ (d : List ℕ). set d r 2) first-turned in
             rw (sym e, sym f) (record {
               nears = w .nears;

@@ -7,12 +7,12 @@ use mathlib.Core.Bool.{Bool, true, false}
 use lib.Dec.{eqb}
 use lib.ListN.{length, getD, set, take}
 use Rattle.rules.specs.Words.{if, bit, upFrom, keep, Every}
-use Rattle.rules.specs.Flows.{Side, inputs, links, outputOf}
+use Rattle.rules.specs.Flows.{End, inputs, links, outputOf}
 use Rattle.rules.specs.Rules.{odd, single}
 use Rattle.rules.specs.Schedule.{partnerIn, outputPartner, walk, favouring, level, favours}
 use Rattle.rules.proofs.Lists.{Rising, Apart}
 use Rattle.planes.specs.Digits.{digit}
-use Rattle.planes.specs.Planes.{digitAt, counts, Mask}
+use Rattle.planes.specs.Planes.{digitAt, countsIn, Mask}
 
 -- ---- positions
 -- A list has room for all positions.
@@ -24,24 +24,24 @@ abbrev pub lookup : List ℕ → ℕ → ℕ
 lookup table p = getD table p 0
 
 -- The input and the link of a position, by two tables.
-abbrev pub tabled : List ℕ → List ℕ → Side → ℕ → ℕ
+abbrev pub tabled : List ℕ → List ℕ → End → ℕ → ℕ
 tabled ins outs inputs = lookup ins
 tabled ins outs links = lookup outs
 
 -- Two tables have inputs and links below 64 for the first n positions.
 pub record Sides (n : ℕ) (ins outs : List ℕ) : Type 0 where
   pub most : n ≤ 528
-  pub low : (s : Side) (p : ℕ) → p < n → tabled ins outs s p < 64
+  pub low : (s : End) (p : ℕ) → p < n → tabled ins outs s p < 64
 
 -- The digits of a word that are 1 are those of outputs, of which there are 16.
 abbrev pub Outputs : ℕ → Type 0
-Outputs shared = (o : ℕ) → digit shared o ≡ 1 → o < 16
+Outputs multi = (o : ℕ) → digit multi o ≡ 1 → o < 16
 
 -- An output without its digit in the word has positions on its first link alone.
-pub record Shared (n shared : ℕ) (outs : List ℕ) : Type 0 where
-  pub few : Outputs shared
+pub record MultiLink (n multi : ℕ) (outs : List ℕ) : Type 0 where
+  pub few : Outputs multi
   pub low : (p : ℕ) → p < n → lookup outs p < 64
-  pub others : (p : ℕ) → p < n → digit shared (outputOf (lookup outs p)) ≡ 0 → lookup outs p % 4 ≡ 0
+  pub others : (p : ℕ) → p < n → digit multi (outputOf (lookup outs p)) ≡ 0 → lookup outs p % 4 ≡ 0
 
 -- The first k of a list are positions; and they rise.
 pub record Positions (list : List ℕ) (k : ℕ) : Type 0 where
@@ -54,7 +54,7 @@ pub record Odds (odds : List ℕ) (k : ℕ) : Type 0 where
   pub rising : Rising 0 (take k odds)
 
 -- A table has a position for each position.
-pub record Mates (mates : List ℕ) : Type 0 where
+pub record MateTable (mates : List ℕ) : Type 0 where
   pub len : Wide mates
   pub low : (p : ℕ) → lookup mates p < 528
 
@@ -72,47 +72,47 @@ abbrev pub mateAmong : List ℕ → List ℕ → ℕ → ℕ
 mateAmong table l p = partnerIn (thoseAt table (portIn table p) l) p
 
 -- h waits among those of a list, or none does.
-abbrev pub Waits : Bool → ℕ → List ℕ → Type 0
-Waits true h l = single l ≡ h ∷ []
-Waits false h l = single l ≡ []
+abbrev pub Pends : Bool → ℕ → List ℕ → Type 0
+Pends true h l = single l ≡ h ∷ []
+Pends false h l = single l ≡ []
 
 -- One waits at port x: a word has a digit for each port.
-abbrev pub waitsAt : ℕ → ℕ → Bool
-waitsAt waits x = eqb (digit waits x) 1
+abbrev pub pendsAt : ℕ → ℕ → Bool
+pendsAt pending x = eqb (digit pending x) 1
 
 -- Nobody is held at any of 64 ports; whoever is held is a position; and what waits at each after the first k of a list.
-pub record Free (held : List ℕ) : Type 0 where
-  pub helds : length held ≡ 64
-  pub low : (x : ℕ) → x < 64 → getD held x 0 ≡ 0
+pub record Free (latest : List ℕ) : Type 0 where
+  pub ports-64 : length latest ≡ 64
+  pub low : (x : ℕ) → x < 64 → getD latest x 0 ≡ 0
 
-pub record Waiting (held : List ℕ) : Type 0 where
-  pub helds : length held ≡ 64
-  pub low : (x : ℕ) → x < 64 → getD held x 0 < 528
+pub record Latest (latest : List ℕ) : Type 0 where
+  pub ports-64 : length latest ≡ 64
+  pub low : (x : ℕ) → x < 64 → getD latest x 0 < 528
 
-pub record Held (table odds : List ℕ) (k : ℕ) (held : List ℕ) (waits : ℕ) : Type 0 where
-  pub waiting : Waiting held
-  pub ports : (x : ℕ) → x < 64 → Waits (waitsAt waits x) (getD held x 0) (thoseAt table x (take k odds))
+pub record PendingBy (table odds : List ℕ) (k : ℕ) (latest : List ℕ) (pending : ℕ) : Type 0 where
+  pub known : Latest latest
+  pub ports : (x : ℕ) → x < 64 → Pends (pendsAt pending x) (getD latest x 0) (thoseAt table x (take k odds))
 
 -- The mates have for each of the first k of a list its partner among them.
-pub record Linked (table odds : List ℕ) (k : ℕ) (mates : List ℕ) : Type 0 where
-  pub mates-low : Mates mates
+pub record AllMated (table odds : List ℕ) (k : ℕ) (mates : List ℕ) : Type 0 where
+  pub mates-low : MateTable mates
   pub same : Every (λ p. lookup mates p ≡ mateAmong table (take k odds) p) (take k odds)
 
 -- Those that wait at n ports from x on, in their order.
-abbrev pub heldAt : List ℕ → ℕ → ℕ → List ℕ
-heldAt held waits x = if (waitsAt waits x) (getD held x 0 ∷ []) []
+abbrev pub pendingAt : List ℕ → ℕ → ℕ → List ℕ
+pendingAt latest pending x = if (pendsAt pending x) (getD latest x 0 ∷ []) []
 
-abbrev pub heldFrom : List ℕ → ℕ → ℕ → ℕ → List ℕ
-heldFrom held waits x zero = []
-heldFrom held waits x (suc n) = heldAt held waits x ++ heldFrom held waits (suc x) n
+abbrev pub pendingFrom : List ℕ → ℕ → ℕ → ℕ → List ℕ
+pendingFrom latest pending x zero = []
+pendingFrom latest pending x (suc n) = pendingAt latest pending x ++ pendingFrom latest pending (suc x) n
 
 -- Two are linked both ways, if the one comes.
-pub record LinkedBoth (comes : Bool) (p q : ℕ) (before mates : List ℕ) : Type 0 where
+pub record MatedBoth (comes : Bool) (p q : ℕ) (before mates : List ℕ) : Type 0 where
   pub same : mates ≡ if comes (set (set before p q) q p) before
 
 -- Those of a list without one twice have their partners in it, and all others what they had.
 pub record Joins (l before mates : List ℕ) : Type 0 where
-  pub mates-low : Mates mates
+  pub mates-low : MateTable mates
   pub mated : Apart l → Every (λ r. lookup mates r ≡ partnerIn l r) l
   pub kept : Apart l → (r : ℕ) → Every (λ p. p ≢ r) l → lookup mates r ≡ lookup before r
 
@@ -121,9 +121,9 @@ abbrev pub OddsOf : List ℕ → ℕ → List ℕ → Type 0
 OddsOf odds k m = take k odds ≡ keep (odd m) (upFrom 0 (length m))
 
 -- The mates have for each of them its partner at its output, where only the outputs of a word have positions on several links.
-pub record LinkedOut (shared : ℕ) (table odds : List ℕ) (k : ℕ) (mates : List ℕ) : Type 0 where
-  pub mates-low : Mates mates
-  pub same : (m : List ℕ) → OddsOf odds k m → Shared (length m) shared table → (p : ℕ) → odd m p ≡ true
+pub record MatedOut (multi : ℕ) (table odds : List ℕ) (k : ℕ) (mates : List ℕ) : Type 0 where
+  pub mates-low : MateTable mates
+  pub same : (m : List ℕ) → OddsOf odds k m → MultiLink (length m) multi table → (p : ℕ) → odd m p ≡ true
       → lookup mates p ≡ outputPartner (portIn table) m p
 
 -- ---- groups
@@ -141,9 +141,9 @@ pub record WalkedBy (near far : List ℕ) (start half : ℕ) (c : List ℕ) (ste
 abbrev pub otherHalf : ℕ → ℕ
 otherHalf h = if (eqb h 1) 2 1
 
-abbrev pub turned : List ℕ → List ℕ → List ℕ
-turned [] c = c
-turned (q ∷ l) c = turned l (set c q (otherHalf (getD c q 0)))
+abbrev pub flipped : List ℕ → List ℕ → List ℕ
+flipped [] c = c
+flipped (q ∷ l) c = flipped l (set c q (otherHalf (getD c q 0)))
 
 -- The first n of a list are settled counts, and it has room for those that are not settled.
 pub record Listed (n : ℕ) (group c : List ℕ) : Type 0 where
@@ -158,7 +158,7 @@ pub record Walks (near far : List ℕ) (start count : ℕ) (listed favoured : Li
   pub list : Listed n group c
   pub more : count ≤ n
   pub first : WalkedBy near far start 1 favoured (n - count) c
-  pub second : WalkedBy near far start 2 (turned (take count listed) favoured) (n - count) (turned (take n group) c)
+  pub second : WalkedBy near far start 2 (flipped (take count listed) favoured) (n - count) (flipped (take n group) c)
 
 -- The group of p settled by walks both ways, p favouring half h.
 abbrev pub bothWays : List ℕ → List ℕ → ℕ → ℕ → List ℕ → List ℕ
@@ -174,7 +174,7 @@ abbrev pub largerHalf : ℕ → ℕ
 largerHalf n = if (eqb (n % 2) 1) 1 2
 
 -- It is the turn of the first half where as many counts favour the two, and of the second where the first has one more.
-pub record Turn (half : ℕ) (c : List ℕ) : Type 0 where
+pub record Next (half : ℕ) (c : List ℕ) : Type 0 where
   pub low : 1 ≤ half
   pub high : half ≤ 2
   pub ahead : favouring 1 c + 1 ≡ favouring 2 c + half
@@ -182,7 +182,7 @@ pub record Turn (half : ℕ) (c : List ℕ) : Type 0 where
 -- With the group of p settled c becomes d, and then it is the turn of a half.
 pub record Settles (i o : List ℕ) (p : ℕ) (c : List ℕ) (half : ℕ) (d : List ℕ) : Type 0 where
   pub len : Wide d
-  pub turn : Turn half d
+  pub next : Next half d
   pub same : d ≡ groupSettled i o p c
 
 -- The groups of those of a list, in their order.
@@ -199,11 +199,11 @@ pub record SettledBy (i o odds : List ℕ) (k : ℕ) (c d : List ℕ) : Type 0 w
 -- Four lists, whatever they have, with room for what a split lists in them.
 pub record Scratch (odds i o group : List ℕ) : Type 0 where
   pub listed : Wide odds
-  pub at-inputs : Mates i
-  pub at-outputs : Mates o
+  pub at-inputs : MateTable i
+  pub at-outputs : MateTable o
   pub grouped : Wide group
 
 -- A mask has the odd counts that favour half h by the rules, over the ports that two tables have, however many planes are read.
 pub record Favours (h n : ℕ) (planes ins outs mask : List ℕ) : Type 0 where
   pub odds : Mask n planes mask
-  pub has : (m p : ℕ) → p < n → digitAt mask p ≡ bit (eqb (getD (favours (tabled ins outs) (counts (suc m) planes n)) p 0) h)
+  pub has : (m p : ℕ) → p < n → digitAt mask p ≡ bit (eqb (getD (favours (tabled ins outs) (countsIn (suc m) planes n)) p 0) h)

@@ -3,7 +3,7 @@ use widths::number;
 ghost use mathlib.Core.Path.{_≡_};
 ghost use Prim.Native.Nat.{_<_};
 ghost use lib.ListN.{take, replicate};
-ghost use Rattle.split.specs.Steps.{Wide, Positions, Odds, Mates, Listed, Walks, Turn, Settles, SettledBy, otherHalf, turned, largerHalf};
+ghost use Rattle.split.specs.Steps.{Wide, Positions, Odds, MateTable, Listed, Walks, Next, Settles, SettledBy, otherHalf, flipped, largerHalf};
 
 // The half that a count does not favour.
 fn other_half(half: u8) -> u8
@@ -22,7 +22,7 @@ fn walk(
     group: &mut [u16; 528],
     favoured: &mut [u8; 528],
 ) -> usize
-    requires { ⌜ (start < 528) × Mates (now near) × Mates (now far) × Listed count (now group) (now favoured) ⌝ }
+    requires { ⌜ (start < 528) × MateTable (now near) × MateTable (now far) × Listed count (now group) (now favoured) ⌝ }
     ensures { λ r. ⌜ Walks (now (near .entry)) (now (far .entry)) start count (now (group .entry)) (now (favoured .entry)) r (now (group .exit)) (now (favoured .exit)) ⌝ }
 {
     let mut n = count;
@@ -48,9 +48,9 @@ fn walk(
 }
 
 // Turns the counts of a list round: each favours the half that it did not.
-fn turn_round(group: &[u16; 528], n: usize, favoured: &mut [u8; 528])
+fn flip_group(group: &[u16; 528], n: usize, favoured: &mut [u8; 528])
     requires { ⌜ Positions (now group) n × Wide (now favoured) ⌝ }
-    ensures { λ _. ⌜ Wide (now (favoured .exit)) × (now (favoured .exit) ≡ turned (take n (now (group .entry))) (now (favoured .entry))) ⌝ }
+    ensures { λ _. ⌜ Wide (now (favoured .exit)) × (now (favoured .exit) ≡ flipped (take n (now (group .entry))) (now (favoured .entry))) ⌝ }
 {
     let mut i: usize = 0;
     while i < n {
@@ -72,31 +72,31 @@ fn larger_half(count: usize) -> u8
 // goes to `turn`; the answer is whose turn it is then.
 fn settle_group(
     p: usize,
-    turn: u8,
+    next: u8,
     in_mates: &[u16; 528],
     out_mates: &[u16; 528],
     group: &mut [u16; 528],
     favoured: &mut [u8; 528],
 ) -> u8
-    requires { ⌜ (p < 528) × Mates (now «in_mates») × Mates (now «out_mates») × Wide (now group) × Wide (now favoured)
-        × Turn turn (now favoured) ⌝ }
+    requires { ⌜ (p < 528) × MateTable (now «in_mates») × MateTable (now «out_mates») × Wide (now group) × Wide (now favoured)
+        × Next next (now favoured) ⌝ }
     ensures { λ r. ⌜ Wide (now (group .exit)) × Settles (now («in_mates» .entry)) (now («out_mates» .entry)) p (now (favoured .entry)) r (now (favoured .exit)) ⌝ }
 {
     if favoured[p] != 0 {
-        return turn;
+        return next;
     }
     favoured[p] = 1;
     group[0] = p as u16;
     let by_inputs = walk(p, in_mates, out_mates, 1, group, favoured);
     let n = walk(p, out_mates, in_mates, by_inputs, group, favoured);
     if n % 2 == 0 {
-        return turn;
+        return next;
     }
-    if larger_half(by_inputs) == turn {
-        return other_half(turn);
+    if larger_half(by_inputs) == next {
+        return other_half(next);
     }
-    turn_round(group, n, favoured);
-    other_half(turn)
+    flip_group(group, n, favoured);
+    other_half(next)
 }
 
 // Only the odd counts are scanned; the first larger share goes to the first half.
@@ -108,16 +108,16 @@ pub(crate) fn settle(
     group: &mut [u16; 528],
     favoured: &mut [u8; 528],
 )
-    requires { ⌜ Odds (now odds) k × Mates (now «in_mates») × Mates (now «out_mates») × Wide (now group)
+    requires { ⌜ Odds (now odds) k × MateTable (now «in_mates») × MateTable (now «out_mates») × Wide (now group)
         × (now favoured ≡ replicate 528 0) ⌝ }
     ensures { λ _. ⌜ Wide (now (group .exit))
         × SettledBy (now («in_mates» .entry)) (now («out_mates» .entry)) (now (odds .entry)) k (now (favoured .entry)) (now (favoured .exit)) ⌝ }
 {
-    let mut turn: u8 = 1;
+    let mut next: u8 = 1;
     let mut i: usize = 0;
     while i < k {
         let p = number(odds[i]);
-        turn = settle_group(p, turn, in_mates, out_mates, group, favoured);
+        next = settle_group(p, next, in_mates, out_mates, group, favoured);
         i += 1;
     }
 }

@@ -3,14 +3,14 @@ mod groups;
 mod partners;
 
 use groups::settle;
-use partners::link_inputs;
-use partners::link_outputs;
+use partners::mate_inputs;
+use partners::mate_outputs;
 use planes::gather::gather;
 use planes::mark::mark;
 ghost use mathlib.Core.Path.{_≡_};
 ghost use lib.ListN.{length};
 ghost use Rattle.planes.specs.Planes.{Ends, oddsIn};
-ghost use Rattle.split.specs.Steps.{Sides, Shared, Scratch, Favours};
+ghost use Rattle.split.specs.Steps.{Sides, MultiLink, Scratch, Favours};
 
 // The split knows of inputs and links by the tables alone, and by a word which outputs have more than their first link. Its answer is
 // how many counts were odd, and so settled; the mask has those that favour the first half. The lists are lent, for clearing them in
@@ -20,14 +20,14 @@ pub fn split(
     n: usize,
     ins: &[u8; 528],
     outs: &[u8; 528],
-    shared: u64,
+    multi_link: u64,
     odds: &mut [u16; 528],
     in_mates: &mut [u16; 528],
     out_mates: &mut [u16; 528],
     group: &mut [u16; 528],
     mask: &mut [u64; 9],
 ) -> usize
-    requires { ⌜ Ends n (now planes) × Sides n (now ins) (now outs) × Shared n shared (now outs)
+    requires { ⌜ Ends n (now planes) × Sides n (now ins) (now outs) × MultiLink n «multi_link» (now outs)
         × (length (now mask) ≡ 9) × Scratch (now odds) (now «in_mates») (now «out_mates») (now group) ⌝ }
     ensures { λ r. ⌜ (r ≡ length (oddsIn n (now (planes .entry))))
         × Favours 1 n (now (planes .entry)) (now (ins .entry)) (now (outs .entry)) (now (mask .exit))
@@ -35,8 +35,8 @@ pub fn split(
 {
     let mut favoured = [0u8; 528];
     let k = gather(planes, n, odds);
-    link_inputs(odds, k, ins, in_mates);
-    link_outputs(odds, k, outs, shared, out_mates);
+    mate_inputs(odds, k, ins, in_mates);
+    mate_outputs(odds, k, outs, multi_link, out_mates);
     settle(odds, k, in_mates, out_mates, group, &mut favoured);
     mark(planes, n, &favoured, mask);
     k

@@ -1,14 +1,14 @@
 // Partners: the odd counts of an input, or of a link, first with second, third with fourth, and so on; and of those that the links of an
 // output leave single, by rising link, the same.
 use planes::digit::has_digit;
-use planes::digit::turn_digit;
+use planes::digit::flip_digit;
 use widths::byte;
 use widths::number;
 ghost use mathlib.Core.Path.{_≡_};
 ghost use mathlib.Core.Bool.{not};
 ghost use Prim.Native.Nat.{_*_, _%_, _<_};
 ghost use Rattle.rules.specs.Words.{if};
-ghost use Rattle.split.specs.Steps.{Outputs, Odds, Mates, Free, Held, Linked, heldFrom, Waiting, LinkedBoth, Joins, LinkedOut};
+ghost use Rattle.split.specs.Steps.{Outputs, Odds, MateTable, Free, PendingBy, AllMated, pendingFrom, Latest, MatedBoth, Joins, MatedOut};
 
 // A port or a link is an index of 64 without a test.
 fn port_index(x: u8) -> usize
@@ -18,62 +18,62 @@ fn port_index(x: u8) -> usize
 }
 
 // The one that waits at the port; where none does, a count is its own until another comes.
-fn mate(waits: bool, held: u16, own: u16) -> u16
-    ensures { λ r. ⌜ r ≡ if waits held own ⌝ }
+fn pending_or_own(pending: bool, latest: u16, own: u16) -> u16
+    ensures { λ r. ⌜ r ≡ if pending latest own ⌝ }
 {
-    if waits { held } else { own }
+    if pending { latest } else { own }
 }
 
 // Links each both ways with no branch that depends on the counts; one that stays single is its own partner, and is held. The answer has
 // a digit for each port or link at which one waits.
-fn link(
+fn mate_all(
     odds: &[u16; 528],
     k: usize,
     table: &[u8; 528],
     mates: &mut [u16; 528],
-    held: &mut [u16; 64],
+    latest: &mut [u16; 64],
 ) -> u64
-    requires { ⌜ Odds (now odds) k × Mates (now mates) × Free (now held) ⌝ }
-    ensures { λ r. ⌜ Linked (now (table .entry)) (now (odds .entry)) k (now (mates .exit))
-        × Held (now (table .entry)) (now (odds .entry)) k (now (held .exit)) r ⌝ }
+    requires { ⌜ Odds (now odds) k × MateTable (now mates) × Free (now latest) ⌝ }
+    ensures { λ r. ⌜ AllMated (now (table .entry)) (now (odds .entry)) k (now (mates .exit))
+        × PendingBy (now (table .entry)) (now (odds .entry)) k (now (latest .exit)) r ⌝ }
 {
-    let mut waits: u64 = 0;
+    let mut pending: u64 = 0;
     let mut i: usize = 0;
     while i < k {
         let p = odds[i];
         let own = number(p);
         let port = port_index(table[own]);
-        let q = mate(has_digit(waits, port), held[port], p);
+        let q = pending_or_own(has_digit(pending, port), latest[port], p);
         let other = number(q);
         mates[own] = q;
         mates[other] = p;
-        held[port] = p;
-        waits = turn_digit(waits, port);
+        latest[port] = p;
+        pending = flip_digit(pending, port);
         i += 1;
     }
-    waits
+    pending
 }
 
 // At each input.
-pub(crate) fn link_inputs(odds: &[u16; 528], k: usize, ins: &[u8; 528], mates: &mut [u16; 528])
-    requires { ⌜ Odds (now odds) k × Mates (now mates) ⌝ }
-    ensures { λ _. ⌜ Linked (now (ins .entry)) (now (odds .entry)) k (now (mates .exit)) ⌝ }
+pub(crate) fn mate_inputs(odds: &[u16; 528], k: usize, ins: &[u8; 528], mates: &mut [u16; 528])
+    requires { ⌜ Odds (now odds) k × MateTable (now mates) ⌝ }
+    ensures { λ _. ⌜ AllMated (now (ins .entry)) (now (odds .entry)) k (now (mates .exit)) ⌝ }
 {
-    let mut held = [0u16; 64];
-    link(odds, k, ins, mates, &mut held);
+    let mut latest = [0u16; 64];
+    mate_all(odds, k, ins, mates, &mut latest);
 }
 
 // Whether one waits after one more, if that comes.
-fn waits_after(waits: bool, comes: bool) -> bool
-    ensures { λ r. ⌜ r ≡ if comes (not waits) waits ⌝ }
+fn pending_after(pending: bool, comes: bool) -> bool
+    ensures { λ r. ⌜ r ≡ if comes (not pending) pending ⌝ }
 {
-    if comes { !waits } else { waits }
+    if comes { !pending } else { pending }
 }
 
 // Links two both ways, if the one comes.
-fn link_both(comes: bool, p: u16, q: u16, mates: &mut [u16; 528])
-    requires { ⌜ (p < 528) × (q < 528) × Mates (now mates) ⌝ }
-    ensures { λ _. ⌜ LinkedBoth comes p q (now (mates .entry)) (now (mates .exit)) ⌝ }
+fn mate_both(comes: bool, p: u16, q: u16, mates: &mut [u16; 528])
+    requires { ⌜ (p < 528) × (q < 528) × MateTable (now mates) ⌝ }
+    ensures { λ _. ⌜ MatedBoth comes p q (now (mates .entry)) (now (mates .exit)) ⌝ }
 {
     if comes {
         mates[number(p)] = q;
@@ -82,41 +82,41 @@ fn link_both(comes: bool, p: u16, q: u16, mates: &mut [u16; 528])
 }
 
 // Those that the links of an output leave single, by rising link.
-fn link_singles(held: &[u16; 64], waits: u64, output: usize, mates: &mut [u16; 528])
-    requires { ⌜ (output < 16) × Waiting (now held) × Mates (now mates) ⌝ }
-    ensures { λ _. ⌜ Joins (heldFrom (now (held .entry)) waits (output * 4) 4) (now (mates .entry)) (now (mates .exit)) ⌝ }
+fn mate_singles(latest: &[u16; 64], pending: u64, output: usize, mates: &mut [u16; 528])
+    requires { ⌜ (output < 16) × Latest (now latest) × MateTable (now mates) ⌝ }
+    ensures { λ _. ⌜ Joins (pendingFrom (now (latest .entry)) pending (output * 4) 4) (now (mates .entry)) (now (mates .exit)) ⌝ }
 {
     let mut one: u16 = 0;
-    let mut waiting = false;
+    let mut alone = false;
     let mut l: usize = 0;
     while l < 4 {
         let x = output * 4 + l;
-        let p = held[x];
-        let comes = has_digit(waits, x);
-        link_both(comes, p, mate(waiting, one, p), mates);
-        one = mate(comes, p, one);
-        waiting = waits_after(waiting, comes);
+        let p = latest[x];
+        let comes = has_digit(pending, x);
+        mate_both(comes, p, pending_or_own(alone, one, p), mates);
+        one = pending_or_own(comes, p, one);
+        alone = pending_after(alone, comes);
         l += 1;
     }
 }
 
 // At each link, and then at each output that has others than its first: digit o of the word is 1 for output o.
-pub(crate) fn link_outputs(
+pub(crate) fn mate_outputs(
     odds: &[u16; 528],
     k: usize,
     outs: &[u8; 528],
-    shared: u64,
+    multi_link: u64,
     mates: &mut [u16; 528],
 )
-    requires { ⌜ Odds (now odds) k × Outputs shared × Mates (now mates) ⌝ }
-    ensures { λ _. ⌜ LinkedOut shared (now (outs .entry)) (now (odds .entry)) k (now (mates .exit)) ⌝ }
+    requires { ⌜ Odds (now odds) k × Outputs «multi_link» × MateTable (now mates) ⌝ }
+    ensures { λ _. ⌜ MatedOut «multi_link» (now (outs .entry)) (now (odds .entry)) k (now (mates .exit)) ⌝ }
 {
-    let mut held = [0u16; 64];
-    let waits = link(odds, k, outs, mates, &mut held);
-    let mut rest = shared;
+    let mut latest = [0u16; 64];
+    let pending = mate_all(odds, k, outs, mates, &mut latest);
+    let mut rest = multi_link;
     while rest != 0 {
         let o = u64::trailing_zeros(rest) as usize;
-        link_singles(&held, waits, o, mates);
+        mate_singles(&latest, pending, o, mates);
         rest = rest & (rest - 1);
     }
 }

@@ -14,15 +14,15 @@ use lib.ListN.{length, getD, set, take, drop, replicate, length-set, length-repl
 use lib.Seq.{getD-set-same, getD-set-other, getD-take, getD-drop, set-out, ext-getD}
 use borrow.Author.Tests.{eq-eqb, ne-eqb, lt-ltb, le-ltb}
 use Rattle.rules.specs.Words.{bit, within, sumTo, Within}
-use Rattle.rules.specs.Flows.{flows, numberOf, inputs, links, outputOf, portOf, Class, flow, input, output, link, total}
+use Rattle.rules.specs.Flows.{flows, numberOf, inputs, links, outputOf, portOf, Class, flow, portOn, input, output, link, total}
 use Rattle.rules.specs.Frames.{counts, cells, runOf}
 use Rattle.rules.proofs.Cases.{byBool, byEq, byLt, within-yes, within-above, within-true, is-yes, is-no}
 use Rattle.rules.proofs.Sums.{sum-none, sum-more, sum-most, sum-zero}
 use Rattle.rules.proofs.Lists.{zero-at}
 use Rattle.rules.proofs.Flows.{map-length, map-at, output-low, by-entry, idle-counts, own-counts, flow-counts}
-use Rattle.calls.proofs.Inspected.{In}
+use Rattle.calls.proofs.Inspected.{InList}
 use Rattle.rules.proofs.Cells.{cells-slot, cells-none, cells-run, run-none, run-length}
-use Rattle.tally.specs.Tally.{place, Vacant, Switch, Readable, RightAt, Room, Adds, ofEntry, partly, cellsOf, ofSlot, numberAt, tallyOf}
+use Rattle.tally.specs.Tally.{place, Vacant, Switch, RightFrame, RightAt, Room, Adds, ofEntry, partly, cellsOf, ofSlot, numberAt, tallyOf}
 
 -- ---- one more at a place
 abbrev pub raised : List ℕ → ℕ → List ℕ
@@ -38,8 +38,8 @@ raised-at l x y h =
 idle : (c : Class) (list : List ℕ) (i : ℕ) → ofEntry list i 0 c ≡ 0
 unfolding ofEntry
 idle (flow f) list i = idle-counts list (flow f) i
-idle (input j) list i = idle-counts list (input j) i
-idle (output o) list i = idle-counts list (output o) i
+idle (portOn input j) list i = idle-counts list (portOn input j) i
+idle (portOn output o) list i = idle-counts list (portOn output o) i
 idle (link x) list i = idle-counts list (link x) i
 idle total list i = refl
 
@@ -90,7 +90,7 @@ module _ (ports i f x : ℕ) (list : List ℕ) (sw : Switch ports list) (hi : i 
   abbrev added : ℕ → ℕ
   added y = bit (eqb y f) + bit (eqb y (512 + i)) + bit (eqb y (528 + outputOf x)) + bit (eqb y (544 + x))
 
-  adds-at : (c : Class) → In ports list c → added (place c) ≡ ofEntry list i (suc f) c
+  adds-at : (c : Class) → InList ports list c → added (place c) ≡ ofEntry list i (suc f) c
   unfolding ofEntry
   adds-at (flow g) of =
       let w = sw .few in
@@ -101,7 +101,7 @@ module _ (ports i f x : ℕ) (list : List ℕ) (sw : Switch ports list) (hi : i 
       byEq g f
       (λ e. omega (arith, k, is-yes g f e, is-yes (suc f) (suc g) (omega arith)))
       (λ n. omega (arith, k, is-no g f n, is-no (suc f) (suc g) (λ z. n (omega arith))))
-  adds-at (input j) of =
+  adds-at (portOn input j) of =
       let w = sw .few in
       let h = sw .high in
       let a = is-no (512 + j) f (omega arith) in
@@ -110,14 +110,14 @@ module _ (ports i f x : ℕ) (list : List ℕ) (sw : Switch ports list) (hi : i 
       byEq i j
       (λ e. rw (eq-eqb i j e, ne-eqb (suc f) 0 (omega arith)) (let z = is-yes (512 + j) (512 + i) (omega arith) in omega arith))
       (λ n. rw (ne-eqb i j n) (let z = is-no (512 + j) (512 + i) (λ k. n (omega arith)) in omega arith))
-  adds-at (output u) of =
+  adds-at (portOn output u) of =
       let w = sw .few in
       let h = sw .high in
       let o = outputOf x in
       let a = is-no (528 + u) f (omega arith) in
       let b = is-no (528 + u) (512 + i) (omega arith) in
       let d = is-no (528 + u) (544 + x) (omega arith) in
-      let k = own-counts list (output u) i f hf pi ∙ ap (λ z. bit (eqb (outputOf z) u)) px in
+      let k = own-counts list (portOn output u) i f hf pi ∙ ap (λ z. bit (eqb (outputOf z) u)) px in
       byEq o u
       (λ e. omega (arith, k, is-yes o u e, is-yes (528 + u) (528 + o) (omega arith)))
       (λ n. omega (arith, k, is-no o u n, is-no (528 + u) (528 + o) (λ z. n (omega arith))))
@@ -182,8 +182,8 @@ module _ (ports i f x : ℕ) (list : List ℕ) (sw : Switch ports list) (hi : i 
     counted-none : (y : ℕ) → Vacant ports list y → getD counted y 0 ≡ getD old y 0
     counted-none y v =
         let a = is-no y f (v (flow f) hf) in
-        let b = is-no y (512 + i) (v (input i) hi) in
-        let c = is-no y (528 + outputOf x) (v (output (outputOf x)) (output-low ports x hx)) in
+        let b = is-no y (512 + i) (v (portOn input i) hi) in
+        let c = is-no y (528 + outputOf x) (v (portOn output (outputOf x)) (output-low ports x hx)) in
         let d = is-no y (544 + x) (v (link x) hx) in
         omega (arith, counted-at y)
 
@@ -274,10 +274,10 @@ cells-most : (list slot : List ℕ) (n : ℕ) → cellsOf list slot n ≤ n
 unfolding cellsOf
 cells-most list slot n = let s = sum-most n 1 (λ i. bit (counts total list i (getD slot i 0))) (λ i h. byBool (counts total list i (getD slot i 0)) (λ e. rw e (omega arith)) (λ e. rw e (omega arith))) in omega arith
 
-pub cells-fit : (ports i n : ℕ) (list slot : List ℕ) → Readable ports 1 list slot → i < length slot → n ≡ cellsOf list slot i → (r : ℕ) → r ≤ 1 → Fits w16 (n + r)
+pub cells-fit : (ports i n : ℕ) (list slot : List ℕ) → RightFrame ports 1 list slot → i < length slot → n ≡ cellsOf list slot i → (r : ℕ) → r ≤ 1 → Fits w16 (n + r)
 cells-fit ports i n list slot d h e r l = record { fits = (let s = d .size in let w = d .switch .high in omega (arith, cells-most list slot i)) }
 
-module _ (ports i n : ℕ) (list slot old mid : List ℕ) (a : Adds ports list i (partly list slot i) old mid) (r : Readable ports 1 list slot) (e : n ≡ cellsOf list slot i) where
+module _ (ports i n : ℕ) (list slot old mid : List ℕ) (a : Adds ports list i (partly list slot i) old mid) (r : RightFrame ports 1 list slot) (e : n ≡ cellsOf list slot i) where
   total-same : getD mid 608 0 ≡ getD old 608 0
   unfolding partly ofEntry
   total-same = let z = sum-zero i (λ j. 0) (λ j h. refl) in omega (arith, a .each total tt)
@@ -299,15 +299,15 @@ module _ (ports i n : ℕ) (list slot old mid : List ℕ) (a : Adds ports list i
     slot-cells : (c : Class) → cells c ports list slot ≡ sumTo ports (λ j. bit (counts c list j (getD slot j 0)))
     slot-cells c = cells-slot ports list c slot (let s = r .size in s ∙ omega arith)
 
-    port-each : (c : Class) → In ports list c → place c ≢ 608 → cells c ports list slot ≡ partly list slot ports c
+    port-each : (c : Class) → InList ports list c → place c ≢ 608 → cells c ports list slot ≡ partly list slot ports c
         → getD (set mid 608 (getD mid 608 0 + n)) (place c) 0 ≡ getD old (place c) 0 + cells c ports list slot
     port-each c of d k = omega (arith, at-other (place c) d, a .each c of, ap (λ z. partly list slot z c) all)
 
-    slot-each : (c : Class) → In ports list c → getD (set mid 608 (getD mid 608 0 + n)) (place c) 0 ≡ getD old (place c) 0 + ofSlot ports list slot c
+    slot-each : (c : Class) → InList ports list c → getD (set mid 608 (getD mid 608 0 + n)) (place c) 0 ≡ getD old (place c) 0 + ofSlot ports list slot c
     unfolding partly ofEntry cellsOf ofSlot
     slot-each (flow f) of = port-each (flow f) of (let h = r .switch .few in omega arith) (slot-cells (flow f))
-    slot-each (input j) of = port-each (input j) of (let h = r .switch .high in omega arith) (slot-cells (input j))
-    slot-each (output o) of = port-each (output o) of (let h = r .switch .high in omega arith) (slot-cells (output o))
+    slot-each (portOn input j) of = port-each (portOn input j) of (let h = r .switch .high in omega arith) (slot-cells (portOn input j))
+    slot-each (portOn output o) of = port-each (portOn output o) of (let h = r .switch .high in omega arith) (slot-cells (portOn output o))
     slot-each (link x) of = port-each (link x) of (let h = r .switch .high in omega arith) (slot-cells (link x))
     slot-each total of = omega (arith, at-total, total-same, ap (cellsOf list slot) all, slot-cells total)
 
@@ -323,13 +323,13 @@ module _ (ports i n : ℕ) (list slot old mid : List ℕ) (a : Adds ports list i
         }
 
 -- the room for one entry more
-pub slot-room : (ports i : ℕ) (list slot old mid : List ℕ) → Adds ports list i (partly list slot i) old mid → Room 65000 old → Readable ports 1 list slot → i < length slot → Room 65531 mid
+pub slot-room : (ports i : ℕ) (list slot old mid : List ℕ) → Adds ports list i (partly list slot i) old mid → Room 65000 old → RightFrame ports 1 list slot → i < length slot → Room 65531 mid
 slot-room ports i list slot old mid a r d h =
     let s = d .size in
     let w = d .switch .high in
     record { size = a .size; each = λ x. omega (arith, a .bound x, r .each x) }
 
-pub entry-right : {ports i e : ℕ} {list slot : List ℕ} → Readable ports 1 list slot → i < length slot → e ≡ getD slot i 0 → RightAt ports list i e
+pub entry-right : {ports i e : ℕ} {list slot : List ℕ} → RightFrame ports 1 list slot → i < length slot → e ≡ getD slot i 0 → RightAt ports list i e
 entry-right {ports} {i} {e} {list} {slot} d h z =
     let l : i < ports = (let s = d .size in omega arith) in
     record { switch = d .switch; at = l; is = rw z (rw (mod-eq-of-lt l) at (d .each-right i h)) }
@@ -341,7 +341,7 @@ one-fits x tally r = record { fits = omega (arith, r .each x) }
 -- a tally has the cells of each class, and 0 at the other places
 pub record Tally (ports : ℕ) (list entries tally : List ℕ) : Type 0 where
   pub size : length tally ≡ 609
-  pub each : (c : Class) → In ports list c → getD tally (place c) 0 ≡ cells c ports list entries
+  pub each : (c : Class) → InList ports list c → getD tally (place c) 0 ≡ cells c ports list entries
   pub none : (x : ℕ) → Vacant ports list x → getD tally x 0 ≡ 0
   pub bound : (x : ℕ) → getD tally x 0 ≤ length entries
 
@@ -355,7 +355,7 @@ tally-start ports start list frame tally e =
       bound = λ x. omega (arith, zero-at 609 x);
     })
 
-module _ (ports slots start len t : ℕ) (list frame : List ℕ) (r : Readable ports slots list frame) (h : start + len ≤ slots) (l : t < len) where
+module _ (ports slots start len t : ℕ) (list frame : List ℕ) (r : RightFrame ports slots list frame) (h : start + len ≤ slots) (l : t < len) where
   pub part-ends : (start + t) * ports + ports ≤ length frame
   part-ends = let k = mul-le-mul-right {m = start + t + 1} {n = slots} ports (omega arith) in omega (arith, r .size)
 
@@ -382,7 +382,7 @@ module _ (ports slots start len t : ℕ) (list frame : List ℕ) (r : Readable p
   part-length : length part ≡ ports
   part-length = let a = part-ends in simp (length-take, length-drop) (omega arith)
 
-  pub part-readable : Readable ports 1 list part
+  pub part-readable : RightFrame ports 1 list part
   part-readable =
       record {
         switch = r .switch;
@@ -429,13 +429,13 @@ tally-at ports list entries x h = map-at (numberAt ports list entries) 0 609 x h
 
 module _ (ports : ℕ) (list entries : List ℕ) where
   -- what the places of the classes and the others have
-  number-class : Switch ports list → (c : Class) → In ports list c → numberAt ports list entries (place c) ≡ cells c ports list entries
+  number-class : Switch ports list → (c : Class) → InList ports list c → numberAt ports list entries (place c) ≡ cells c ports list entries
   unfolding numberAt
   number-class s (flow f) of = rw (lt-ltb f (flows list) of)
-  number-class s (input i) of =
+  number-class s (portOn input i) of =
       let e : 512 + i - 512 ≡ i = omega arith in
       rw (le-ltb (512 + i) (flows list) (omega (arith, s .few)), within-yes 512 (511 + ports) (512 + i) (omega arith) (omega arith), e)
-  number-class s (output o) of =
+  number-class s (portOn output o) of =
       let e : 528 + o - 528 ≡ o = omega arith in
       rw (le-ltb (528 + o) (flows list) (omega (arith, s .few)), within-above 512 (511 + ports) (528 + o) (omega arith) (omega (arith, s .high)), within-yes 528 (527 + ports) (528 + o) (omega arith) (omega arith), e)
   number-class s (link x) of =
@@ -456,14 +456,14 @@ module _ (ports : ℕ) (list entries : List ℕ) where
       )
 
   module _ (tally : List ℕ) (y : Tally ports list entries tally) (x : ℕ) where
-    at-class : (c : Class) → In ports list c → place c ≡ x → getD tally x 0 ≡ cells c ports list entries
+    at-class : (c : Class) → InList ports list c → place c ≡ x → getD tally x 0 ≡ cells c ports list entries
     at-class c of e = ap (λ z. getD tally z 0) (sym e) ∙ y .each c of
 
     vacant : flows list ≤ x → within 512 (511 + ports) x ≡ false → within 528 (527 + ports) x ≡ false
         → within 544 (543 + ports * 4) x ≡ false → x ≢ 608 → Vacant ports list x
     vacant h f g k n (flow y) of e = omega arith
-    vacant h f g k n (input i) of e = true≢false (sym (within-yes 512 (511 + ports) x (omega arith) (omega arith)) ∙ f)
-    vacant h f g k n (output o) of e = true≢false (sym (within-yes 528 (527 + ports) x (omega arith) (omega arith)) ∙ g)
+    vacant h f g k n (portOn input i) of e = true≢false (sym (within-yes 512 (511 + ports) x (omega arith) (omega arith)) ∙ f)
+    vacant h f g k n (portOn output o) of e = true≢false (sym (within-yes 528 (527 + ports) x (omega arith) (omega arith)) ∙ g)
     vacant h f g k n (link y) of e = true≢false (sym (within-yes 544 (543 + ports * 4) x (omega arith) (omega arith)) ∙ k)
     vacant h f g k n total of e = n e
 
@@ -474,10 +474,10 @@ module _ (ports : ℕ) (list entries : List ℕ) where
         (λ h. rw (lt-ltb x (flows list) h) (at-class (flow x) h refl))
         (λ h. rw (le-ltb x (flows list) h)
         (byBool (within 512 (511 + ports) x)
-        (λ f. let w = within-true 512 (511 + ports) x f in rw f (at-class (input (x - 512)) (omega arith) (omega arith)))
+        (λ f. let w = within-true 512 (511 + ports) x f in rw f (at-class (portOn input (x - 512)) (omega arith) (omega arith)))
         (λ f. rw f
         (byBool (within 528 (527 + ports) x)
-        (λ g. let w = within-true 528 (527 + ports) x g in rw g (at-class (output (x - 528)) (omega arith) (omega arith)))
+        (λ g. let w = within-true 528 (527 + ports) x g in rw g (at-class (portOn output (x - 528)) (omega arith) (omega arith)))
         (λ g. rw g
         (byBool (within 544 (543 + ports * 4) x)
         (λ k. let w = within-true 544 (543 + ports * 4) x k in rw k (at-class (link (x - 544)) (omega arith) (omega arith)))
@@ -499,14 +499,14 @@ pub tally-size : (ports : ℕ) (list entries tally : List ℕ) → tally ≡ tal
 tally-size ports list entries tally e = ap length e ∙ tally-length ports list entries
 
 -- what a tally has for each class
-pub tally-class : (ports : ℕ) (list entries tally : List ℕ) → Switch ports list → tally ≡ tallyOf ports list entries → (c : Class) → In ports list c
+pub tally-class : (ports : ℕ) (list entries tally : List ℕ) → Switch ports list → tally ≡ tallyOf ports list entries → (c : Class) → InList ports list c
     → getD tally (place c) 0 ≡ cells c ports list entries
 tally-class ports list entries tally s e c of =
     ap (λ z. getD z (place c) 0) e ∙ tally-at ports list entries (place c) (low c of) ∙ number-class ports list entries s c of
   where
-    low : (c : Class) → In ports list c → place c < 609
+    low : (c : Class) → InList ports list c → place c < 609
     low (flow f) of = omega (arith, s .few)
-    low (input i) of = omega (arith, s .high)
-    low (output o) of = omega (arith, s .high)
+    low (portOn input i) of = omega (arith, s .high)
+    low (portOn output o) of = omega (arith, s .high)
     low (link x) of = omega (arith, s .high)
     low total of = omega arith

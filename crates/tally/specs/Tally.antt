@@ -7,23 +7,23 @@ use mathlib.Core.Bool.{true}
 use lib.Dec.{eqb, ltb}
 use lib.ListN.{length, getD}
 use Rattle.rules.specs.Words.{if, bit, within, upFrom, sumTo}
-use Rattle.rules.specs.Flows.{flows, Class, flow, input, output, link, total}
+use Rattle.rules.specs.Flows.{flows, Class, flow, portOn, input, output, link, total}
 use Rattle.rules.specs.Frames.{right, counts, cells}
 use Rattle.calls.specs.Demand2.{Ported, Linked}
-use Rattle.calls.proofs.Inspected.{In}
+use Rattle.calls.proofs.Inspected.{InList}
 
 -- The flows stand in the order of the list, with room for 512, then the sixteen inputs, then the sixteen outputs,
 -- then their links, then the total.
 abbrev pub place : Class → ℕ
 place (flow f) = f
-place (input i) = 512 + i
-place (output o) = 528 + o
+place (portOn input i) = 512 + i
+place (portOn output o) = 528 + o
 place (link x) = 544 + x
 place total = 608
 
 -- No class stands at place x.
 abbrev pub Vacant : ℕ → List ℕ → ℕ → Type 0
-Vacant ports list x = (c : Class) → In ports list c → x ≢ place c
+Vacant ports list x = (c : Class) → InList ports list c → x ≢ place c
 
 -- The switch and the list are of a size that a tally has places for.
 pub record Switch (ports : ℕ) (list : List ℕ) : Type 0 where
@@ -34,17 +34,17 @@ pub record Switch (ports : ℕ) (list : List ℕ) : Type 0 where
   pub linked : Linked list
 
 -- The frame has its size, and no entry is wrong.
-pub record Readable (ports slots : ℕ) (list entries : List ℕ) : Type 0 where
+pub record RightFrame (ports slots : ℕ) (list entries : List ℕ) : Type 0 where
   pub switch : Switch ports list
   pub slots-most : slots ≤ 1024
   pub size : length entries ≡ slots * ports
   pub each-right : (q : ℕ) → q < length entries → right list (q % ports) (getD entries q 0) ≡ true
 
 -- An entry of an input is right there.
-pub record RightAt (ports : ℕ) (list : List ℕ) (input entry : ℕ) : Type 0 where
+pub record RightAt (ports : ℕ) (list : List ℕ) (portOn input entry : ℕ) : Type 0 where
   pub switch : Switch ports list
-  pub at : input < ports
-  pub is : right list input entry ≡ true
+  pub at : (portOn input) < ports
+  pub is : right list (portOn input) entry ≡ true
 
 -- A tally has its places, and no number above a limit.
 pub record Room (limit : ℕ) (tally : List ℕ) : Type 0 where
@@ -54,7 +54,7 @@ pub record Room (limit : ℕ) (tally : List ℕ) : Type 0 where
 -- `new` is the tally `old` with `more` counted: a number for each class, at no other place, and none more than `most` higher.
 pub record Adds (ports : ℕ) (list : List ℕ) (most : ℕ) (more : Class → ℕ) (old new : List ℕ) : Type 0 where
   pub size : length new ≡ 609
-  pub each : (c : Class) → In ports list c → getD new (place c) 0 ≡ getD old (place c) 0 + more c
+  pub each : (c : Class) → InList ports list c → getD new (place c) 0 ≡ getD old (place c) 0 + more c
   pub none : (x : ℕ) → Vacant ports list x → getD new x 0 ≡ getD old x 0
   pub bound : (x : ℕ) → getD new x 0 ≤ getD old x 0 + most
 
@@ -62,8 +62,8 @@ pub record Adds (ports : ℕ) (list : List ℕ) (most : ℕ) (more : Class → �
 -- slot at once.
 unfoldable pub ofEntry : List ℕ → ℕ → ℕ → Class → ℕ
 ofEntry list i e (flow f) = bit (counts (flow f) list i e)
-ofEntry list i e (input j) = bit (counts (input j) list i e)
-ofEntry list i e (output o) = bit (counts (output o) list i e)
+ofEntry list i e (portOn input j) = bit (counts (portOn input j) list i e)
+ofEntry list i e (portOn output o) = bit (counts (portOn output o) list i e)
 ofEntry list i e (link x) = bit (counts (link x) list i e)
 ofEntry list i e total = 0
 
@@ -81,8 +81,8 @@ ofSlot ports list slot c = cells c ports list slot
 unfoldable pub numberAt : ℕ → List ℕ → List ℕ → ℕ → ℕ
 numberAt ports list entries x =
     if (ltb x (flows list)) (cells (flow x) ports list entries)
-    (if (within 512 (511 + ports) x) (cells (input (x - 512)) ports list entries)
-    (if (within 528 (527 + ports) x) (cells (output (x - 528)) ports list entries)
+    (if (within 512 (511 + ports) x) (cells (portOn input (x - 512)) ports list entries)
+    (if (within 528 (527 + ports) x) (cells (portOn output (x - 528)) ports list entries)
     (if (within 544 (543 + ports * 4) x) (cells (link (x - 544)) ports list entries)
     (if (eqb x 608) (cells total ports list entries) 0))))
 

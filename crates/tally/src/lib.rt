@@ -5,7 +5,7 @@ ghost use lib.ListN.{getD, set, replicate};
 ghost use Rattle.rules.specs.Words.{bit};
 ghost use Rattle.rules.specs.Flows.{total};
 ghost use Rattle.rules.specs.Frames.{counts, runOf};
-ghost use Rattle.tally.specs.Tally.{Readable, RightAt, Room, Adds, ofEntry, ofSlot, tallyOf};
+ghost use Rattle.tally.specs.Tally.{RightFrame, RightAt, Room, Adds, ofEntry, ofSlot, tallyOf};
 
 // Counts one more at a place of a tally.
 fn add_one(tally: &mut [u16; 609], x: usize)
@@ -35,7 +35,7 @@ fn add_entry(ports: usize, list: &[u16], input: usize, entry: usize, tally: &mut
 
 // Counts a slot. The total is added once, so that no entry waits for the one before it.
 fn add_slot(ports: usize, list: &[u16], slot: &[u16], tally: &mut [u16; 609])
-    requires { ⌜ Readable ports 1 (now list) (now slot) × Room 65000 (now tally) ⌝ }
+    requires { ⌜ RightFrame ports 1 (now list) (now slot) × Room 65000 (now tally) ⌝ }
     ensures { λ _. ⌜ Adds ports (now (list .entry)) ports (ofSlot ports (now (list .entry)) (now (slot .entry))) (now (tally .entry)) (now (tally .exit)) ⌝ }
 {
     let mut cells: u16 = 0;
@@ -58,7 +58,7 @@ pub fn tally_run(
     len: usize,
     tally: &mut [u16; 609],
 )
-    requires { ⌜ Readable ports slots (now list) (now frame) × (start + len ≤ slots) × (now tally ≡ replicate 609 0) ⌝ }
+    requires { ⌜ RightFrame ports slots (now list) (now frame) × (start + len ≤ slots) × (now tally ≡ replicate 609 0) ⌝ }
     ensures { λ _. ⌜ now (tally .exit) ≡ tallyOf ports (now (list .entry)) (runOf ports start len (now (frame .entry))) ⌝ }
 {
     let mut t: usize = 0;

@@ -9,7 +9,7 @@ use lib.Dec.{eqb}
 use lib.ListN.{length, getD, take, drop}
 use borrow.Author.Tests.{not-true, not-false, eqb-true, eqb-false}
 use Rattle.rules.specs.Words.{both, within}
-use Rattle.calls.specs.Refusals.{clear, accepted, answered, refusal}
+use Rattle.calls.specs.Refusals.{none-holds, accepted, answered, refusal}
 use Rattle.rules.specs.Frames.{levels}
 use Rattle.calls.specs.Service.{viewChecks, viewNumber, viewStart, viewSize, viewed}
 use Rattle.calls.specs.declared.Answer.{Answer}
@@ -51,14 +51,14 @@ pub record Open (ports slots : ℕ) (entries : List ℕ) (slot : ℕ) : Type 0 w
   pub short : length entries ≤ 16384
   pub slot-least : 1 ≤ slot
   pub slot-most : slot ≤ slots
-  pub none : clear (viewChecks ports slots entries slot) ≡ true
+  pub none : none-holds (viewChecks ports slots entries slot) ≡ true
 
 -- one that is refused, and how
 pub record Shut (ports slots : ℕ) (entries : List ℕ) (slot : ℕ) (r : Refusal) : Type 0 where
   pub same : refusal r ≡ checked ports slots entries slot
-  pub some : clear (viewChecks ports slots entries slot) ≡ false
+  pub some : none-holds (viewChecks ports slots entries slot) ≡ false
 
-opened : (ports slots : ℕ) (entries : List ℕ) (slot : ℕ) → clear (viewChecks ports slots entries slot) ≡ true → Open ports slots entries slot
+opened : (ports slots : ℕ) (entries : List ℕ) (slot : ℕ) → none-holds (viewChecks ports slots entries slot) ≡ true → Open ports slots entries slot
 unfolding viewChecks
 opened ports slots entries slot e =
     let a : Bool = not (within 1 16 ports) in

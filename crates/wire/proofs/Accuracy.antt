@@ -7,7 +7,7 @@ use native.Mathlib.Omega.{arith}
 use native.Mathlib.Decide.{decLe}
 use lib.Pow.{pow-add}
 use Rattle.rules.specs.Words.{Near}
-use Rattle.rules.specs.Flows.{Class, Of, load}
+use Rattle.rules.specs.Flows.{Class, OnSwitch, load}
 use Rattle.rules.specs.Frames.{cells, runOf, Legal, Block, whole, front, back, Balanced}
 use Rattle.wire.specs.Deviation.{deviation}
 use Rattle.rules.proofs.Cells.{cells-none, cells-run, run-none, run-all}
@@ -72,7 +72,7 @@ block-law k f g mids (suc j) d lo hi deep b at low high ends x from to =
       | no h ↦ block-law k f g mids j (suc d) mid hi (omega arith) (back lo (2 ^ j) b2) top middle (omega arith) (omega arith) x (omega arith) to
     ]
 
-module _ {ports slots : ℕ} {list entries : List ℕ} (legal : Legal ports slots list entries) (balanced : Balanced ports slots list entries) (c : Class) (of : Of ports c) where
+module _ {ports slots : ℕ} {list entries : List ℕ} (legal : Legal ports slots list entries) (balanced : Balanced ports slots list entries) (c : Class) (of : OnSwitch ports c) where
   -- the cells of the first t slots
   abbrev pub before : ℕ → ℕ
   before t = cells c ports list (runOf ports 0 t entries)

@@ -9,9 +9,9 @@ use lib.Pow.{pow-pos}
 use lib.ListN.{length}
 use borrow.Author.Tests.{lt-ltb, le-ltb}
 use Rattle.rules.specs.Words.{sumTo, Near, Every}
-use Rattle.rules.specs.Flows.{Class, Of, load}
+use Rattle.rules.specs.Flows.{Class, OnSwitch, load}
 use Rattle.rules.specs.Frames.{cells, runOf, Legal, Balanced}
-use Rattle.calls.specs.Build.{buildAccepts, left}
+use Rattle.calls.specs.Build.{buildAccepts, frameAfter}
 use Rattle.wire.specs.Wire.{Call, Carried, Last, none, last, carry, next, chain, cellsAt, cellsIn, inside, share, Shape, Accurate, Demand3}
 use Rattle.wire.specs.Deviation.{deviation}
 use Rattle.rules.proofs.Lists.{every-append, every-replicate}
@@ -53,12 +53,12 @@ module _ (c : Class) where
       omega (arith, ap (λ z. load c (f .call .list) * z) (inside-split lo hi start len (omega arith)), share-split fs hi start len)
 
 -- ---- a chain of sound frames of one shape
-pub record Good (ports slots : ℕ) (f : Carried) : Type 0 where
+pub record SoundFrame (ports slots : ℕ) (f : Carried) : Type 0 where
   pub shape : Shape ports slots f
   pub legal : Legal ports slots (f .call .list) (f .entries)
   pub balanced : Balanced ports slots (f .call .list) (f .entries)
 
-pub good-of : (ports slots : ℕ) (fs : List Carried) → Every Sound fs → Every (Shape ports slots) fs → Every (Good ports slots) fs
+pub good-of : (ports slots : ℕ) (fs : List Carried) → Every Sound fs → Every (Shape ports slots) fs → Every (SoundFrame ports slots) fs
 good-of ports slots [] sound shape = tt
 good-of ports slots (f ∷ fs) sound shape =
     let s : Legal ports slots (f .call .list) (f .entries) × Balanced ports slots (f .call .list) (f .entries) = rw (shape .0 .ports-are, shape .0 .slots-are) at (sound .0) in
@@ -103,21 +103,21 @@ unfolding cellsIn
 none-in c fs start = sum-none (λ t. cellsAt c fs (start + t))
 
 -- beyond the last slot there are none
-pub at-beyond : (c : Class) (ports n : ℕ) (fs : List Carried) → Every (Good ports n) fs → (t : ℕ) → length fs * n ≤ t → cellsAt c fs t ≡ 0
+pub at-beyond : (c : Class) (ports n : ℕ) (fs : List Carried) → Every (SoundFrame ports n) fs → (t : ℕ) → length fs * n ≤ t → cellsAt c fs t ≡ 0
 at-beyond c ports n [] good t h = cells-nowhere c t
 at-beyond c ports n (f ∷ fs) good t h =
     let r = t - n in
     let e : t ≡ n + r = omega arith in
     ap (cellsAt c (f ∷ fs)) e ∙ rest-at c ports n f fs (good .0 .shape) r ∙ at-beyond c ports n fs (good .1) r (omega arith)
 
-module _ (c : Class) (ports k : ℕ) (of : Of ports c) where
+module _ (c : Class) (ports k : ℕ) (of : OnSwitch ports c) where
   -- in a frame, the first r slots are off by at most gap
   abbrev Off : ℕ → ℕ → Type 0
-  Off r gap = (f : Carried) → Good ports (2 ^ k) f
+  Off r gap = (f : Carried) → SoundFrame ports (2 ^ k) f
       → Near gap (2 ^ k * cells c ports (f .call .list) (runOf ports 0 r (f .entries))) (load c (f .call .list) * r)
 
   -- so are the first t slots of a chain, b frames and r slots, from the share of as many slots that end where they end
-  prefix-chain : (r gap : ℕ) → r ≤ 2 ^ k → Off r gap → (fs : List Carried) → Every (Good ports (2 ^ k)) fs → (b lo start len t : ℕ)
+  prefix-chain : (r gap : ℕ) → r ≤ 2 ^ k → Off r gap → (fs : List Carried) → Every (SoundFrame ports (2 ^ k)) fs → (b lo start len t : ℕ)
       → t ≡ b * 2 ^ k + r → start ≤ lo → start + len ≡ lo + t → t ≤ length fs * 2 ^ k
       → Near gap (2 ^ k * cellsIn c fs 0 t) (share c lo fs start len)
   unfolding share
@@ -155,7 +155,7 @@ module _ (c : Class) (ports k : ℕ) (of : Of ports c) where
       = ap (cellsIn c (f ∷ fs) 0) at ∙ in-more c (f ∷ fs) 0 n later ∙ omega arith in
       omega (arith, ap (λ x. n * x) whole, ap (λ x. m * x) e, law .0, law .1)
 
-  module _ (fs : List Carried) (good : Every (Good ports (2 ^ k)) fs) where
+  module _ (fs : List Carried) (good : Every (SoundFrame ports (2 ^ k)) fs) where
     -- the first t slots of the chain are off by at most gap
     abbrev pub OffAt : ℕ → ℕ → Type 0
     OffAt gap t = Near gap (2 ^ k * cellsIn c fs 0 t) (share c 0 fs 0 t)
@@ -192,7 +192,7 @@ sound-accurate ports k fs sound shape start len fits c of =
 -- ---- what holds of every frame that an accepted Build leaves holds of every one that a list of Build calls carries
 module _ (P : Carried → Type 0)
     (built : (c : Call) (buffer : List ℕ) → buildAccepts (c .ports) (c .slots) (c .list) (c .limits) buffer ≡ true
-    → P (record { call = c; entries = left (c .ports) (c .slots) (c .list) (c .limits) buffer })) where
+    → P (record { call = c; entries = frameAfter (c .ports) (c .slots) (c .list) (c .limits) buffer })) where
   abbrev Known : Last → List ℕ → Type 0
   Known none buffer = Unit {0}
   Known (last call) buffer = P (record { call = call; entries = buffer })
@@ -202,7 +202,7 @@ module _ (P : Carried → Type 0)
   carry-every (last call) buffer times p = every-replicate P times _ p
 
   known : (c : Call) (l : Last) (buffer : List ℕ) (a : Bool)
-      → buildAccepts (c .ports) (c .slots) (c .list) (c .limits) buffer ≡ a → Known l buffer → Known (next a c l) (left (c .ports) (c .slots) (c .list) (c .limits) buffer)
+      → buildAccepts (c .ports) (c .slots) (c .list) (c .limits) buffer ≡ a → Known l buffer → Known (next a c l) (frameAfter (c .ports) (c .slots) (c .list) (c .limits) buffer)
   known c l buffer true e p = built c buffer e
   known c l buffer false e p = subst (Known l) (sym (build-keeps (c .ports) (c .slots) (c .list) (c .limits) buffer e)) p
 
@@ -211,7 +211,7 @@ module _ (P : Carried → Type 0)
   chain-every l buffer [] p = tt
   chain-every l buffer (c ∷ calls) p =
       let ok = buildAccepts (c .ports) (c .slots) (c .list) (c .limits) buffer in
-      let after = left (c .ports) (c .slots) (c .list) (c .limits) buffer in
+      let after = frameAfter (c .ports) (c .slots) (c .list) (c .limits) buffer in
       let q : Known (next ok c l) after = known c l buffer ok refl p in
       every-append P (carry (next ok c l) after (c .times)) (chain (next ok c l) after calls)
       (carry-every (next ok c l) after (c .times) q) (chain-every (next ok c l) after calls q)

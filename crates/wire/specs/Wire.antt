@@ -6,9 +6,9 @@ use mathlib.Core.Bool.{Bool, true, false}
 use lib.Dec.{ltb}
 use lib.ListN.{length, replicate}
 use Rattle.rules.specs.Words.{if, sumTo, Near, Every}
-use Rattle.rules.specs.Flows.{Class, Of, load}
+use Rattle.rules.specs.Flows.{Class, OnSwitch, load}
 use Rattle.rules.specs.Frames.{cells, runOf}
-use Rattle.calls.specs.Build.{buildAccepts, left}
+use Rattle.calls.specs.Build.{buildAccepts, frameAfter}
 
 -- A call of Build, and how many times the wire carries the whole buffer after it, none too.
 pub record Call : Type 0 where
@@ -43,7 +43,7 @@ unfoldable pub chain : Last → List ℕ → List Call → List Carried
 chain before buffer [] = []
 chain before buffer (c ∷ calls) =
     let now = next (buildAccepts (c .ports) (c .slots) (c .list) (c .limits) buffer) c before in
-    let after = left (c .ports) (c .slots) (c .list) (c .limits) buffer in
+    let after = frameAfter (c .ports) (c .slots) (c .list) (c .limits) buffer in
     carry now after (c .times) ++ chain now after calls
 
 -- The frames stand end to end, first slot first. The cells of a class in slot t of them: those of that slot of its frame, counted
@@ -80,7 +80,7 @@ pub record Shape (ports slots : ℕ) (f : Carried) : Type 0 where
 -- link and for the total, 3 × 2 ^ k × cells differs by at most (2k + 1) × 2 ^ k, either way, from three times the share times 2 ^ k.
 abbrev pub Accurate : ℕ → ℕ → List Carried → Type 0
 Accurate ports k frames =
-    (start len : ℕ) → start + len ≤ length frames * 2 ^ k → (c : Class) → Of ports c
+    (start len : ℕ) → start + len ≤ length frames * 2 ^ k → (c : Class) → OnSwitch ports c
     → Near ((2 * k + 1) * 2 ^ k) (3 * 2 ^ k * cellsIn c frames start len) (3 * share c 0 frames start len)
 
 -- P holds of the chain, its ports and its k for every first buffer and every list of Build calls, refused ones included, whose

@@ -4,7 +4,7 @@ use borrow.Author.Needs.{needs}
 use native.Mathlib.Omega.{arith}
 use borrow.Fn.Kinds.{In}
 use borrow.Fn.PlainCycle.{Measures, is, falls, and}
-use Rattle.planes.specs.Planes.{counts}
+use Rattle.planes.specs.Planes.{countsIn}
 use Rattle.planes.proofs.Counts.{block-ends}
 use Rattle.planes.proofs.Marked.{others-mask}
 use Rattle.planes.proofs.Halved.{halved-block}
@@ -210,7 +210,7 @@ pub +block-spec : {M : Type 1} → statement M
     let second = half-counts (favours-second (split .split .ensures .1) (others .others .ensures)) (omega arith) (halve2 .halve2 .ensures .1) (omega arith) in
     let f = front .block .ensures in
     let g = back .block2 .ensures in
-    written-size _ _ (start .args .frame .now) (omega arith) (pre .5) _ (counts (suc (start .args .m)) (start .args .planes .now) (start .args .n)) _ _ _ _ first second (f .1) (g .1))
+    written-size _ _ (start .args .frame .now) (omega arith) (pre .5) _ (countsIn (suc (start .args .m)) (start .args .planes .now) (start .args .n)) _ _ _ _ first second (f .1) (g .1))
     (λ c.
     let back = c .before .before in
     let halve2 = back .before .before .before .before .before .before .before in

@@ -1,12 +1,12 @@
 use Prim.Native.Nat.{_≤_, _-_}
 use borrow.Author.Needs.{needs}
 use native.Mathlib.Omega.{arith}
-use Rattle.planes.proofs.Marked.{Turning, turning-start, turning-on, turning-end}
+use Rattle.planes.proofs.Marked.{Complementing, turning-start, turning-on, turning-end}
 use Rattle.planes.proofs.mark.others.Statement.{statement}
 use Rattle.planes.proofs.mark.others.Tie as tie
 
 abbrev Inv-loop : tie.InvT-loop
-Inv-loop planes n mask₀ words w₀ mask w = (w ≤ words) × Turning n planes mask₀ w mask
+Inv-loop planes n mask₀ words w₀ mask w = (w ≤ words) × Complementing n planes mask₀ w mask
 
 abbrev μ-loop : tie.MeasureT-loop
 μ-loop planes n mask₀ words w₀ mask w = words - w

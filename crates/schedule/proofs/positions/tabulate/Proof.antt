@@ -1,15 +1,15 @@
 use Prim.Native.Nat.{_-_}
 use borrow.Author.Needs.{needs}
 use native.Mathlib.Omega.{arith}
-use Rattle.schedule.proofs.Tabled.{Tabling, tabling-start, tabling-in, tabling-low, in-low, out-in, link-in, tabling-on, tabling-end, shared-end}
+use Rattle.schedule.proofs.Tabled.{Tabling, tabling-start, tabling-in, tabling-low, in-low, out-in, link-in, tabling-on, tabling-end, multi-end}
 use Rattle.schedule.proofs.positions.tabulate.Statement.{statement}
 use Rattle.schedule.proofs.positions.tabulate.Tie as tie
 
 abbrev Inv-loop : tie.InvT-loop
-Inv-loop list ins₀ outs₀ count shared₀ f₀ ins outs shared f = Tabling list count f shared ins outs
+Inv-loop list ins₀ outs₀ count shared₀ f₀ ins outs multi f = Tabling list count f multi ins outs
 
 abbrev μ-loop : tie.MeasureT-loop
-μ-loop list ins₀ outs₀ count shared₀ f₀ ins outs shared f = count - f
+μ-loop list ins₀ outs₀ count shared₀ f₀ ins outs multi f = count - f
 
 pub tabulate-spec : {M : Type 1} → statement M
 tabulate-spec =
@@ -31,4 +31,4 @@ tabulate-spec =
     (λ c. search needs)
     (λ c. search needs)
     (λ c. search (needs, tabling-on))
-    (λ c. (search (needs, tabling-end), search (needs, shared-end))))
+    (λ c. (search (needs, tabling-end), search (needs, multi-end))))

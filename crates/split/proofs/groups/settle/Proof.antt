@@ -1,17 +1,17 @@
 use Prim.Native.Nat.{_≤_, _-_}
 use borrow.Author.Needs.{needs}
 use native.Mathlib.Omega.{arith}
-use Rattle.split.specs.Steps.{Wide, Turn, SettledBy}
-use Rattle.split.proofs.Linked.{own-low}
-use Rattle.split.proofs.Settled.{turn-start, settled-start, settled-on, settled-end}
+use Rattle.split.specs.Steps.{Wide, Next, SettledBy}
+use Rattle.split.proofs.Mated.{own-low}
+use Rattle.split.proofs.Settled.{next-start, settled-start, settled-on, settled-end}
 use Rattle.split.proofs.groups.settle.Statement.{statement}
 use Rattle.split.proofs.groups.settle.Tie as tie
 
 abbrev Inv-loop : tie.InvT-loop
-Inv-loop odds k in-mates out-mates group₀ favoured₀ turn₀ i₀ group favoured turn i = (i ≤ k) × Wide group × Turn turn favoured × SettledBy in-mates out-mates odds i favoured₀ favoured
+Inv-loop odds k in-mates out-mates group₀ favoured₀ turn₀ i₀ group favoured next i = (i ≤ k) × Wide group × Next next favoured × SettledBy in-mates out-mates odds i favoured₀ favoured
 
 abbrev μ-loop : tie.MeasureT-loop
-μ-loop odds k in-mates out-mates group₀ favoured₀ turn₀ i₀ group favoured turn i = k - i
+μ-loop odds k in-mates out-mates group₀ favoured₀ turn₀ i₀ group favoured next i = k - i
 
 pub settle-spec : {M : Type 1} → statement M
 settle-spec =
@@ -19,7 +19,7 @@ settle-spec =
     (tie.spec
     Inv-loop
     μ-loop
-    (λ c. (omega arith, c .pre .3, turn-start _ (c .pre .4), settled-start (c .pre .4)))
+    (λ c. (omega arith, c .pre .3, next-start _ (c .pre .4), settled-start (c .pre .4)))
     (λ c. search needs)
     (λ c. search needs)
     (λ c κs. search needs)

@@ -1,6 +1,6 @@
 use borrow.Author.Needs.{needs}
 use native.Mathlib.Omega.{arith}
-use Rattle.split.proofs.Turned.{listed-positions}
+use Rattle.split.proofs.Flipped.{listed-positions}
 use Rattle.split.proofs.Settled.{group-off, group-start, group-even, group-right, group-turned}
 use Rattle.split.proofs.groups.settle_group.Statement.{statement}
 use Rattle.split.proofs.groups.settle_group.Tie as tie
@@ -39,8 +39,8 @@ settle-group-spec =
     (λ c κs. let list = c .before .before .before .before .before .walk2 .ensures .list in (listed-positions list, list .len))
     (λ c κs. search needs)
     (λ c.
-    let turned = c .before in
-    let wrong = turned .before .before .before in
+    let flipped = c .before in
+    let wrong = flipped .before .before .before in
     let odd = wrong .before .before in
     let second = odd .before in
     let first = second .before .before .before in
@@ -48,5 +48,5 @@ settle-group-spec =
     let start = found .before .before in (
       second .walk2 .ensures .list .size,
       group-turned _ _ (start .pre .4) (start .pre .5) (found .if1 .left) (start .pre .0) (start .args .group .now) (start .pre .3) (first .walk .ensures) (second .walk2 .ensures) (odd .if2 .left)
-          (wrong .before .larger-half .ensures) (wrong .if3 .left) (c .other-half2 .ensures) (turned .turn-round .ensures .1),
+          (wrong .before .larger-half .ensures) (wrong .if3 .left) (c .other-half2 .ensures) (flipped .flip-group .ensures .1),
     )))

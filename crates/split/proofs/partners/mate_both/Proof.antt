@@ -1,10 +1,10 @@
 use borrow.Author.Needs.{needs}
 use Rattle.split.proofs.Joined.{both-linked, none-linked}
-use Rattle.split.proofs.partners.link_both.Statement.{statement}
-use Rattle.split.proofs.partners.link_both.Tie as tie
+use Rattle.split.proofs.partners.mate_both.Statement.{statement}
+use Rattle.split.proofs.partners.mate_both.Tie as tie
 
-pub link-both-spec : {M : Type 1} → statement M
-link-both-spec =
+pub mate-both-spec : {M : Type 1} → statement M
+mate-both-spec =
     tie.close
     (tie.spec
     (λ c κs. search needs)

@@ -2,17 +2,17 @@ use Prim.Native.Nat.{_*_, _-_, _≤_}
 use borrow.Author.Needs.{needs}
 use native.Mathlib.Omega.{arith}
 use Rattle.split.proofs.Joined.{Joining, joining-start, comes-low, partner-low, joining-on, joining-end}
-use Rattle.split.proofs.partners.link_singles.Statement.{statement}
-use Rattle.split.proofs.partners.link_singles.Tie as tie
+use Rattle.split.proofs.partners.mate_singles.Statement.{statement}
+use Rattle.split.proofs.partners.mate_singles.Tie as tie
 
 abbrev Inv-loop : tie.InvT-loop
-Inv-loop held waits output mates₀ one₀ waiting₀ l₀ mates one waiting l = (l ≤ 4) × Joining held waits (output * 4) l mates₀ mates waiting one
+Inv-loop latest pending output mates₀ one₀ waiting₀ l₀ mates one alone l = (l ≤ 4) × Joining latest pending (output * 4) l mates₀ mates alone one
 
 abbrev μ-loop : tie.MeasureT-loop
-μ-loop held waits output mates₀ one₀ waiting₀ l₀ mates one waiting l = 4 - l
+μ-loop latest pending output mates₀ one₀ waiting₀ l₀ mates one alone l = 4 - l
 
-pub link-singles-spec : {M : Type 1} → statement M
-link-singles-spec =
+pub mate-singles-spec : {M : Type 1} → statement M
+mate-singles-spec =
     tie.close
     (tie.spec
     Inv-loop

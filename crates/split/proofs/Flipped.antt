@@ -12,33 +12,33 @@ use Rattle.rules.specs.Words.{Every}
 use Rattle.rules.proofs.Cases.{byBool, byEq, byLt}
 use Rattle.rules.proofs.Lists.{every-map}
 use Rattle.rules.proofs.Favouring.{settled-less}
-use Rattle.split.specs.Steps.{Wide, Positions, otherHalf, turned, Listed}
+use Rattle.split.specs.Steps.{Wide, Positions, otherHalf, flipped, Listed}
 use Rattle.planes.proofs.Lists.{at-end}
 use Rattle.split.proofs.Lists.{every-snoc}
 
 other-low : (x : ℕ) → otherHalf x ≢ 0
 other-low x = byBool (eqb x 1) (λ e. rw e (omega arith)) (λ e. rw e (omega arith))
 
-pub turned-snoc : (l : List ℕ) (q : ℕ) (c : List ℕ) → turned (l ++ (q ∷ [])) c ≡ set (turned l c) q (otherHalf (getD (turned l c) q 0))
-turned-snoc [] q c = refl
-turned-snoc (r ∷ l) q c = turned-snoc l q (set c r (otherHalf (getD c r 0)))
+pub flipped-snoc : (l : List ℕ) (q : ℕ) (c : List ℕ) → flipped (l ++ (q ∷ [])) c ≡ set (flipped l c) q (otherHalf (getD (flipped l c) q 0))
+flipped-snoc [] q c = refl
+flipped-snoc (r ∷ l) q c = flipped-snoc l q (set c r (otherHalf (getD c r 0)))
 
-pub turned-length : (l c : List ℕ) → length (turned l c) ≡ length c
-turned-length [] c = refl
-turned-length (r ∷ l) c = turned-length l (set c r (otherHalf (getD c r 0))) ∙ length-set c r (otherHalf (getD c r 0))
+pub flipped-length : (l c : List ℕ) → length (flipped l c) ≡ length c
+flipped-length [] c = refl
+flipped-length (r ∷ l) c = flipped-length l (set c r (otherHalf (getD c r 0))) ∙ length-set c r (otherHalf (getD c r 0))
 
 -- a count that is not in the list
-turned-other : (l c : List ℕ) (q : ℕ) → Every (λ r. r ≢ q) l → getD (turned l c) q 0 ≡ getD c q 0
-turned-other [] c q a = refl
-turned-other (r ∷ l) c q a =
-    turned-other l (set c r (otherHalf (getD c r 0))) q (a .1) ∙ getD-set-other c r q (otherHalf (getD c r 0)) 0 (λ e. a .0 (sym e))
+flipped-other : (l c : List ℕ) (q : ℕ) → Every (λ r. r ≢ q) l → getD (flipped l c) q 0 ≡ getD c q 0
+flipped-other [] c q a = refl
+flipped-other (r ∷ l) c q a =
+    flipped-other l (set c r (otherHalf (getD c r 0))) q (a .1) ∙ getD-set-other c r q (otherHalf (getD c r 0)) 0 (λ e. a .0 (sym e))
 
-turned-set : (l c : List ℕ) (q v : ℕ) → Every (λ r. r ≢ q) l → turned l (set c q v) ≡ set (turned l c) q v
-turned-set [] c q v a = refl
-turned-set (r ∷ l) c q v a =
-    ap (λ (x : ℕ). turned l (set (set c q v) r (otherHalf x))) (getD-set-other c q r v 0 (a .0))
-    ∙ ap (turned l) (set-comm c q r v (otherHalf (getD c r 0)) (λ e. a .0 (sym e)))
-    ∙ turned-set l (set c r (otherHalf (getD c r 0))) q v (a .1)
+flipped-set : (l c : List ℕ) (q v : ℕ) → Every (λ r. r ≢ q) l → flipped l (set c q v) ≡ set (flipped l c) q v
+flipped-set [] c q v a = refl
+flipped-set (r ∷ l) c q v a =
+    ap (λ (x : ℕ). flipped l (set (set c q v) r (otherHalf x))) (getD-set-other c q r v 0 (a .0))
+    ∙ ap (flipped l) (set-comm c q r v (otherHalf (getD c r 0)) (λ e. a .0 (sym e)))
+    ∙ flipped-set l (set c r (otherHalf (getD c r 0))) q v (a .1)
 
 -- a count that is settled stays so
 set-settled : (c : List ℕ) (r v q : ℕ) → v ≢ 0 → getD c q 0 ≢ 0 → getD (set c r v) q 0 ≢ 0
@@ -49,9 +49,9 @@ set-settled c r v q n s =
     (λ h. absurd (s (ap (λ (x : ℕ). getD c x 0) e ∙ List·getD-eq-default c 0 h))))
     (λ e z. s (sym (getD-set-other c r q v 0 e) ∙ z))
 
-turned-settled : (l c : List ℕ) (q : ℕ) → getD c q 0 ≢ 0 → getD (turned l c) q 0 ≢ 0
-turned-settled [] c q s = s
-turned-settled (r ∷ l) c q s = turned-settled l (set c r (otherHalf (getD c r 0))) q (set-settled c r (otherHalf (getD c r 0)) q (other-low (getD c r 0)) s)
+flipped-settled : (l c : List ℕ) (q : ℕ) → getD c q 0 ≢ 0 → getD (flipped l c) q 0 ≢ 0
+flipped-settled [] c q s = s
+flipped-settled (r ∷ l) c q s = flipped-settled l (set c r (otherHalf (getD c r 0))) q (set-settled c r (otherHalf (getD c r 0)) q (other-low (getD c r 0)) s)
 
 -- what is settled is a position
 pub listed-positions : {n : ℕ} {group c : List ℕ} → Listed n group c → Positions group n
@@ -66,15 +66,15 @@ listed-positions {n} {group} {c} g =
 
 -- ---- one more count settled and listed
 module _ {n : ℕ} {group c : List ℕ} (g : Listed n group c) (q : ℕ) where
-  pub listed-not : getD c q 0 ≢ 0 → getD (turned (take n group) c) q 0 ≢ 0
-  listed-not s = turned-settled (take n group) c q s
+  pub listed-not : getD c q 0 ≢ 0 → getD (flipped (take n group) c) q 0 ≢ 0
+  listed-not s = flipped-settled (take n group) c q s
 
   module _ (z : getD c q 0 ≡ 0) where
     off : Every (λ r. r ≢ q) (take n group)
     off = every-map (λ r. getD c r 0 ≢ 0) (λ r. r ≢ q) (λ r s e. s (ap (λ (x : ℕ). getD c x 0) e ∙ z)) (take n group) (g .settled)
 
-    pub listed-zero : getD (turned (take n group) c) q 0 ≡ 0
-    listed-zero = turned-other (take n group) c q off ∙ z
+    pub listed-zero : getD (flipped (take n group) c) q 0 ≡ 0
+    listed-zero = flipped-other (take n group) c q off ∙ z
 
     module _ (q-lt : q < 528) where
       pub listed-room : n < 528
@@ -96,30 +96,30 @@ module _ {n : ℕ} {group c : List ℕ} (g : Listed n group c) (q : ℕ) where
           }
 
       -- turned round it favours the other half, and the rest is as it was
-      pub listed-turned : (v w : ℕ) → w ≡ otherHalf v → turned (take (n + 1) (set group n q)) (set c q v) ≡ set (turned (take n group) c) q w
+      pub listed-turned : (v w : ℕ) → w ≡ otherHalf v → flipped (take (n + 1) (set group n q)) (set c q v) ≡ set (flipped (take n group) c) q w
       listed-turned v w e =
-          let t = turned-set (take n group) c q v off in
-          let l : q < length (turned (take n group) c) = omega (arith, turned-length (take n group) c, g .len) in
-          rw (more, turned-snoc (take n group) q (set c q v), t, getD-set-same (turned (take n group) c) q v 0 l, e)
-          (set-set (turned (take n group) c) q v (otherHalf v))
+          let t = flipped-set (take n group) c q v off in
+          let l : q < length (flipped (take n group) c) = omega (arith, flipped-length (take n group) c, g .len) in
+          rw (more, flipped-snoc (take n group) q (set c q v), t, getD-set-same (flipped (take n group) c) q v 0 l, e)
+          (set-set (flipped (take n group) c) q v (otherHalf v))
 
 -- ---- the first of a list, turned round one by one
-pub record Turning (group : List ℕ) (i : ℕ) (c d : List ℕ) : Type 0 where
+pub record Flipping (group : List ℕ) (i : ℕ) (c d : List ℕ) : Type 0 where
   pub len : Wide d
-  pub same : d ≡ turned (take i group) c
+  pub same : d ≡ flipped (take i group) c
 
-pub turning-start : {group c : List ℕ} → Wide c → Turning group 0 c c
-turning-start w = record { len = w; same = refl }
+pub flipping-start : {group c : List ℕ} → Wide c → Flipping group 0 c c
+flipping-start w = record { len = w; same = refl }
 
-pub turning-on : {group c d : List ℕ} {i n q v : ℕ} → Turning group i c d → i < n → Positions group n → q ≡ getD group i 0
-    → v ≡ otherHalf (getD d q 0) → Turning group (i + 1) c (set d q v)
-turning-on {group} {c} {d} {i} {n} {q} {v} t a o e f =
+pub flipping-on : {group c d : List ℕ} {i n q v : ℕ} → Flipping group i c d → i < n → Positions group n → q ≡ getD group i 0
+    → v ≡ otherHalf (getD d q 0) → Flipping group (i + 1) c (set d q v)
+flipping-on {group} {c} {d} {i} {n} {q} {v} t a o e f =
     let l : i < length group = omega (arith, o .len, o .most) in
     let more : take (i + 1) group ≡ take i group ++ (getD group i 0 ∷ []) = rw add-one (take-suc group i 0 l) in
     record {
       len = length-set d q v ∙ t .len;
-      same = rw (more, turned-snoc (take i group) (getD group i 0) c, ← t .same, f, e);
+      same = rw (more, flipped-snoc (take i group) (getD group i 0) c, ← t .same, f, e);
     }
 
-pub turning-end : {group c d : List ℕ} {i n : ℕ} → Turning group i c d → i ≤ n → n ≤ i → d ≡ turned (take n group) c
-turning-end {group} {c} {d} t a b = at-end (λ n. d ≡ turned (take n group) c) (t .same) a b
+pub flipping-end : {group c d : List ℕ} {i n : ℕ} → Flipping group i c d → i ≤ n → n ≤ i → d ≡ flipped (take n group) c
+flipping-end {group} {c} {d} t a b = at-end (λ n. d ≡ flipped (take n group) c) (t .same) a b

@@ -19,9 +19,9 @@ use Rattle.rules.proofs.Lists.{Rising, rising-apart, Apart, rising-weaken, ever
 use Rattle.rules.proofs.Partners.{in-none, in-first, in-second, in-rest}
 use Rattle.rules.proofs.Singles.{single-every, every-both}
 use Rattle.planes.specs.Digits.{digit}
-use Rattle.planes.specs.Steps.{TurnedAt}
+use Rattle.planes.specs.Steps.{FlippedAt}
 use Rattle.planes.proofs.Digits.{digit-most, digit-none}
-use Rattle.split.specs.Steps.{Odds, Mates, lookup, portIn, thoseAt, mateAmong, Waits, waitsAt, Free, Held, Linked}
+use Rattle.split.specs.Steps.{Odds, MateTable, lookup, portIn, thoseAt, mateAmong, Pends, pendsAt, Free, PendingBy, AllMated}
 use Rattle.split.proofs.Lists.{keep-snoc, every-snoc, position-low}
 
 -- ---- rising lists
@@ -75,11 +75,11 @@ module _ (p h : ℕ) where
   odd-in (a ∷ []) q e n m = let f : a ≡ h = cc in in-rest a p [] q (λ g. n (g ∙ f)) m
   odd-in (a ∷ b ∷ l) q e n m = ap (λ (x : ℕ). if (eqb q a) b (if (eqb q b) a x)) (odd-in l q e n m)
 
-  pub odd-held : (l : List ℕ) → single l ≡ h ∷ [] → Apart l → partnerIn (l ++ (p ∷ [])) h ≡ p
-  odd-held [] e s = absurd (no-cons h [] (sym e))
-  odd-held (a ∷ []) e s = let f : a ≡ h = cc in in-first a p [] h (sym f)
-  odd-held (a ∷ b ∷ l) e s =
-      in-rest a b (l ++ (p ∷ [])) h (single-has (λ r. r ≢ a) l e (s .0 .1)) (single-has (λ r. r ≢ b) l e (s .1 .0)) ∙ odd-held l e (s .1 .1)
+  pub odd-pending : (l : List ℕ) → single l ≡ h ∷ [] → Apart l → partnerIn (l ++ (p ∷ [])) h ≡ p
+  odd-pending [] e s = absurd (no-cons h [] (sym e))
+  odd-pending (a ∷ []) e s = let f : a ≡ h = cc in in-first a p [] h (sym f)
+  odd-pending (a ∷ b ∷ l) e s =
+      in-rest a b (l ++ (p ∷ [])) h (single-has (λ r. r ≢ a) l e (s .0 .1)) (single-has (λ r. r ≢ b) l e (s .1 .0)) ∙ odd-pending l e (s .1 .1)
 
   pub odd-new : (l : List ℕ) → single l ≡ h ∷ [] → Every (λ r. r ≢ p) l → partnerIn (l ++ (p ∷ [])) p ≡ h
   odd-new [] e al = absurd (no-cons h [] (sym e))
@@ -130,33 +130,33 @@ module _ (table l : List ℕ) (p : ℕ) where
     here-below = every-map Here (λ r. r < p) (λ r a. a .0) here here-every
 
     -- the mates of those before p, and that of p
-    linked : (new : List ℕ) → ((r : ℕ) → r < p → Mated table mates l r → Mated table new (l ++ (p ∷ [])) r)
+    all-mated : (new : List ℕ) → ((r : ℕ) → r < p → Mated table mates l r → Mated table new (l ++ (p ∷ [])) r)
         → Mated table new (l ++ (p ∷ [])) p
         → Every (Mated table new (l ++ (p ∷ []))) (l ++ (p ∷ []))
-    linked new old own =
+    all-mated new old own =
         every-snoc (Mated table new (l ++ (p ∷ []))) l p (every-both (λ r. r < p) (Mated table mates l) (Mated table new (l ++ (p ∷ []))) old l below mated) own
 
     even-mated : single here ≡ [] → Every (Mated table (set (set mates p p) p p) (l ++ (p ∷ []))) (l ++ (p ∷ []))
     even-mated e =
-        linked (set (set mates p p) p p)
+        all-mated (set (set mates p p) p p)
         (λ r h m. getD-set-other (set mates p p) p r p 0 (omega arith) ∙ getD-set-other mates p r p 0 (omega arith) ∙ m ∙ mate-stays r (even-in here p r e))
         (getD-set-same (set mates p p) p p 0 (rw (length-set mates p p) p-lt) ∙ sym (mate-same p refl ∙ even-in here p p e ∙ in-none here p (every-map (λ r. r < p) (λ r. r ≢ p) (λ r a. omega arith) here here-below)))
 
     odd-mated : (h : ℕ) → single here ≡ h ∷ [] → Every (Mated table (set (set mates p h) h p) (l ++ (p ∷ []))) (l ++ (p ∷ []))
     odd-mated h e =
-        linked (set (set mates p h) h p)
-        (λ r g m. byEq r h (λ f. rw f held)
+        all-mated (set (set mates p h) h p)
+        (λ r g m. byEq r h (λ f. rw f latest)
         (λ n. getD-set-other (set mates p h) h r p 0 n ∙ getD-set-other mates p r h 0 (omega arith) ∙ m ∙ mate-stays r (odd-in p h here r e n (omega arith))))
         (getD-set-other (set mates p h) h p p 0 (omega (arith, h-is .0)) ∙ getD-set-same mates p h 0 p-lt ∙ sym (mate-same p refl ∙ odd-new p h here e (every-map (λ r. r < p) (λ r. r ≢ p) (λ r a. omega arith) here here-below)))
       where
         h-is : Here h
         h-is = single-has p h Here here e here-every
 
-        held : Mated table (set (set mates p h) h p) (l ++ (p ∷ [])) h
-        held =
+        latest : Mated table (set (set mates p h) h p) (l ++ (p ∷ [])) h
+        latest =
             getD-set-same (set mates p h) h p 0 (rw (length-set mates p h) (omega (arith, h-is .0)))
             ∙ sym (mate-same h (sym (eqb-true (portIn table h) (portIn table p) (h-is .1)))
-            ∙ odd-held p h here e (rising-apart 0 here (rising-keep (λ r. eqb (portIn table r) (portIn table p)) 0 l rising)))
+            ∙ odd-pending p h here e (rising-apart 0 here (rising-keep (λ r. eqb (portIn table r) (portIn table p)) 0 l rising)))
 
 -- ---- positions below 528
 pub set-low : (l : List ℕ) (a v r : ℕ) → getD l r 0 < 528 → v < 528 → getD (set l a v) r 0 < 528
@@ -175,71 +175,71 @@ choice-low true h p a c = a
 choice-low false h p a c = c
 
 -- ---- the state of the loop
-pub record Links (table odds : List ℕ) (i : ℕ) (mates held : List ℕ) (waits : ℕ) : Type 0 where
-  pub mates-low : Mates mates
-  pub held-low : (x : ℕ) → x < 64 → getD held x 0 < 528
-  pub helds : length held ≡ 64
+pub record Mating (table odds : List ℕ) (i : ℕ) (mates latest : List ℕ) (pending : ℕ) : Type 0 where
+  pub mates-low : MateTable mates
+  pub latest-low : (x : ℕ) → x < 64 → getD latest x 0 < 528
+  pub ports-64 : length latest ≡ 64
   pub mated : Every (Mated table mates (take i odds)) (take i odds)
-  pub ports : (x : ℕ) → x < 64 → Waits (waitsAt waits x) (getD held x 0) (thoseAt table x (take i odds))
+  pub ports : (x : ℕ) → x < 64 → Pends (pendsAt pending x) (getD latest x 0) (thoseAt table x (take i odds))
 
-pub waits-next : (b : Bool) (h : ℕ) (l : List ℕ) (p : ℕ) → Waits b h l → Waits (not b) p (l ++ (p ∷ []))
-waits-next true h l p o = odd-single p h l o
-waits-next false h l p o = even-single l p o
+pub pends-next : (b : Bool) (h : ℕ) (l : List ℕ) (p : ℕ) → Pends b h l → Pends (not b) p (l ++ (p ∷ []))
+pends-next true h l p o = odd-single p h l o
+pends-next false h l p o = even-single l p o
 
 mated-next : (table l : List ℕ) (p : ℕ) (mates : List ℕ) → Rising 0 (l ++ (p ∷ [])) → p < length mates → Every (Mated table mates l) l
-    → (b : Bool) (h q : ℕ) → Waits b h (thoseAt table (portIn table p) l) → q ≡ if b h p
+    → (b : Bool) (h q : ℕ) → Pends b h (thoseAt table (portIn table p) l) → q ≡ if b h p
     → Every (Mated table (set (set mates p q) q p) (l ++ (p ∷ []))) (l ++ (p ∷ []))
 mated-next table l p mates up p-lt mated true h q o e = let s = rising-snoc 0 l p up in rw e (odd-mated table l p mates (s .0) (s .1) p-lt mated h o)
 mated-next table l p mates up p-lt mated false h q o e = let s = rising-snoc 0 l p up in rw e (even-mated table l p mates (s .0) (s .1) p-lt mated o)
 
 -- one waits after one more where none did, and the other way round; elsewhere as before
-waits-turned : (waits x next : ℕ) → TurnedAt waits x next → waitsAt next x ≡ not (waitsAt waits x)
-waits-turned waits x next t =
-    byEq (digit waits x) 1
-    (λ e. ne-eqb (digit next x) 1 (omega (arith, t .here)) ∙ sym (ap not (eq-eqb (digit waits x) 1 e)))
-    (λ n. eq-eqb (digit next x) 1 (omega (arith, t .here, digit-most waits x)) ∙ sym (ap not (ne-eqb (digit waits x) 1 n)))
+pends-flipped : (pending x next : ℕ) → FlippedAt pending x next → pendsAt next x ≡ not (pendsAt pending x)
+pends-flipped pending x next t =
+    byEq (digit pending x) 1
+    (λ e. ne-eqb (digit next x) 1 (omega (arith, t .here)) ∙ sym (ap not (eq-eqb (digit pending x) 1 e)))
+    (λ n. eq-eqb (digit next x) 1 (omega (arith, t .here, digit-most pending x)) ∙ sym (ap not (ne-eqb (digit pending x) 1 n)))
 
-module _ (table l : List ℕ) (p : ℕ) (held : List ℕ) (waits next : ℕ) (hl : length held ≡ 64) (turn : TurnedAt waits (portIn table p) next)
-    (ports : (x : ℕ) → x < 64 → Waits (waitsAt waits x) (getD held x 0) (thoseAt table x l)) where
-  ports-next : (x : ℕ) → x < 64 → Waits (waitsAt next x) (getD (set held (portIn table p) p) x 0) (thoseAt table x (l ++ (p ∷ [])))
+module _ (table l : List ℕ) (p : ℕ) (latest : List ℕ) (pending next : ℕ) (hl : length latest ≡ 64) (flip : FlippedAt pending (portIn table p) next)
+    (ports : (x : ℕ) → x < 64 → Pends (pendsAt pending x) (getD latest x 0) (thoseAt table x l)) where
+  ports-next : (x : ℕ) → x < 64 → Pends (pendsAt next x) (getD (set latest (portIn table p) p) x 0) (thoseAt table x (l ++ (p ∷ [])))
   ports-next x h =
       byEq x (portIn table p)
       (λ e.
       let lt : portIn table p < 64 = mod-lt (lookup table p) {m = 64} (omega arith) in
-      rw (e, waits-turned waits (portIn table p) next turn, getD-set-same held (portIn table p) p 0 (omega arith), same-port table l p)
-      (waits-next (waitsAt waits (portIn table p)) (getD held (portIn table p) 0) (thoseAt table (portIn table p) l) p (ports (portIn table p) lt)))
+      rw (e, pends-flipped pending (portIn table p) next flip, getD-set-same latest (portIn table p) p 0 (omega arith), same-port table l p)
+      (pends-next (pendsAt pending (portIn table p)) (getD latest (portIn table p) 0) (thoseAt table (portIn table p) l) p (ports (portIn table p) lt)))
       (λ n.
       let n′ : portIn table p ≢ x = λ e. n (sym e) in
-      let same : waitsAt next x ≡ waitsAt waits x = ap (λ (d : ℕ). eqb d 1) (turn .others x n) in
-      rw (same, getD-set-other held (portIn table p) x p 0 n, other-port table l p x n′) (ports x h))
+      let same : pendsAt next x ≡ pendsAt pending x = ap (λ (d : ℕ). eqb d 1) (flip .others x n) in
+      rw (same, getD-set-other latest (portIn table p) x p 0 n, other-port table l p x n′) (ports x h))
 
-pub links-start : {table odds mates held : List ℕ} → Mates mates → Free held → Links table odds 0 mates held 0
-links-start m f =
+pub mates-start : {table odds mates latest : List ℕ} → MateTable mates → Free latest → Mating table odds 0 mates latest 0
+mates-start m f =
     record {
       mates-low = m;
-      held-low = λ x h. omega (arith, f .low x h);
-      helds = f .helds;
+      latest-low = λ x h. omega (arith, f .low x h);
+      ports-64 = f .ports-64;
       mated = tt;
       ports = λ x h. rw (ne-eqb (digit 0 x) 1 (omega (arith, digit-none x))) refl;
     }
 
 pub all-free : Free (replicate 64 0)
-all-free = record { helds = length-replicate {A = ℕ} 64 0; low = λ x h. getD-replicate 64 x 0 0 h }
+all-free = record { ports-64 = length-replicate {A = ℕ} 64 0; low = λ x h. getD-replicate 64 x 0 0 h }
 
-pub other-low : {table odds : List ℕ} {i : ℕ} {mates held : List ℕ} {waits p x q t k : ℕ} {b : Bool}
-    → Links table odds i mates held waits → Odds odds k → i < k → p ≡ getD odds i 0 → x < 64
-    → b ≡ waitsAt waits x → q ≡ if b (getD held x 0) p → t ≡ q → t < 528
-other-low {held = held} {p = p} {x} {b = b} s o h e y w u v = rw (v, u) (choice-low b (getD held x 0) p (s .held-low x y) (own-low o h e refl))
+pub other-low : {table odds : List ℕ} {i : ℕ} {mates latest : List ℕ} {pending p x q t k : ℕ} {b : Bool}
+    → Mating table odds i mates latest pending → Odds odds k → i < k → p ≡ getD odds i 0 → x < 64
+    → b ≡ pendsAt pending x → q ≡ if b (getD latest x 0) p → t ≡ q → t < 528
+other-low {latest = latest} {p = p} {x} {b = b} s o h e y w u v = rw (v, u) (choice-low b (getD latest x 0) p (s .latest-low x y) (own-low o h e refl))
 
-pub links-on : {table odds : List ℕ} {i : ℕ} {mates held : List ℕ} {waits p a x q t k next : ℕ} {b : Bool}
-    → Links table odds i mates held waits → i < k → Odds odds k → p ≡ getD odds i 0 → a ≡ p → x ≡ getD table a 0 % 64 → b ≡ waitsAt waits x → q ≡ if b (getD held x 0) p → t ≡ q
-    → TurnedAt waits x next → Links table odds (i + 1) (set (set mates a q) t p) (set held x p) next
-links-on {table} {odds} {i} {mates} {held} {waits} {p} {a} {x} {q} {t} {k} {next} {b} s h o e f y w u v turn =
+pub mates-on : {table odds : List ℕ} {i : ℕ} {mates latest : List ℕ} {pending p a x q t k next : ℕ} {b : Bool}
+    → Mating table odds i mates latest pending → i < k → Odds odds k → p ≡ getD odds i 0 → a ≡ p → x ≡ getD table a 0 % 64 → b ≡ pendsAt pending x → q ≡ if b (getD latest x 0) p → t ≡ q
+    → FlippedAt pending x next → Mating table odds (i + 1) (set (set mates a q) t p) (set latest x p) next
+mates-on {table} {odds} {i} {mates} {latest} {pending} {p} {a} {x} {q} {t} {k} {next} {b} s h o e f y w u v flip =
     let g : i < length odds = omega (arith, o .positions .len, o .positions .most) in
     let a-lt = own-low o h e f in
     let x′ : x ≡ portIn table p = y ∙ ap (portIn table) f in
     let l′ : take (i + 1) odds ≡ take i odds ++ (p ∷ []) = rw (add-one, e) (take-suc odds i 0 g) in
-    let u′ : q ≡ if (waitsAt waits (portIn table p)) (getD held (portIn table p) 0) p = rw (w, x′) at u in
+    let u′ : q ≡ if (pendsAt pending (portIn table p)) (getD latest (portIn table p) 0) p = rw (w, x′) at u in
     let lt : portIn table p < 64 = mod-lt (lookup table p) {m = 64} (omega arith) in
     let p-lt : p < length mates = omega (arith, s .mates-low .len) in
     let up′ = rw l′ at (rising-take 0 (i + 1) k odds (omega arith) (o .rising)) in
@@ -249,19 +249,19 @@ links-on {table} {odds} {i} {mates} {held} {waits} {p} {a} {x} {q} {t} {k} {next
         len = length-set (set mates a q) t p ∙ length-set mates a q ∙ s .mates-low .len;
         low = λ r. set-low (set mates a q) t p r (set-low mates a q r (s .mates-low .low r) q-lt) (omega arith);
       };
-      held-low = λ y b. set-low held x p y (s .held-low y b) (omega arith);
-      helds = length-set held x p ∙ s .helds;
+      latest-low = λ y b. set-low latest x p y (s .latest-low y b) (omega arith);
+      ports-64 = length-set latest x p ∙ s .ports-64;
       mated = rw (l′, v, f)
-          (mated-next table (take i odds) p mates up′ p-lt (s .mated) (waitsAt waits (portIn table p)) (getD held (portIn table p) 0) q (s .ports (portIn table p) lt) u′);
-      ports = rw (l′, x′) (ports-next table (take i odds) p held waits next (s .helds) (rw x′ at turn) (s .ports));
+          (mated-next table (take i odds) p mates up′ p-lt (s .mated) (pendsAt pending (portIn table p)) (getD latest (portIn table p) 0) q (s .ports (portIn table p) lt) u′);
+      ports = rw (l′, x′) (ports-next table (take i odds) p latest pending next (s .ports-64) (rw x′ at flip) (s .ports));
     }
 
-module _ {table odds : List ℕ} {i k : ℕ} {mates held : List ℕ} {waits : ℕ} (s : Links table odds i mates held waits) (a : i ≤ k) (b : k ≤ i) where
-  all-linked : k ≡ i
-  all-linked = omega arith
+module _ {table odds : List ℕ} {i k : ℕ} {mates latest : List ℕ} {pending : ℕ} (s : Mating table odds i mates latest pending) (a : i ≤ k) (b : k ≤ i) where
+  all-taken : k ≡ i
+  all-taken = omega arith
 
-  pub links-mated : Linked table odds k mates
-  links-mated = record { mates-low = s .mates-low; same = rw all-linked (s .mated) }
+  pub mates-all : AllMated table odds k mates
+  mates-all = record { mates-low = s .mates-low; same = rw all-taken (s .mated) }
 
-  pub links-held : Held table odds k held waits
-  links-held = record { waiting = record { helds = s .helds; low = s .held-low }; ports = rw all-linked (s .ports) }
+  pub mates-pending : PendingBy table odds k latest pending
+  mates-pending = record { known = record { ports-64 = s .ports-64; low = s .latest-low }; ports = rw all-taken (s .ports) }
