@@ -41,10 +41,10 @@ pub record RightFrame (ports slots : ℕ) (list entries : List ℕ) : Type 0 whe
   pub each-right : (q : ℕ) → q < length entries → right list (q % ports) (getD entries q 0) ≡ true
 
 -- An entry of an input is right there.
-pub record RightAt (ports : ℕ) (list : List ℕ) (portOn input entry : ℕ) : Type 0 where
+pub record RightAt (ports : ℕ) (list : List ℕ) (i entry : ℕ) : Type 0 where
   pub switch : Switch ports list
-  pub at : (portOn input) < ports
-  pub is : right list (portOn input) entry ≡ true
+  pub at : i < ports
+  pub is : right list i entry ≡ true
 
 -- A tally has its places, and no number above a limit.
 pub record Room (limit : ℕ) (tally : List ℕ) : Type 0 where
