@@ -6,7 +6,7 @@ ghost use lib.Dec.{ltb};
 ghost use lib.IntN.{pos, _-ℤ_};
 ghost use lib.ListN.{length};
 ghost use Rattle.rules.specs.Words.{bit};
-ghost use Rattle.rules.specs.Flows.{output};
+ghost use Rattle.rules.specs.Flows.{portOn, output};
 ghost use Rattle.rules.specs.Frames.{counts, cells, runOf, repeated};
 ghost use Rattle.calls.specs.Service.{classOf, whoWithin, lead, served, service};
 ghost use Rattle.service.specs.Whom.{Sent, whoNumber, WhoNumbered, Named, firstEntry, nextEntry, Framed, CountAsked};
@@ -76,7 +76,7 @@ fn next_entry(ports: usize, who: Who) -> usize
 // An entry is a flow of an output.
 fn sends_to(list: &[u16], entry: usize, to: usize) -> bool
     requires { ⌜ Sent (now list) × (1 ≤ to) ⌝ }
-    ensures { λ r. ⌜ r ≡ counts (output (to - 1)) (now (list .entry)) 0 entry ⌝ }
+    ensures { λ r. ⌜ r ≡ counts (portOn output (to - 1)) (now (list .entry)) 0 entry ⌝ }
 {
     if entry == 0 {
         return false;
