@@ -2,8 +2,9 @@
 
 use crate::frame::Frame;
 use crate::legend::{draw_outputs, width_of_outputs, Flows};
-use crate::palette::PALETTE;
-use crate::svg::{count, number, Page, Path};
+use crate::look::{looks_of, Look};
+use crate::svg::{count, Page};
+use crate::tiles::{Tile, Tiles};
 
 const MARGIN: f64 = 20.0;
 const LEFT: f64 = 64.0;
@@ -38,9 +39,9 @@ struct Layout {
 impl Layout {
     /// Bands of 64 slots, with numbers in the cells, or of 128 where the page would grow too tall.
     fn of(frame: &Frame) -> Layout {
-        let written = Layout::in_bands(frame, 64);
-        if written.height() <= TALLEST {
-            return written;
+        let short = Layout::in_bands(frame, 64);
+        if short.height() <= TALLEST {
+            return short;
         }
         Layout::in_bands(frame, 128)
     }
@@ -86,6 +87,16 @@ impl Layout {
         (x + (self.wide - GAP) / 2.0, y + (self.high - GAP) / 2.0)
     }
 
+    /// The size at which the number of each of so many flows has room in a cell; none where the cells are too small.
+    fn digits(&self, flows: usize) -> Option<f64> {
+        if self.wide < SMALLEST_WRITTEN {
+            return None;
+        }
+        let digits = flows.to_string().len() as f64;
+        let room = (self.wide - GAP - 1.0) / (digits * DIGIT);
+        Some((self.wide * 0.58).min(room).min(16.0).floor())
+    }
+
     /// The first slot of each band.
     fn firsts(&self) -> impl Iterator<Item = usize> {
         (0..self.slots).step_by(self.band)
@@ -109,18 +120,22 @@ impl Layout {
 /// The picture of a frame.
 pub fn draw_frame(frame: &Frame) -> String {
     let layout = Layout::of(frame);
-    let (width, below) = (layout.width(), layout.height());
-    let flows = Flows::of(frame.list(), (MARGIN, below), width - 2.0 * MARGIN);
+    let below = layout.height();
+    let looks = looks_of(frame.list());
+    let flows = Flows::of(
+        frame.list(),
+        &looks,
+        (MARGIN, below),
+        layout.width() - 2.0 * MARGIN,
+    );
     let ports = count(layout.ports, "port");
     let title = format!("Frame of {ports} and {}", count(layout.slots, "slot"));
+    let width = layout.width().max(flows.width() + 2.0 * MARGIN);
     let mut page = Page::new((width, below + flows.height()), &title);
-    page.heading(MARGIN, &title, &subtitle(frame));
+    let cells = cells_of(frame, &layout, &looks);
+    page.heading(MARGIN, &title, &subtitle(frame, &cells));
     draw_outputs(&mut page, (MARGIN, 64.0), layout.ports);
-    draw_cells(&mut page, frame, &layout);
-    if layout.wide >= SMALLEST_WRITTEN {
-        write_cells(&mut page, frame, &layout, "#000");
-        write_cells(&mut page, frame, &layout, "#fff");
-    }
+    cells.draw(&mut page);
     write_slots(&mut page, &layout);
     write_inputs(&mut page, &layout);
     name_axes(&mut page, &layout);
@@ -128,58 +143,44 @@ pub fn draw_frame(frame: &Frame) -> String {
     page.finish()
 }
 
-fn subtitle(frame: &Frame) -> String {
+fn subtitle(frame: &Frame, cells: &Tiles) -> String {
     let entries = frame.entries().iter();
     let idle = entries.filter(|&&entry| entry == 0).count();
-    let cells = count(frame.entries().len() - idle, "cell");
+    let sent = count(frame.entries().len() - idle, "cell");
     let idle = count(idle, "place");
-    format!("The flow that each input sends a cell of in each slot: {cells}, {idle} idle")
+    let small = match cells.digits {
+        Some(_) => "",
+        None => ". They are too small for numbers: a browser shows the flow at the pointer",
+    };
+    format!("The flow that each input sends a cell of in each slot: {sent}, {idle} idle{small}")
 }
 
-/// A path for each colour.
-fn draw_cells(page: &mut Page, frame: &Frame, layout: &Layout) {
-    let thick = number(layout.high - GAP);
-    page.put(&format!(
-        "<g stroke-width=\"{thick}\" shape-rendering=\"crispEdges\">"
-    ));
-    let paths = cell_paths(frame, layout);
-    let used = paths.iter().zip(&PALETTE).filter(|used| !used.0.is_empty());
-    for (path, colour) in used {
-        page.path(path, &format!("stroke=\"{}\"", colour.fill));
+/// The cells of a frame, and its idle places.
+fn cells_of(frame: &Frame, layout: &Layout, looks: &[Look]) -> Tiles {
+    let rows = frame.rows().enumerate();
+    let tiles = rows.flat_map(|(slot, row)| {
+        let entries = row.iter().enumerate();
+        entries.map(move |(input, &entry)| Tile {
+            flow: entry.into(),
+            look: looks[usize::from(entry)],
+            corner: layout.corner(slot, input),
+            title: Some(title_of(frame, entry, slot, input)),
+        })
+    });
+    Tiles {
+        size: (layout.wide - GAP, layout.high - GAP),
+        digits: layout.digits(frame.list().len()),
+        tiles: tiles.collect(),
     }
-    page.put("</g>");
 }
 
-/// The cells of each colour, a thick dash for each of them.
-fn cell_paths(frame: &Frame, layout: &Layout) -> [Path; PALETTE.len()] {
-    let mut paths: [Path; PALETTE.len()] = Default::default();
-    for (slot, input, entry) in cells_of(frame) {
-        let path = &mut paths[frame.output_of(entry)];
-        path.start(layout.corner(slot, input).0, layout.middle(slot, input).1);
-        path.across_by(layout.wide - GAP);
+/// What a browser shows of a cell.
+fn title_of(frame: &Frame, entry: u16, slot: usize, input: usize) -> String {
+    let (input, slot) = (input + 1, slot + 1);
+    match frame.output_of(entry) {
+        0 => format!("idle, input {input}, slot {slot}"),
+        output => format!("flow {entry}, input {input}, output {output}, slot {slot}"),
     }
-    paths
-}
-
-/// The flows' numbers in the cells that are written on with this ink.
-fn write_cells(page: &mut Page, frame: &Frame, layout: &Layout, ink: &str) {
-    let size = size_of_digits(layout, frame.list().len());
-    page.put(&format!(
-        "<g font-size=\"{size}\" text-anchor=\"middle\" fill=\"{ink}\">"
-    ));
-    let inked = |entry: u16| entry != 0 && PALETTE[frame.output_of(entry)].ink == ink;
-    for (slot, input, entry) in cells_of(frame).filter(|cell| inked(cell.2)) {
-        let (x, y) = layout.middle(slot, input);
-        page.text((x, y + size * 0.36), "", &entry.to_string());
-    }
-    page.put("</g>");
-}
-
-/// The size at which every flow's number has room in a cell.
-fn size_of_digits(layout: &Layout, flows: usize) -> f64 {
-    let digits = flows.to_string().len() as f64;
-    let room = (layout.wide - GAP - 1.0) / (digits * DIGIT);
-    (layout.wide * 0.58).min(room).min(16.0).floor()
 }
 
 /// The slots' numbers above each band.
@@ -217,19 +218,13 @@ fn name_axes(page: &mut Page, layout: &Layout) {
     page.put("</g>");
 }
 
-/// The slot, the input and the entry of each cell.
-fn cells_of(frame: &Frame) -> impl Iterator<Item = (usize, usize, u16)> + '_ {
-    let rows = frame.rows().enumerate();
-    rows.flat_map(|(slot, row)| {
-        let entries = row.iter().enumerate();
-        entries.map(move |(input, &entry)| (slot, input, entry))
-    })
-}
-
 #[cfg(test)]
 mod tests {
+    use frame_builder::Flow;
+
     use super::*;
-    use crate::frame::tests::{sheet, table7};
+    use crate::frame::tests::{frame_of, sheet, table7};
+    use crate::request::HELP;
 
     fn idle(ports: usize, slots: usize) -> Frame {
         Frame::build(sheet(ports, slots, &[])).unwrap()
@@ -270,13 +265,114 @@ mod tests {
     #[test]
     fn table_7_has_a_dash_for_each_cell() {
         let drawn = draw_frame(&table7());
-        let cells = "<path d=\"M64 143.5h43M108 275.5h43M152 143.5h43\" stroke=\"#d7263d\"/>";
-        assert!(drawn.contains(cells), "{drawn}");
+        let red = "<g stroke=\"#d7263d\">\n\
+                   <path d=\"M64 143.5h43\"><title>flow 1, input 1, output 1, slot 1</title></path>\n\
+                   <path d=\"M108 275.5h43\"><title>flow 3, input 4, output 1, slot 2</title></path>\n\
+                   <path d=\"M152 143.5h43\"><title>flow 1, input 1, output 1, slot 3</title></path>\n</g>";
+        assert!(drawn.contains(red), "{drawn}");
         assert!(drawn.contains("<title>Frame of 4 ports and 4 slots</title>"));
-        assert!(drawn.contains("8 cells, 8 places idle"));
+        assert!(drawn.contains("8 cells, 8 places idle<"));
         // Flow 5, to output 4: two numbers in the cells and one in the legend, with its words.
         assert_eq!(drawn.matches(">5</text>").count(), 3);
-        assert!(drawn.contains(">4 \u{2192} 4, 2</text>"));
+        assert!(drawn.contains(">4 \u{2192} 4, 2 cells</text>"));
+        assert!(drawn.contains(">4 \u{2192} 2, 1 cell</text>"));
+    }
+
+    /// The titles of a frame, but for the page's own.
+    fn titles(frame: &Frame) -> Vec<String> {
+        let drawn = draw_frame(frame);
+        let pieces = drawn.split("<title>").skip(2);
+        let titles = pieces.map(|piece| piece.split_once("</title>").unwrap().0.to_string());
+        titles.collect()
+    }
+
+    #[test]
+    fn each_cell_has_a_title() {
+        for text in [
+            include_str!("../../../examples/table7.sheet"),
+            include_str!("../../../examples/sound-and-picture.sheet"),
+            include_str!("../../../examples/largest.sheet"),
+        ] {
+            let frame = frame_of(text);
+            let mut wanted = Vec::new();
+            for (slot, row) in (1..).zip(frame.rows()) {
+                for (input, &flow) in (1..).zip(row) {
+                    wanted.push(match flow.checked_sub(1) {
+                        None => format!("idle, input {input}, slot {slot}"),
+                        Some(place) => {
+                            let output = frame.list()[usize::from(place)].output;
+                            format!("flow {flow}, input {input}, output {output}, slot {slot}")
+                        }
+                    });
+                }
+            }
+            let mut titles = titles(&frame);
+            titles.sort();
+            wanted.sort();
+            assert!(titles == wanted);
+        }
+    }
+
+    /// Flow 2 has the same ports as flow 1, and flow 4 as flow 3.
+    #[test]
+    fn sound_looks_other_than_picture() {
+        let frame = frame_of(include_str!("../../../examples/sound-and-picture.sheet"));
+        let looks = looks_of(frame.list());
+        let cells = cells_of(&frame, &Layout::of(&frame), &looks);
+        for tile in &cells.tiles {
+            assert_eq!(tile.look.field().is_some(), [2, 4].contains(&tile.flow));
+        }
+        let fields = draw_frame(&frame).matches("stroke=\"#d1dcf5\"").count();
+        assert_eq!(
+            fields, 2,
+            "a cell of flow 2 in the frame, and its colour in the legend"
+        );
+    }
+
+    /// The help names the frames whose cells have no numbers.
+    #[test]
+    fn cells_are_numbered_as_the_help_says() {
+        let help: Vec<&str> = HELP.split_whitespace().collect();
+        let small = "with 512 slots and more than 7 ports, or with 1,024 slots and more than 2 ports, the cells are too small for numbers";
+        assert!(help.join(" ").contains(small));
+        for (ports, k) in (1..=16).flat_map(|ports| (0..=10).map(move |k| (ports, k))) {
+            let small = (k == 9 && ports > 7) || (k == 10 && ports > 2);
+            let layout = Layout::of(&idle(ports, 1 << k));
+            assert_eq!(layout.digits(512).is_none(), small, "{ports} {k}");
+        }
+    }
+
+    #[test]
+    fn a_picture_without_numbers_says_so() {
+        let words = "They are too small for numbers: a browser shows the flow at the pointer<";
+        for (ports, slots, small) in [(2, 1_024, false), (3, 1_024, true), (16, 256, false)] {
+            let mut list = [Flow::new(1, 1, 0); 17];
+            list[16].cells = 1;
+            let drawn = draw_frame(&Frame::build(sheet(ports, slots, &list)).unwrap());
+            assert_eq!(drawn.contains(words), small);
+            // No port and no numbered slot is 17: the flow has its number in the legend, and in its cell where that has room.
+            let numbers = drawn.matches("\">17</text>").count();
+            assert_eq!(numbers, if small { 1 } else { 2 });
+        }
+    }
+
+    /// As many flows as a list can have, of no cells, beside any frame.
+    #[test]
+    fn the_legend_is_not_higher_than_the_picture() {
+        for (ports, slots) in [(1, 1), (4, 4), (16, 16), (16, 64), (2, 1_024), (16, 1_024)] {
+            for flows in [1, 5, 60, 256, 512] {
+                let list = vec![Flow::new(1, 1, 0); flows];
+                let looks = looks_of(&list);
+                let layout = Layout::of(&idle(ports, slots));
+                let (top, width) = (layout.height(), layout.width() - 2.0 * MARGIN);
+                let legend = Flows::of(&list, &looks, (MARGIN, top), width);
+                assert!(legend.height() <= top, "{ports} {slots} {flows}");
+                let drawn = draw_frame(&Frame::build(sheet(ports, slots, &list)).unwrap());
+                let wide = layout.width().max(legend.width() + 2.0 * MARGIN);
+                let size = format!("width=\"{wide}\" height=\"{}\" ", top + legend.height());
+                assert!(drawn.contains(&size), "{size}");
+            }
+        }
     }
 
     #[test]
@@ -285,7 +381,7 @@ mod tests {
             let layout = Layout::of(&idle(16, slots));
             for flows in [9, 99, 512] {
                 let digits = flows.to_string().len() as f64;
-                let size = size_of_digits(&layout, flows);
+                let size = layout.digits(flows).unwrap();
                 assert!(size >= 6.0 && size * DIGIT * digits < layout.wide);
             }
         }

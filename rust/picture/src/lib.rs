@@ -10,10 +10,12 @@ mod course;
 mod frame;
 mod grid;
 mod legend;
+mod look;
 mod palette;
 mod request;
 mod sheet;
 mod svg;
+mod tiles;
 
 pub use chart::draw_course;
 pub use course::Course;

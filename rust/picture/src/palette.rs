@@ -35,18 +35,35 @@ pub const PALETTE: [Colour; 17] = [
     light("#c9a7ff"),
 ];
 
-#[cfg(test)]
-mod tests {
-    use super::*;
+/// The same hue, almost white.
+pub fn lighter(fill: &str) -> String {
+    changed(fill, |part| 0.22 * part + 0.78)
+}
 
-    /// The red, green and blue of `#rgb` or `#rrggbb`, 0 to 1.
-    fn parts(colour: &str) -> [f64; 3] {
-        let digits = &colour[1..];
-        let wide = digits.len() / 3;
-        let most = (16_u32.pow(wide as u32) - 1) as f64;
-        let part = |place: usize| &digits[place * wide..(place + 1) * wide];
-        [0, 1, 2].map(|place| u32::from_str_radix(part(place), 16).unwrap() as f64 / most)
-    }
+/// The same hue, almost black.
+pub fn darker(fill: &str) -> String {
+    changed(fill, |part| 0.3 * part)
+}
+
+fn changed(fill: &str, change: impl Fn(f64) -> f64) -> String {
+    let [red, green, blue] = parts(fill).map(|part| (255.0 * change(part)).round() as u8);
+    format!("#{red:02x}{green:02x}{blue:02x}")
+}
+
+/// The red, green and blue of `#rgb` or `#rrggbb`, 0 to 1.
+fn parts(colour: &str) -> [f64; 3] {
+    let digits = &colour[1..];
+    let wide = digits.len() / 3;
+    let most = f64::from(16_u32.pow(wide as u32) - 1);
+    let part = |place: usize| &digits[place * wide..(place + 1) * wide];
+    let value =
+        |place| u32::from_str_radix(part(place), 16).expect("a colour has hexadecimal digits");
+    [0, 1, 2].map(|place| f64::from(value(place)) / most)
+}
+
+#[cfg(test)]
+pub mod tests {
+    use super::*;
 
     /// The relative luminance of the contrast rules for web pages.
     fn luminance(colour: &str) -> f64 {
@@ -60,11 +77,22 @@ mod tests {
         0.2126 * red + 0.7152 * green + 0.0722 * blue
     }
 
+    /// How well one colour is read on the other, by those rules.
+    pub fn contrast(one: &str, other: &str) -> f64 {
+        let (one, other) = (luminance(one), luminance(other));
+        (one.max(other) + 0.05) / (one.min(other) + 0.05)
+    }
+
+    /// The square of the distance between two colours.
+    pub fn distance(one: &str, other: &str) -> f64 {
+        let (one, other) = (parts(one), parts(other));
+        (0..3).map(|part| (one[part] - other[part]).powi(2)).sum()
+    }
+
     #[test]
     fn numbers_stand_out_from_their_cells() {
         for Colour { fill, ink } in PALETTE {
-            let (one, other) = (luminance(fill), luminance(ink));
-            let contrast = (one.max(other) + 0.05) / (one.min(other) + 0.05);
+            let contrast = contrast(fill, ink);
             assert!(contrast >= 4.5, "{ink} on {fill}: {contrast}");
         }
     }
@@ -73,9 +101,14 @@ mod tests {
     fn colours_are_apart() {
         let places = (0..PALETTE.len()).flat_map(|one| (0..one).map(move |other| (one, other)));
         for (one, other) in places {
-            let (left, right) = (parts(PALETTE[one].fill), parts(PALETTE[other].fill));
-            let apart = (0..3).map(|part| (left[part] - right[part]).powi(2));
-            assert!(apart.sum::<f64>() >= 0.05, "{one} and {other}");
+            let apart = distance(PALETTE[one].fill, PALETTE[other].fill);
+            assert!(apart >= 0.05, "{one} and {other}");
         }
+    }
+
+    #[test]
+    fn lighter_and_darker() {
+        assert_eq!(lighter("#000"), "#c7c7c7");
+        assert_eq!(darker("#ff6400"), "#4d1e00");
     }
 }

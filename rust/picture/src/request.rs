@@ -8,7 +8,7 @@ use crate::sheet::number;
 pub const HELP: &str = "\
 picture: draws the frame of a reservation sheet, as an SVG file on standard output
 
-  ./picture frame [SHEET]           slots across, inputs down, a colour for each output, a number for each flow
+  ./picture frame [SHEET]           slots across, inputs down, a colour for each output, a number for each flow where it has room
   ./picture flow F [SHEET]          flow F ahead of its share, or behind, along the frame
   ./picture input I [SHEET]         the same of all cells of input I
   ./picture output O [SHEET]        the same of all cells of output O
@@ -16,6 +16,17 @@ picture: draws the frame of a reservation sheet, as an SVG file on standard outp
 
 SHEET is a file; for - and without a name the sheet is read from standard input. ./frame --help says what a sheet looks like. Its
 first pair line is flow 1, the next one flow 2, and so on. The frame is the one that ./frame prints.
+
+The frame: each cell has the number of its flow. But with 512 slots and more than 7 ports, or with 1,024 slots and more than 2
+ports, the cells are too small for numbers. At any size, open the file in a browser and point at a cell: the browser shows its
+flow, input, output and slot.
+
+The colour of a cell is that of its output, whatever its input. Flows with the same input and the same output are told apart by a
+lighter or darker field on that colour: the first such flow has none, and each of the next six has another one. The eighth looks
+like the first again. Idle places are grey.
+
+The legend has a line for each flow: input, output, and cells in the frame. It is folded into columns, so that it is not higher
+than the picture above it. Where the columns need more room than the picture is wide, the page is wider.
 
 Ahead of its share: after t slots, the cells so far less t x m / 2^k, where m is the cells in the whole frame of 2^k slots. That
 is the lead that Service count answers for the first t slots, over 2^k. The line is level from a slot's end to the next one's.

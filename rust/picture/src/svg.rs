@@ -58,6 +58,15 @@ impl Page {
         self.put(&format!("<path d=\"{}\" {attributes}/>", path.data));
     }
 
+    /// A path with the words that a browser shows while the pointer is on it.
+    pub fn titled_path(&mut self, path: &Path, title: Option<&str>) {
+        let data = &path.data;
+        match title.map(escaped) {
+            Some(title) => self.put(&format!("<path d=\"{data}\"><title>{title}</title></path>")),
+            None => self.put(&format!("<path d=\"{data}\"/>")),
+        }
+    }
+
     /// The file's text.
     pub fn finish(self) -> String {
         format!("{}{}</svg>\n", self.head, self.body)
@@ -71,10 +80,6 @@ pub struct Path {
 }
 
 impl Path {
-    pub fn is_empty(&self) -> bool {
-        self.data.is_empty()
-    }
-
     #[cfg(test)]
     pub fn data(&self) -> &str {
         &self.data
@@ -114,9 +119,14 @@ pub fn number(value: f64) -> String {
     trimmed(format!("{value:.2}"))
 }
 
-/// A number for readers: its sign, and at most three digits after the point.
+/// A number for readers: at most three digits after the point.
+pub fn decimal(value: f64) -> String {
+    trimmed(format!("{value:.3}"))
+}
+
+/// The same with its sign.
 pub fn signed(value: f64) -> String {
-    let digits = trimmed(format!("{value:.3}"));
+    let digits = decimal(value);
     if digits == "0" {
         return digits;
     }
@@ -147,6 +157,16 @@ pub fn grouped(value: usize) -> String {
 pub fn count(value: usize, word: &str) -> String {
     let ending = if value == 1 { "" } else { "s" };
     format!("{} {word}{ending}", grouped(value))
+}
+
+/// About the width of words that are one high, in the widest of the fonts.
+pub fn width_of(words: &str) -> f64 {
+    let width = |letter: char| match letter {
+        'l' | ' ' | ',' => 0.32,
+        '\u{2192}' => 0.84,
+        _ => 0.64,
+    };
+    words.chars().map(width).sum()
 }
 
 fn escaped(words: &str) -> String {
@@ -182,7 +202,6 @@ mod tests {
     #[test]
     fn a_path_is_its_pieces() {
         let mut path = Path::default();
-        assert!(path.is_empty());
         path.start(1.0, 2.0);
         path.across_to(5.0);
         path.across_by(6.0);

@@ -3,7 +3,7 @@
 use std::fs;
 use std::path::PathBuf;
 
-use picture::{draw, draw_frame, Frame, Request, Sheet};
+use picture::{draw, draw_frame, Frame, Picture, Request, Sheet};
 
 fn from_top(path: &str) -> PathBuf {
     PathBuf::from(env!("CARGO_MANIFEST_DIR"))
@@ -52,6 +52,14 @@ fn one_cell_flows() {
     let before = Frame::of_entries(sheet, entries).unwrap();
     let again = "the frame with flows 1 to 16 in slot 1";
     hold_drawn(&draw_frame(&before), "sixteen-before", again);
+}
+
+/// As many ports, slots, flows and cells as there can be; half of the flows have the same ports as the others.
+#[test]
+fn the_largest_is_of_moderate_size() {
+    let drawn = draw(Picture::Frame, &sheet_of("largest")).unwrap();
+    assert_eq!(drawn.matches("<title>flow ").count(), 16 * 1_024);
+    assert!(drawn.len() < 3_000_000, "{} bytes", drawn.len());
 }
 
 #[test]
