@@ -1,14 +1,19 @@
 //! The picture of a flow, an input or an output: how far it is ahead of its share along the frame.
 
-use crate::course::Course;
-use crate::svg::{count, dot, signed, Page, Path};
+use frame_builder::Who;
 
-const SIZE: (f64, f64) = (1_200.0, 560.0);
+use crate::course::{Course, Run};
+use crate::svg::{count, decimal, dot, grouped, signed, Page, Path};
+
+const SIZE: (f64, f64) = (1_200.0, 652.0);
 const MARGIN: f64 = 20.0;
 const LEFT: f64 = 84.0;
 const RIGHT: f64 = 1_136.0;
 const TOP: f64 = 104.0;
 const BOTTOM: f64 = 496.0;
+/// The first line of the words below the chart, and the height of a line.
+const WORDS: f64 = 578.0;
+const LINE_HEIGHT: f64 = 18.0;
 /// The most slots whose ends are dotted.
 const MOST_DOTTED: i64 = 128;
 
@@ -95,10 +100,14 @@ pub fn draw_course(course: &Course) -> String {
     if course.slots <= MOST_DOTTED {
         draw_dots(&mut page, &plot, course);
     }
+    for (place, words) in words_below(course).iter().enumerate() {
+        let base = WORDS + place as f64 * LINE_HEIGHT;
+        page.text((MARGIN, base), "", words);
+    }
     page.finish()
 }
 
-/// The farthest ahead and behind, in words.
+/// The farthest ahead and behind from the frame's beginning, in words.
 fn subtitle(course: &Course) -> String {
     let words = |(slots, height): (i64, i64)| match height {
         0 => "0".to_string(),
@@ -107,9 +116,80 @@ fn subtitle(course: &Course) -> String {
             format!("{cells} (after slot {slots})")
         }
     };
-    let most = words(course.farthest_ahead());
-    let least = words(course.farthest_behind());
-    format!("Cells ahead of share: at most {most}, at least {least}")
+    let most = words(course.highest());
+    let least = words(course.lowest());
+    format!("Cells ahead of share, from the frame's beginning: at most {most}, at least {least}")
+}
+
+/// What is said below the chart: the farthest over any run, and how deep a buffer to order.
+fn words_below(course: &Course) -> Vec<String> {
+    let mut words = farthest(course);
+    words.extend(match (course.who, course.load) {
+        (Who::Flow(_), 0) => {
+            vec!["No cells are reserved, so that there is no buffer to order.".to_string()]
+        }
+        (Who::Flow(_), _) => depth(course),
+        _ => vec!["Buffers are ordered for each flow: ./picture flow F says how deep.".to_string()],
+    });
+    words
+}
+
+/// The runs that are farthest ahead and behind.
+fn farthest(course: &Course) -> Vec<String> {
+    let any = "over any run of this frame as it repeats";
+    if course.ahead.lead == 0 {
+        return vec![format!(
+            "Nowhere ahead or behind {any}: every run has exactly its share."
+        )];
+    }
+    let words = |run: Run| {
+        let unit = if run.lead.abs() == course.slots {
+            "cell"
+        } else {
+            "cells"
+        };
+        let cells = exactly("", run.lead, course.slots);
+        let slots = count(run.length, "slot");
+        format!("{cells} {unit}, in {slots} from slot {}", run.start)
+    };
+    vec![
+        format!("Farthest ahead {any}: {}.", words(course.ahead)),
+        format!("Farthest behind {any}: {}.", words(course.behind)),
+    ]
+}
+
+/// How deep a buffer to order for a flow, with any frames and with this one alone.
+fn depth(course: &Course) -> Vec<String> {
+    let order = |held: i64| count((held / course.slots) as usize, "cell");
+    let cells = |held: i64| exactly("", held, course.slots);
+    let (any, alone) = (course.held_by_any(), course.held_by_frame());
+    vec![
+        format!(
+            "Buffer to order for this flow, from an even source: {}, with any frames that this builder makes (1 + 2p(k) + m / 2^k = {}, \
+             rounded down).",
+            order(any),
+            cells(any)
+        ),
+        format!(
+            "While this frame alone repeats: {} (1 + b + m / 2^k = {}, rounded down, where b is the farthest behind).",
+            order(alone),
+            cells(alone)
+        ),
+    ]
+}
+
+/// So many parts of a cell, with a sign: exact, and rounded besides where that has more than three digits after the point.
+fn exactly(sign: &str, parts: i64, of: i64) -> String {
+    let parts = parts.abs();
+    let rounded = decimal(parts as f64 / of as f64);
+    if parts == 0 {
+        return rounded;
+    }
+    if parts * 1_000 % of == 0 {
+        return format!("{sign}{rounded}");
+    }
+    let (parts, of) = (grouped(parts as usize), grouped(of as usize));
+    format!("{sign}{parts}/{of} \u{2248} {sign}{rounded}")
 }
 
 fn draw_legend(page: &mut Page, course: &Course) {
@@ -187,12 +267,7 @@ fn draw_level(page: &mut Page, y: f64, style: &str) {
 
 /// The bound on one side, given by its sign and its height, with its value on the near side of it.
 fn draw_bound(page: &mut Page, plot: &Plot, (sign, height): (&str, i64)) {
-    let slots = plot.slots as i64;
-    let cells = signed(height as f64 / plot.slots);
-    let value = match height * 1_000 % slots {
-        0 => cells,
-        _ => format!("{sign}{}/{slots} \u{2248} {cells}", height.abs()),
-    };
+    let value = exactly(sign, height, plot.slots as i64);
     let y = plot.y_of(height);
     draw_level(page, y, DASHES);
     let base = if height < 0 { y - 7.0 } else { y + 17.0 };
@@ -202,12 +277,8 @@ fn draw_bound(page: &mut Page, plot: &Plot, (sign, height): (&str, i64)) {
 
 /// The bound asked for on one side, given by its sign and its thirds of a cell, with its value on the far side of it.
 fn draw_demand(page: &mut Page, plot: &Plot, (sign, thirds): (&str, i64)) {
-    let cells = thirds as f64 / 3.0;
-    let value = match thirds % 3 {
-        0 => signed(cells),
-        _ => format!("{sign}{}/3 \u{2248} {}", thirds.abs(), signed(cells)),
-    };
-    let y = plot.y(cells);
+    let value = exactly(sign, thirds, 3);
+    let y = plot.y(thirds as f64 / 3.0);
     draw_level(page, y, THIN);
     let base = if thirds < 0 { y + 17.0 } else { y - 7.0 };
     let words = format!("bound asked for: {sign}(2k + 1)/3 cells = {value}");
@@ -240,8 +311,6 @@ fn draw_dots(page: &mut Page, plot: &Plot, course: &Course) {
 
 #[cfg(test)]
 mod tests {
-    use frame_builder::Who;
-
     use super::*;
     use crate::course::tests::{course, course_through, table7};
     use crate::frame::tests::frame_of;
@@ -270,7 +339,7 @@ mod tests {
         let drawn = draw_course(&table7(Who::Flow(5)));
         for words in [
             "<title>Flow 5, input 4 to output 4: m = 2 cells in a frame of 2^k = 4 slots (k = 2)</title>",
-            "at most +0.5 (after slot 1), at least \u{2212}0.5 (after slot 3)<",
+            "beginning: at most +0.5 (after slot 1), at least \u{2212}0.5 (after slot 3)<",
             "bound of any run: +2p(k) cells = +1.5<",
             "bound of any run: \u{2212}2p(k) cells = \u{2212}1.5<",
             "bound asked for: +(2k + 1)/3 cells = +5/3 \u{2248} +1.667<",
@@ -279,7 +348,58 @@ mod tests {
             assert!(drawn.contains(words), "{words}");
         }
         let full = draw_course(&table7(Who::Input(4)));
-        assert!(full.contains("Cells ahead of share: at most 0, at least 0<"));
+        assert!(full.contains("from the frame's beginning: at most 0, at least 0<"));
+    }
+
+    /// Each line is drawn below the chart, and on the page.
+    fn hold_below(course: &Course, lines: &[&str]) {
+        let drawn = draw_course(course);
+        for (place, words) in lines.iter().enumerate() {
+            let base = WORDS + place as f64 * LINE_HEIGHT;
+            assert!(base > BOTTOM + 46.0 && base < SIZE.1);
+            let line = format!("<text x=\"20\" y=\"{base}\">{words}</text>");
+            assert!(drawn.contains(&line), "{line}: {drawn}");
+        }
+        assert_eq!(words_below(course), lines);
+    }
+
+    /// The runs, the source and the two buffers of docs/BUFFERS.md.
+    #[test]
+    fn the_farthest_and_the_depth_of_the_studio() {
+        let frame = frame_of(include_str!("../../../examples/studio.sheet"));
+        let lines = [
+            "Farthest ahead over any run of this frame as it repeats: 1.25 cells, in 2 slots from slot 2.",
+            "Farthest behind over any run of this frame as it repeats: 1.25 cells, in 6 slots from slot 4.",
+            "Buffer to order for this flow, from an even source: 3 cells, with any frames that this builder makes \
+             (1 + 2p(k) + m / 2^k = 3.625, rounded down).",
+            "While this frame alone repeats: 2 cells (1 + b + m / 2^k = 2.625, rounded down, where b is the farthest behind).",
+        ];
+        hold_below(&course(&frame, Who::Flow(1)), &lines);
+    }
+
+    #[test]
+    fn the_farthest_is_exact() {
+        let frame = frame_of(include_str!("../../../examples/full.sheet"));
+        let words = words_below(&course(&frame, Who::Flow(225)));
+        assert!(words[0].ends_with(": 137/64 \u{2248} 2.141 cells, in 11 slots from slot 8."));
+        assert!(words[1].ends_with(": 137/64 \u{2248} 2.141 cells, in 53 slots from slot 19."));
+        assert!(words[2].contains(": 5 cells, with any frames"));
+        assert!(words[3].contains(": 3 cells (1 + b + m / 2^k = 206/64 \u{2248} 3.219,"));
+        let one = words_below(&table7(Who::Flow(5)));
+        assert!(one[0].ends_with(": 1 cell, in 2 slots from slot 4."));
+    }
+
+    /// A port has several buffers, and a flow without cells needs none.
+    #[test]
+    fn a_depth_is_of_a_flow_that_has_cells() {
+        let share = "Nowhere ahead or behind over any run of this frame as it repeats: every run has exactly its share.";
+        let by_flow = "Buffers are ordered for each flow: ./picture flow F says how deep.";
+        hold_below(&table7(Who::Input(4)), &[share, by_flow]);
+        let output = words_below(&table7(Who::Output(1)));
+        assert!(output[1].ends_with(": 0.75 cells, in 1 slot from slot 4."));
+        assert_eq!(output[2..], [by_flow]);
+        let none = "No cells are reserved, so that there is no buffer to order.";
+        hold_below(&course_through(&[0, 0]), &[share, none]);
     }
 
     #[test]
@@ -306,7 +426,7 @@ mod tests {
     fn a_bunched_flow_stays_on_the_page() {
         let course = course_through(&[[1; 512], [0; 512]].concat());
         let plot = Plot::of(&course);
-        assert_eq!(course.farthest_ahead(), (512, 256 * 1_024));
+        assert_eq!(course.highest(), (512, 256 * 1_024));
         assert!(plot.y_of(256 * 1_024) > TOP);
         assert_eq!(plot.step(), 50.0);
     }

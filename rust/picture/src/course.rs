@@ -5,9 +5,18 @@ use frame_builder::{service_count, Who};
 use crate::frame::Frame;
 use crate::request::ADVICE;
 
-/// The way of a flow, an input or an output through a frame. Nothing is rounded: heights are cells times slots.
+/// A run of the frame as it repeats: its first slot, its slots and its lead.
+#[derive(Debug, Clone, Copy, PartialEq, Eq)]
+pub struct Run {
+    pub start: usize,
+    pub length: usize,
+    pub lead: i64,
+}
+
+/// The way of a flow, an input or an output through a frame. Nothing is rounded: heights are cells times slots, as leads are.
 #[derive(Debug, PartialEq, Eq)]
 pub struct Course {
+    pub who: Who,
     /// What it is, at the beginning of a title.
     pub name: String,
     /// Its cells in the whole frame.
@@ -15,22 +24,38 @@ pub struct Course {
     pub slots: i64,
     /// The lead of the first t slots, slots × cells so far − t × load; from t = 0 to t = slots.
     pub heights: Vec<i64>,
+    /// The run that is farthest ahead of its share, and the one that is farthest behind.
+    pub ahead: Run,
+    pub behind: Run,
 }
 
 impl Course {
     pub fn of(frame: &Frame, who: Who) -> Result<Course, String> {
         let name = name_of(frame, who)?;
         let (ports, slots) = (frame.ports(), frame.slots());
-        let first = |length| {
-            service_count(ports, slots, frame.list(), frame.entries(), who, 1, length)
+        let (list, entries) = (frame.list(), frame.entries());
+        let count = |start, length| {
+            service_count(ports, slots, list, entries, who, start, length)
                 .map_err(|refusal| format!("{who}: {refusal}; {ADVICE}"))
         };
-        let heights = (0..=slots).map(|length| first(length).map(|count| count.lead));
+        let heights = (0..=slots).map(|length| count(1, length).map(|first| first.lead));
+        let heights = heights.collect::<Result<Vec<i64>, String>>()?;
+        let [ahead, behind] = [1, -1].map(|sign| farthest(&heights, sign));
+        for run in [ahead, behind] {
+            let answered = count(run.start, run.length)?.lead;
+            assert_eq!(
+                answered, run.lead,
+                "the lead of a run is the difference of two others"
+            );
+        }
         Ok(Course {
+            who,
             name,
-            load: first(slots)?.cells,
+            load: count(1, slots)?.cells,
             slots: slots as i64,
-            heights: heights.collect::<Result<_, String>>()?,
+            heights,
+            ahead,
+            behind,
         })
     }
 
@@ -44,6 +69,21 @@ impl Course {
         2 * deviation(self.halvings())
     }
 
+    /// What the buffer of a flow from an even source holds at most while this frame alone repeats, as a height: `buffers-by-lead`.
+    pub fn held_by_frame(&self) -> i64 {
+        self.held(-self.behind.lead)
+    }
+
+    /// The same with any frames of so many slots that Build makes: `buffers`.
+    pub fn held_by_any(&self) -> i64 {
+        self.held(self.bound())
+    }
+
+    /// What came in is at most one cell ahead of its share, what was sent at most this far behind, and the slot's own share is still there.
+    fn held(&self, behind: i64) -> i64 {
+        self.slots + behind + self.load as i64
+    }
+
     /// Each t whose height is not that of t − 1, with its height.
     pub fn jumps(&self) -> impl Iterator<Item = (i64, i64)> + '_ {
         let slots = (1..).zip(self.heights.windows(2));
@@ -53,12 +93,12 @@ impl Course {
     }
 
     /// The first t with the greatest height, and that height.
-    pub fn farthest_ahead(&self) -> (i64, i64) {
+    pub fn highest(&self) -> (i64, i64) {
         self.first_best(1)
     }
 
     /// The first t with the least height, and that height.
-    pub fn farthest_behind(&self) -> (i64, i64) {
+    pub fn lowest(&self) -> (i64, i64) {
         self.first_best(-1)
     }
 
@@ -103,6 +143,22 @@ fn name_of(frame: &Frame, who: Who) -> Result<String, String> {
     name.ok_or_else(absent)
 }
 
+/// The run whose lead, times a sign, is greatest; of several the one with the least start, and then with the least length. A run's lead
+/// is the height at its end less the one at its beginning, and after a turn of the frame the heights come again.
+fn farthest(heights: &[i64], sign: i64) -> Run {
+    let slots = heights.len() - 1;
+    let height = |slot: usize| sign * heights[slot % slots];
+    let lowest = (0..slots).min_by_key(|&before| height(before));
+    let before = lowest.unwrap_or(0);
+    let highest = (0..slots).min_by_key(|&length| -height(before + length));
+    let length = highest.unwrap_or(0);
+    Run {
+        start: before + 1,
+        length,
+        lead: sign * (height(before + length) - height(before)),
+    }
+}
+
 /// 2^k times p(k), where p(0) is 0, p(1) is 1/2, and each further p is 1/2 more than the mean of the two before it.
 fn deviation(k: i64) -> i64 {
     match k {
@@ -118,6 +174,13 @@ pub mod tests {
 
     use super::*;
     use crate::frame::tests::{frame_of, sheet};
+
+    /// The run of no slots.
+    const NONE: Run = Run {
+        start: 1,
+        length: 0,
+        lead: 0,
+    };
 
     pub fn course(frame: &Frame, who: Who) -> Course {
         Course::of(frame, who).unwrap()
@@ -143,8 +206,8 @@ pub mod tests {
         assert_eq!(course.heights, [0, 2, 0, -2, 0]);
         let jumps: Vec<(i64, i64)> = course.jumps().collect();
         assert_eq!(jumps, [(1, 2), (2, 0), (3, -2), (4, 0)]);
-        assert_eq!(course.farthest_ahead(), (1, 2));
-        assert_eq!(course.farthest_behind(), (3, -2));
+        assert_eq!(course.highest(), (1, 2));
+        assert_eq!(course.lowest(), (3, -2));
     }
 
     #[test]
@@ -165,7 +228,7 @@ pub mod tests {
         let [picture, sound] = [1, 2].map(|flow| course(&frame, Who::Flow(flow)));
         assert_eq!((picture.load, sound.load), (9, 1));
         assert_eq!(sound.name, "Flow 2, input 1 to output 2");
-        assert_eq!(sound.farthest_behind(), (9, -9));
+        assert_eq!(sound.lowest(), (9, -9));
     }
 
     #[test]
@@ -174,6 +237,133 @@ pub mod tests {
         let frame = Frame::of_entries(sheet, vec![0, 0, 1, 2]).unwrap();
         let course = course(&frame, Who::Output(1));
         assert_eq!((course.load, course.heights), (2, vec![0, -2, 0]));
+    }
+
+    /// The run that examples/lead.c finds by asking for every one, as it prints it.
+    #[test]
+    fn the_farthest_runs_of_the_studio() {
+        let frame = frame_of(include_str!("../../../examples/studio.sheet"));
+        let Course { ahead, behind, .. } = course(&frame, Who::Flow(1));
+        let printed = include_str!("../../../examples/lead.output");
+        for (name, run) in [("ahead", ahead), ("behind", behind)] {
+            let Run {
+                start,
+                length,
+                lead,
+            } = run;
+            let line =
+                format!("farthest {name}: {lead}/8 of a cell, in {length} slots from slot {start}");
+            assert!(printed.lines().any(|printed| printed == line), "{line}");
+        }
+    }
+
+    /// The first run whose lead, times a sign, is greatest, with the call asked for every one.
+    fn farthest_asked(frame: &Frame, who: Who, sign: i64) -> Run {
+        let (ports, slots) = (frame.ports(), frame.slots());
+        let starts = (1..=slots).flat_map(|start| (1..slots).map(move |length| (start, length)));
+        starts.fold(NONE, |best, (start, length)| {
+            let (list, entries) = (frame.list(), frame.entries());
+            let count = service_count(ports, slots, list, entries, who, start, length);
+            let lead = count.unwrap().lead;
+            if sign * lead > sign * best.lead {
+                return Run {
+                    start,
+                    length,
+                    lead,
+                };
+            }
+            best
+        })
+    }
+
+    #[test]
+    fn no_run_is_farther() {
+        let sheets = [
+            include_str!("../../../examples/table7.sheet"),
+            include_str!("../../../examples/studio.sheet"),
+            include_str!("../../../examples/sound-and-picture.sheet"),
+            include_str!("../../../examples/full.sheet"),
+        ];
+        for frame in sheets.map(frame_of) {
+            let flows = (1..=frame.list().len()).step_by(15).map(Who::Flow);
+            for who in flows.chain([Who::Input(1), Who::Output(2)]) {
+                let found = course(&frame, who);
+                assert_eq!(found.ahead, farthest_asked(&frame, who, 1), "{who}");
+                assert_eq!(found.behind, farthest_asked(&frame, who, -1), "{who}");
+            }
+        }
+    }
+
+    #[test]
+    fn a_run_that_keeps_its_share_is_of_no_slots() {
+        let full = table7(Who::Input(4));
+        assert_eq!((full.ahead, full.behind), (NONE, NONE));
+        assert_eq!(course_through(&[1]).ahead, NONE);
+    }
+
+    /// What to order for a flow of m cells, with frames of any making.
+    fn ordered(slots: usize, m: usize) -> i64 {
+        let entries: Vec<u16> = (0..slots).map(|slot| u16::from(slot < m)).collect();
+        let course = course_through(&entries);
+        assert_eq!(course.load, m);
+        course.held_by_any() / course.slots
+    }
+
+    /// The line of each k in the first table of docs/BUFFERS.md: a = 1 is an even source.
+    #[test]
+    fn what_to_order_is_in_the_table() {
+        let page = include_str!("../../../docs/BUFFERS.md");
+        let number = |text: &str| text.replace(',', "").parse::<usize>().unwrap();
+        let mut lines = 0;
+        for line in page.lines().filter(|line| line.starts_with("| ")) {
+            let cells: Vec<&str> = line.trim_matches('|').split('|').map(str::trim).collect();
+            let [_, slots, _, _, _, from, below, above, _] = cells[..] else {
+                continue;
+            };
+            if slots == "slots" {
+                continue;
+            }
+            let (slots, from) = (number(slots), number(from));
+            let even = |three: &str| number(three.split(", ").nth(1).unwrap()) as i64;
+            for m in [1, from - 1, from, slots].into_iter().filter(|&m| m > 0) {
+                let wanted = if m < from { even(below) } else { even(above) };
+                assert_eq!(ordered(slots, m), wanted, "{m} cells in {slots} slots");
+            }
+            lines += 1;
+        }
+        assert_eq!(lines, 11);
+    }
+
+    /// The cells that wait at most in the buffer of a flow whose source is even and begins with any part of a cell.
+    fn deepest(course: &Course) -> i64 {
+        let (slots, load) = (course.slots, course.load as i64);
+        let arrived = |slot: i64| slot * load / slots;
+        let queue = |phase: i64| {
+            let (mut waiting, mut deepest) = (0, 0);
+            for slot in 0..3 * slots {
+                let place = (slot % slots) as usize;
+                let sent = (course.heights[place + 1] - course.heights[place] + load) / slots;
+                waiting += arrived(slot + phase + 1) - arrived(slot + phase);
+                deepest = deepest.max(waiting);
+                waiting = 0.max(waiting - sent);
+            }
+            deepest
+        };
+        (0..slots).map(queue).max().unwrap_or(0)
+    }
+
+    #[test]
+    fn no_even_source_overruns_what_is_ordered() {
+        let full = frame_of(include_str!("../../../examples/full.sheet"));
+        for flow in (1..=full.list().len()).step_by(5) {
+            let course = course(&full, Who::Flow(flow));
+            let order = course.held_by_frame() / course.slots;
+            assert!(deepest(&course) <= order, "flow {flow}");
+            assert!(order <= course.held_by_any() / course.slots);
+        }
+        let studio = frame_of(include_str!("../../../examples/studio.sheet"));
+        let course = course(&studio, Who::Flow(1));
+        assert_eq!((deepest(&course), course.held_by_frame()), (2, 8 + 10 + 3));
     }
 
     #[test]

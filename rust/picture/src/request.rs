@@ -9,8 +9,8 @@ pub const HELP: &str = "\
 picture: draws the frame of a reservation sheet, as an SVG file on standard output
 
   ./picture frame [SHEET]           slots across, inputs down, a colour for each output, a number for each flow where it has room
-  ./picture flow F [SHEET]          flow F ahead of its share, or behind, along the frame
-  ./picture input I [SHEET]         the same of all cells of input I
+  ./picture flow F [SHEET]          flow F ahead of its share, or behind, along the frame, and how deep a buffer to order for it
+  ./picture input I [SHEET]         all cells of input I ahead of their share, or behind
   ./picture output O [SHEET]        the same of all cells of output O
   ./picture --help                  prints this
 
@@ -28,13 +28,22 @@ like the first again. Idle places are grey.
 The legend has a line for each flow: input, output, and cells in the frame. It is folded into columns, so that it is not higher
 than the picture above it. Where the columns need more room than the picture is wide, the page is wider.
 
-Ahead of its share: after t slots, the cells so far less t x m / 2^k, where m is the cells in the whole frame of 2^k slots. That
-is the lead that Service count answers for the first t slots, over 2^k. The line is level from a slot's end to the next one's.
+A flow, an input or an output: the line shows its cells ahead of its share. After t slots that is the cells so far less
+t x m / 2^k, where m is the cells in the whole frame of 2^k slots. It is the lead that Service count answers for the first t
+slots, divided by 2^k. The line is level from a slot's end to the next one's.
 
-On either side of it is a dashed line, the bound of 2p(k) cells: in no run of slots, of whatever frames that ./frame prints, is a
-flow farther ahead of its share, or behind, and in some run one is just as far. p(0) is 0, p(1) is 1/2, and each further p is 1/2
-more than the mean of the two before it. A run that begins with a frame uses at most half of it. The thin line outside is the
+The dashed line on either side is the bound of 2p(k) cells. No flow gets farther ahead of its share or behind it, in any run of
+slots of any frames that ./frame prints, and some flow gets just as far in some run. p(0) is 0, p(1) is 1/2, and each further p is
+1/2 more than the mean of the two before it. A run that begins with a frame uses at most half of it. The thin line outside is the
 bound that the customer asked for, (2k + 1)/3 cells.
+
+The text below the chart says how far ahead and how far behind it gets over any run of this frame as it repeats, and names the
+first such run. Both leads are answers of Service count. For a flow, the text also says how deep a buffer to order. An even source
+is at most one cell ahead of its rate. From such a source the buffer holds at most 1 + 2p(k) + m / 2^k cells, whatever frames of 2^k
+slots follow each other, if each is from ./frame and has m cells of the flow. While this frame alone repeats, the buffer holds at
+most 1 + b + m / 2^k cells, where b is the farthest behind. Both numbers are rounded down to whole cells. Buffers are ordered for
+each flow, so the pictures of inputs and outputs have no depth. docs/BUFFERS.md covers other sources and says what these numbers
+rest on.
 
 Examples:
 

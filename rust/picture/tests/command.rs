@@ -2,8 +2,10 @@
 
 use std::io::Write;
 use std::process::{Command, Output, Stdio};
+use std::time::{Duration, Instant};
 
 const TABLE7: &str = include_str!("../../../examples/table7.sheet");
+const LARGEST: &str = include_str!("../../../examples/largest.sheet");
 const OVERLOADED: &str = include_str!("../../../examples/overloaded.sheet");
 const TOO_MANY: &str = include_str!("../../../examples/too-many.sheet");
 const TOO_LONG: &str = include_str!("../../../examples/too-long.sheet");
@@ -48,6 +50,18 @@ fn pictures_go_to_standard_output() {
         assert_eq!(of_file.stdout, text.as_bytes(), "{line}");
         let of_dash = run(&format!("{line} -"), TABLE7.as_bytes());
         assert_eq!(of_dash.stdout, text.as_bytes(), "{line}");
+    }
+}
+
+/// Each takes about a twentieth of that on a machine with nothing else to do.
+#[test]
+fn the_largest_pictures_take_less_than_a_second() {
+    for line in ["frame", "flow 512", "input 16", "output 16"] {
+        let begun = Instant::now();
+        let output = run(line, LARGEST.as_bytes());
+        let taken = begun.elapsed();
+        assert_eq!(output.status.code(), Some(0), "{line}");
+        assert!(taken < Duration::from_secs(1), "{line}: {taken:?}");
     }
 }
 
