@@ -8,7 +8,7 @@ use lib.Dec.{eqb}
 use lib.ListN.{length, getD}
 use borrow.Author.Tests.{eqb-true, eq-eqb, ne-eqb}
 use Rattle.rules.specs.Words.{if, both, bit, upFrom, sumIf, Within}
-use Rattle.rules.specs.Flows.{flows, numberOf, End, inputs, links, outputOf, portOf, countsOf, Class, flow, portOn, input, output, link, total, isOf, loadIn}
+use Rattle.rules.specs.Flows.{flows, numberOf, End, inputs, links, outputOf, portOf, countsOf, Class, flow, portOn, input, output, link, total, isOf, loadIn, OnSwitch}
 use Rattle.rules.specs.Frames.{isFlow, right, counts, cells}
 use Rattle.rules.proofs.Cases.{byBool, byEq, both-true, is-yes, is-no, within-yes, within-true}
 use Rattle.rules.proofs.Sums.{sum-ext, sum-le, sum-zero, sum-one, sum-swap}
@@ -40,6 +40,10 @@ output-is list f w = omega (arith, w .0, w .1)
 -- the links of a switch are of its outputs
 pub output-low : (ports x : ℕ) → x < ports * 4 → outputOf x < ports
 output-low ports x h = omega arith
+
+-- the four links of each output of the switch are links of the switch
+pub links-on : (ports o l : ℕ) → o < ports → l < 4 → OnSwitch ports (link (o * 4 + l))
+links-on ports o l h k = omega arith
 
 -- no link has a load above that of its output
 pub link-under : (x : ℕ) (port : End → ℕ → ℕ) (m : List ℕ) → loadIn (link x) port m ≤ loadIn (portOn output (outputOf x)) port m
