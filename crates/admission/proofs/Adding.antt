@@ -18,7 +18,7 @@ use Rattle.rules.proofs.Cases.{byEq}
 use Rattle.rules.proofs.Lists.{zero-at}
 use Rattle.rules.proofs.Sums.{sum-none, sum-more, sum-ext, sum-zero}
 use Rattle.rules.proofs.Flows.{counts-length, counts-at}
-use Rattle.admission.specs.Lists.{ListFits}
+use Rattle.checks.specs.Lists.{ListFits}
 use Rattle.admission.specs.Overloads.{valueAt, Given, EveryLoad}
 
 -- the cells of those of the first f flows that are of port or link x of a kind

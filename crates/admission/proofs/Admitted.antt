@@ -7,9 +7,9 @@ use Rattle.calls.specs.declared.Refusal.{Refusal}
 use Rattle.calls.specs.declared.Answer.{Answer}
 use Rattle.calls.specs.declared.Answer.the-variants.{Accepted, Refused}
 use Rattle.calls.proofs.Demand2.{past-load}
-use Rattle.admission.specs.Lists.{ListAnswer, ListFits}
+use Rattle.checks.specs.Lists.{ListAnswer, ListFits}
 use Rattle.admission.specs.Overloads.{EveryLoad, decided}
-use Rattle.admission.proofs.Listed.{list-refused, list-well, well-taken}
+use Rattle.checks.proofs.Listed.{list-refused, list-well, well-taken}
 use Rattle.admission.proofs.Deciding.{decided-loads}
 
 module _ {ports slots : ℕ} {list : List ℕ} {a : Answer} (l : ListAnswer ports slots list (answered a)) where

@@ -7,7 +7,7 @@ use Rattle.rules.specs.Flows.{outputOf, portOn, input, output, link, load}
 use Rattle.calls.specs.Refusals.{Check, report, accepted, lowestAbove, aboveSlots, lowestPast, aboveLimits, overload, overloads}
 use Rattle.calls.proofs.Overloads.{above-found, above-none, above-same, past-found, past-none, past-same}
 use Rattle.calls.proofs.Reports.{report-found, report-on}
-use Rattle.admission.specs.Lists.{ListFits}
+use Rattle.checks.specs.Lists.{ListFits}
 use Rattle.admission.specs.Overloads.{valueAt, EveryLoad, decided}
 
 module _ (slots : ℕ) (ins outs lines limits : List ℕ) where

@@ -21,8 +21,8 @@ use Rattle.calls.specs.declared.Answer.{Answer}
 use Rattle.calls.specs.declared.Answer.the-variants.{Accepted, Refused}
 use Rattle.rules.proofs.Levels.{power-level}
 use Rattle.calls.proofs.Demand2.{past-load, past-frame}
-use Rattle.admission.specs.Lists.{ListAnswer}
-use Rattle.admission.proofs.Listed.{list-refused, list-well}
+use Rattle.checks.specs.Lists.{ListAnswer}
+use Rattle.checks.proofs.Listed.{list-refused, list-well}
 use Rattle.tally.specs.Tally.{RightFrame}
 use Rattle.inspection.specs.Faults.{Lent, faults}
 use Rattle.inspection.proofs.Found.{slots-low}

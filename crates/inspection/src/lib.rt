@@ -9,7 +9,7 @@ ghost use Rattle.calls.specs.Inspect.{finding, isWrong, twiceIn, usedTwice, wro
 ghost use Rattle.calls.specs.Demand2.{Ported};
 ghost use Rattle.tally.specs.Tally.{RightFrame};
 ghost use Rattle.inspection.specs.Faults.{Lent, wrongIn, faults};
-use admission::bad_length;
+use checks::bad_length;
 use balance::unbalanced_block;
 use flows::flows_of;
 use flows::number_of;
@@ -139,14 +139,14 @@ fn first_fault(ports: usize, slots: usize, list: &[u16], frame: &[u16]) -> Inspe
     if f < flows_of(list) {
         return Inspection::FlowCount { flow: f + 1 };
     }
-    unbalanced_block(ports, slots, admission::levels_of(slots), list, frame)
+    unbalanced_block(ports, slots, checks::levels_of(slots), list, frame)
 }
 
 // Inspect: 1, 2, 3, 21, 22, 23, 4, then the faults.
 pub fn inspect(ports: usize, slots: usize, list: &[u16], frame: &[u16]) -> Inspection
     ensures { λ r. ⌜ finding r ≡ inspected ports slots (now (list .entry)) (now (frame .entry)) ⌝ }
 {
-    if let Answer::Refused(refusal) = admission::check_list(ports, slots, list) {
+    if let Answer::Refused(refusal) = checks::check_list(ports, slots, list) {
         return Inspection::Refused(refusal);
     }
     if bad_length(frame.len(), slots, ports) {

@@ -178,7 +178,7 @@ fn ports_line(sheet: &[u8]) -> Reading
     let NumberRead::Number { value: ports, next } = read else {
         return Reading::Refused(Refusal::LineForm { line: 1 });
     };
-    if admission::outside(16, ports) {
+    if checks::outside(16, ports) {
         return Reading::Refused(Refusal::Ports);
     }
     Reading::Ports { ports, next }
@@ -193,7 +193,7 @@ fn slots_line(sheet: &[u8], at: usize, ports: usize) -> Reading
     let NumberRead::Number { value: slots, next } = read else {
         return Reading::Refused(Refusal::LineForm { line: 2 });
     };
-    if admission::bad_slots(slots) {
+    if checks::bad_slots(slots) {
         return Reading::Refused(Refusal::Slots);
     }
     Reading::Slots { slots, next }
@@ -218,10 +218,10 @@ fn pair_line(sheet: &[u8], at: usize, ports: usize, flows: usize) -> Reading
     if 512 <= flows {
         return Reading::Refused(Refusal::TooManyFlows);
     }
-    if admission::outside(ports, input) {
+    if checks::outside(ports, input) {
         return Reading::Refused(Refusal::LinePort { line });
     }
-    if admission::outside(ports, output) {
+    if checks::outside(ports, output) {
         return Reading::Refused(Refusal::LinePort { line });
     }
     Reading::Pair {

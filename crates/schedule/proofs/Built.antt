@@ -21,9 +21,9 @@ use Rattle.calls.proofs.Reports.{report-clear, report-stops, clear-none, clear-
 use Rattle.calls.proofs.Demand2.{past-load, past-frame, clear-allows, accepts-yes}
 use Rattle.calls.specs.Demand2.{Accepts}
 use Rattle.calls.proofs.Work.{work-built}
-use Rattle.admission.specs.Lists.{ListAnswer, ListFits}
+use Rattle.checks.specs.Lists.{ListAnswer, ListFits}
 use Rattle.admission.specs.Overloads.{EveryLoad, decided}
-use Rattle.admission.proofs.Listed.{list-refused, list-well, well-taken}
+use Rattle.checks.proofs.Listed.{list-refused, list-well, well-taken}
 use Rattle.admission.proofs.Deciding.{decided-loads}
 use Rattle.schedule.specs.Steps.{Fillable}
 

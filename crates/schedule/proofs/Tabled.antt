@@ -11,7 +11,7 @@ use Rattle.rules.specs.Words.{if, Within}
 use Rattle.rules.specs.Flows.{End, inputs, links, flows, outputOf, numberOf, portOf}
 use Rattle.rules.proofs.Cases.{byEq}
 use Rattle.calls.specs.Demand2.{Ported, Linked}
-use Rattle.admission.specs.Lists.{ListFits}
+use Rattle.checks.specs.Lists.{ListFits}
 use Rattle.planes.specs.Digits.{digit}
 use Rattle.planes.specs.Steps.{PutAt}
 use Rattle.planes.proofs.Digits.{digit-none, if-same, if-other}

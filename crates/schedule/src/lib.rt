@@ -2,9 +2,9 @@
 mod positions;
 mod slots;
 
-use admission::bad_length;
-use admission::check_list;
-use admission::levels_of;
+use checks::bad_length;
+use checks::check_list;
+use checks::levels_of;
 use admission::loads_of;
 use admission::overload;
 use flows::flows_of;

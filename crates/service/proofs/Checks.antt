@@ -25,8 +25,8 @@ use Rattle.rules.proofs.Levels.{power-most}
 use Rattle.calls.proofs.Reports.{clear-then, refusal-number, within-known}
 use Rattle.calls.proofs.Replies.{count, reply-refused, reply-counted}
 use Rattle.calls.proofs.Demand2.{past-load, well-clear}
-use Rattle.admission.specs.Lists.{ListAnswer}
-use Rattle.admission.proofs.Listed.{list-refused, list-well}
+use Rattle.checks.specs.Lists.{ListAnswer}
+use Rattle.checks.proofs.Listed.{list-refused, list-well}
 use Rattle.service.specs.Whom.{Sent, CountAsked}
 
 -- what comes after the checks of the list

@@ -30,9 +30,9 @@ fn bad_who(ports: usize, list: &[u16], who: Who) -> bool
     ensures { λ r. ⌜ r ≡ not (whoWithin ports (now (list .entry)) who) ⌝ }
 {
     match who {
-        Who::Flow(flow) => admission::outside(flows_of(list), flow),
-        Who::Input(input) => admission::outside(ports, input),
-        Who::Output(output) => admission::outside(ports, output),
+        Who::Flow(flow) => checks::outside(flows_of(list), flow),
+        Who::Input(input) => checks::outside(ports, input),
+        Who::Output(output) => checks::outside(ports, output),
     }
 }
 
@@ -196,13 +196,13 @@ pub fn service_count(
 ) -> Service
     ensures { λ r. ⌜ served r ≡ service ports slots (now (list .entry)) (now (frame .entry)) who start len ⌝ }
 {
-    if let Answer::Refused(refusal) = admission::check_list(ports, slots, list) {
+    if let Answer::Refused(refusal) = checks::check_list(ports, slots, list) {
         return Service::Refused(refusal);
     }
-    if admission::bad_length(frame.len(), slots, ports) {
+    if checks::bad_length(frame.len(), slots, ports) {
         return Service::Refused(Refusal::FrameLength);
     }
-    if admission::outside(slots, start) {
+    if checks::outside(slots, start) {
         return Service::Refused(Refusal::SlotNumber);
     }
     if bad_who(ports, list, who) {

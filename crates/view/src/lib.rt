@@ -11,16 +11,16 @@ use calls::Refusal;
 pub fn check_frame(ports: usize, slots: usize, frame: &[u16], slot: usize) -> Answer
     ensures { λ r. ⌜ answered r ≡ checked ports slots (now (frame .entry)) slot ⌝ }
 {
-    if admission::outside(16, ports) {
+    if checks::outside(16, ports) {
         return Answer::Refused(Refusal::Ports);
     }
-    if admission::bad_slots(slots) {
+    if checks::bad_slots(slots) {
         return Answer::Refused(Refusal::Slots);
     }
-    if admission::bad_length(frame.len(), slots, ports) {
+    if checks::bad_length(frame.len(), slots, ports) {
         return Answer::Refused(Refusal::FrameLength);
     }
-    if admission::outside(slots, slot) {
+    if checks::outside(slots, slot) {
         return Answer::Refused(Refusal::SlotNumber);
     }
     Answer::Accepted

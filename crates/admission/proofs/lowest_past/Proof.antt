@@ -1,6 +1,6 @@
 use borrow.Author.Needs.{needs}
 use Rattle.admission.specs.Overloads.{valueAt}
-use Rattle.admission.proofs.Searching.{Passing, passing-start, passing-on, passing-found, passing-none}
+use Rattle.checks.proofs.Searching.{Passing, passing-start, passing-on, passing-found, passing-none}
 use Rattle.admission.proofs.lowest_past.Statement.{statement}
 use Rattle.admission.proofs.lowest_past.Tie as tie
 

@@ -1,7 +1,7 @@
 use mathlib.Core.Path.{refl}
 use borrow.Author.Needs.{needs}
 use native.Mathlib.Omega.{arith}
-use Rattle.admission.proofs.Listed.{well-taken}
+use Rattle.checks.proofs.Listed.{well-taken}
 use Rattle.planes.proofs.Counts.{block-ends}
 use Rattle.planes.proofs.Stored.{blank}
 use Rattle.split.proofs.Divided.{blank-scratch}

@@ -1,7 +1,7 @@
 use borrow.Author.Tests.{lt-ltb, le-ltb, le-leb, lt-leb}
 use Rattle.rules.proofs.Cases.{byLt}
-use Rattle.admission.proofs.outside.Statement.{statement}
-use Rattle.admission.proofs.outside.Tie as tie
+use Rattle.checks.proofs.outside.Statement.{statement}
+use Rattle.checks.proofs.outside.Tie as tie
 
 returns : tie.Need-returns
 returns c = simp (lt-leb _ _ (c .if1 .taken))

@@ -1,8 +1,8 @@
 use mathlib.Core.Path.{ap}
 use lib.Dec.{eqb}
 use borrow.Author.Needs.{needs}
-use Rattle.admission.proofs.bad_slots.Statement.{statement}
-use Rattle.admission.proofs.bad_slots.Tie as tie
+use Rattle.checks.proofs.bad_slots.Statement.{statement}
+use Rattle.checks.proofs.bad_slots.Tie as tie
 
 returns : tie.Need-returns
 returns c = ap (λ k. eqb k 11) (c .levels-of .ensures)

@@ -1,8 +1,8 @@
 use Prim.Native.Nat.{_-_}
 use borrow.Author.Needs.{needs}
-use Rattle.admission.proofs.Ports.{linkBad, Trying, trying-start, trying-in, trying-found, trying-on, trying-end, link-outside}
-use Rattle.admission.proofs.bad_link.Statement.{statement}
-use Rattle.admission.proofs.bad_link.Tie as tie
+use Rattle.checks.proofs.Ports.{linkBad, Trying, trying-start, trying-in, trying-found, trying-on, trying-end, link-outside}
+use Rattle.checks.proofs.bad_link.Statement.{statement}
+use Rattle.checks.proofs.bad_link.Tie as tie
 
 abbrev Inv-loop : tie.InvT-loop
 Inv-loop list count f₀ f = Trying (linkBad list) list count f

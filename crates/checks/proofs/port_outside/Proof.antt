@@ -1,7 +1,7 @@
 use borrow.Author.Needs.{needs}
-use Rattle.admission.proofs.Ports.{input-outside, output-decides}
-use Rattle.admission.proofs.port_outside.Statement.{statement}
-use Rattle.admission.proofs.port_outside.Tie as tie
+use Rattle.checks.proofs.Ports.{input-outside, output-decides}
+use Rattle.checks.proofs.port_outside.Statement.{statement}
+use Rattle.checks.proofs.port_outside.Tie as tie
 
 returns : tie.Need-returns
 returns c =

@@ -1,8 +1,8 @@
 use Prim.Native.Nat.{_-_}
 use borrow.Author.Needs.{needs}
-use Rattle.admission.proofs.Ports.{portBad, Trying, trying-start, trying-in, trying-found, trying-on, trying-end}
-use Rattle.admission.proofs.bad_port.Statement.{statement}
-use Rattle.admission.proofs.bad_port.Tie as tie
+use Rattle.checks.proofs.Ports.{portBad, Trying, trying-start, trying-in, trying-found, trying-on, trying-end}
+use Rattle.checks.proofs.bad_port.Statement.{statement}
+use Rattle.checks.proofs.bad_port.Tie as tie
 
 abbrev Inv-loop : tie.InvT-loop
 Inv-loop ports list count f₀ f = Trying (portBad ports list) list count f

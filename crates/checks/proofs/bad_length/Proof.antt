@@ -1,7 +1,7 @@
 use borrow.Author.Needs.{needs}
-use Rattle.admission.proofs.Lengths.{no-columns, rest-left, whole-rows}
-use Rattle.admission.proofs.bad_length.Statement.{statement}
-use Rattle.admission.proofs.bad_length.Tie as tie
+use Rattle.checks.proofs.Lengths.{no-columns, rest-left, whole-rows}
+use Rattle.checks.proofs.bad_length.Statement.{statement}
+use Rattle.checks.proofs.bad_length.Tie as tie
 
 pub bad-length-spec : {M : Type 1} → statement M
 bad-length-spec =

@@ -1,9 +1,9 @@
 use Prim.Native.Nat.{_-_}
 use native.Mathlib.Omega.{arith}
 use borrow.Author.Needs.{needs}
-use Rattle.admission.proofs.Searching.{Climbing, climbing-start, climbing-low, climbing-on, climbing-found, climbing-none}
-use Rattle.admission.proofs.levels_of.Statement.{statement}
-use Rattle.admission.proofs.levels_of.Tie as tie
+use Rattle.checks.proofs.Searching.{Climbing, climbing-start, climbing-low, climbing-on, climbing-found, climbing-none}
+use Rattle.checks.proofs.levels_of.Statement.{statement}
+use Rattle.checks.proofs.levels_of.Tie as tie
 
 abbrev Inv-loop : tie.InvT-loop
 Inv-loop slots power₀ k₀ power k = Climbing slots k power

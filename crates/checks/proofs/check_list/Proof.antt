@@ -5,8 +5,8 @@ use lib.ListN.{length}
 use borrow.Author.Needs.{needs}
 use borrow.Author.Tests.{eq-eqb, ne-eqb, lt-ltb, le-ltb}
 use Rattle.rules.specs.Flows.{flows}
-use Rattle.admission.proofs.check_list.Statement.{statement}
-use Rattle.admission.proofs.check_list.Tie as tie
+use Rattle.checks.proofs.check_list.Statement.{statement}
+use Rattle.checks.proofs.check_list.Tie as tie
 
 returns : tie.Need-returns
 returns c = record { is = rw (sym (c .before .outside .ensures) ∙ c .if1 .taken) }

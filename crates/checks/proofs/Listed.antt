@@ -11,7 +11,7 @@ use Rattle.calls.specs.declared.Answer.the-variants.{Accepted, Refused}
 use Rattle.calls.proofs.Reports.{clear-none, report-stops}
 use Rattle.calls.specs.Demand2.{WellFormed}
 use Rattle.calls.proofs.Demand2.{clear-well}
-use Rattle.admission.specs.Lists.{ListAnswer, ListFits}
+use Rattle.checks.specs.Lists.{ListAnswer, ListFits}
 
 module _ {ports slots : ℕ} {list : List ℕ} {a : Answer} (l : ListAnswer ports slots list (answered a)) where
   pub list-refused : {x : Refusal} → a ≡ Refused x → (cs : List Check) (asked : List ℕ) → refusal x ≡ report (listChecks ports slots list ++ cs) asked

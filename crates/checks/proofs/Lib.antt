@@ -1,0 +1,5 @@
+-- Laws of the checks.
+pub mod Lengths
+pub mod Listed
+pub mod Ports
+pub mod Searching

@@ -1,0 +1,2 @@
+-- What the checks of a list promise.
+pub mod Lists
