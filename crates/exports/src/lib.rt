@@ -64,7 +64,7 @@ pub extern "C" fn frame_builder_build(
         (now (first .exit)) (now (second .exit)) (now (third .exit)) ⌝ }
     ensures { λ _. ⌜ now (frame .exit) ≡ frameAfter ports slots (now (list .entry)) (now (limits .entry)) (now (frame .entry)) ⌝ }
 {
-    let n = numbers::of_built(schedule::build(ports, slots, list, *limits, frame));
+    let n = numbers::of_built(build::build(ports, slots, list, *limits, frame));
     *first = n.first;
     *second = n.second;
     *third = n.third;

@@ -4,4 +4,3 @@ pub mod Written
 pub mod Framed
 pub mod Summed
 pub mod Filled
-pub mod Built

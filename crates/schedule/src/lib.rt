@@ -2,15 +2,8 @@
 mod positions;
 mod slots;
 
-use checks::bad_length;
-use checks::check_list;
 use checks::levels_of;
-use admission::loads_of;
-use admission::overload;
 use flows::flows_of;
-use calls::Answer;
-use calls::Built;
-use calls::Refusal;
 use planes::halve::halve;
 use planes::load::load;
 use planes::mark::others;
@@ -22,7 +15,7 @@ ghost use Rattle.rules.specs.Flows.{countsOf};
 ghost use Rattle.rules.specs.Frames.{levels};
 ghost use Rattle.rules.specs.Schedule.{frameOf};
 ghost use Rattle.rules.specs.OddShares.{settled};
-ghost use Rattle.calls.specs.Build.{frameFor, outcome, built, frameAfter};
+ghost use Rattle.calls.specs.Build.{frameFor};
 ghost use Rattle.planes.specs.Planes.{countsIn, BlockPlanes};
 ghost use Rattle.split.specs.Steps.{tabled, Scratch};
 ghost use Rattle.schedule.specs.Steps.{Fillable, Tables};
@@ -104,7 +97,7 @@ fn block(
 }
 
 // A load that fits has room in the planes: no count is above slots.
-fn fill(ports: usize, slots: usize, list: &[u16], frame: &mut [u16]) -> usize
+pub fn fill(ports: usize, slots: usize, list: &[u16], frame: &mut [u16]) -> usize
     requires { ⌜ Fillable ports slots (now list) (now frame) ⌝ }
     ensures { λ r. ⌜ (r ≡ settled (levels slots) (countsOf (now (list .entry))))
         × (now (frame .exit) ≡ frameFor ports slots (now (list .entry))) ⌝ }
@@ -138,30 +131,4 @@ fn fill(ports: usize, slots: usize, list: &[u16], frame: &mut [u16]) -> usize
         &mut group,
         frame,
     )
-}
-
-// Build: 1, 2, 3, 21, 22, 23, 4, 5, 6, 24, and nothing is written until all have passed.
-pub fn build(
-    ports: usize,
-    slots: usize,
-    list: &[u16],
-    limits: [u16; 64],
-    frame: &mut [u16],
-) -> Built
-    ensures { λ r. ⌜ (outcome r ≡ built ports slots (now (list .entry)) limits (now (frame .entry)))
-        × (now (frame .exit) ≡ frameAfter ports slots (now (list .entry)) limits (now (frame .entry))) ⌝ }
-{
-    if let Answer::Refused(refusal) = check_list(ports, slots, list) {
-        return Built::Refused(refusal);
-    }
-    if bad_length(frame.len(), slots, ports) {
-        return Built::Refused(Refusal::FrameLength);
-    }
-    let loads = loads_of(ports, list);
-    let over = overload(slots, &loads.inputs, &loads.outputs, &loads.links, limits);
-    if let Answer::Refused(refusal) = over {
-        return Built::Refused(refusal);
-    }
-    let settled = fill(ports, slots, list, frame);
-    Built::Accepted { settled }
 }

@@ -32,7 +32,7 @@ fn build_loads(ports: usize, slots: usize, flows: usize, list: &[u16], frame: &m
     let numbers = flows * STRIDE;
     let size = slots * ports;
     let limits = [slots as u16; 64];
-    let built = schedule::build(ports, slots, &list[..numbers], limits, &mut frame[..size]);
+    let built = build::build(ports, slots, &list[..numbers], limits, &mut frame[..size]);
     let Built::Refused(refusal) = built else {
         return Reading::Loads {
             ports,

@@ -1,7 +1,7 @@
 use borrow.Author.Needs.{needs}
-use Rattle.schedule.proofs.Built.{done, list-done, taken, frame-done, load-done, fillable, fills}
-use Rattle.schedule.proofs.build.Statement.{statement}
-use Rattle.schedule.proofs.build.Tie as tie
+use Rattle.build.proofs.Built.{done, list-done, taken, frame-done, load-done, fillable, fills}
+use Rattle.build.proofs.build.Statement.{statement}
+use Rattle.build.proofs.build.Tie as tie
 
 pub build-spec : {M : Type 1} → statement M
 build-spec =

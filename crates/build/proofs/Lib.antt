@@ -1,0 +1,2 @@
+-- Laws of what Build leaves.
+pub mod Built
