@@ -24,8 +24,9 @@ use Rattle.calls.proofs.Demand2.{past-load, past-frame}
 use Rattle.checks.specs.Lists.{ListAnswer}
 use Rattle.checks.proofs.Listed.{list-refused, list-well}
 use Rattle.tally.specs.Tally.{RightFrame}
-use Rattle.inspection.specs.Faults.{Lent, faults}
-use Rattle.inspection.proofs.Found.{slots-low}
+use Rattle.entries.specs.Entries.{Lent}
+use Rattle.inspection.specs.Faults.{faults}
+use Rattle.entries.proofs.Found.{slots-low}
 
 -- ---- one fault that is a place
 module _ (number width n q : ℕ) (wrong : ℕ → Bool) (e : q ≡ first wrong 0 n) (cs : List Check) (asked : List ℕ) where

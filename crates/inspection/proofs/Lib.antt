@@ -1,3 +1,3 @@
 -- What the searches of Inspect rest on.
-pub mod Found
+pub mod Counted
 pub mod Faults

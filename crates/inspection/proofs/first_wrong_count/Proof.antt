@@ -1,6 +1,6 @@
 use Prim.Native.Nat.{_-_}
 use borrow.Author.Needs.{needs}
-use Rattle.inspection.proofs.Found.{Counting, counting-start, counting-in, counting-low, counting-on, counting-found, counting-end}
+use Rattle.inspection.proofs.Counted.{Counting, counting-start, counting-in, counting-low, counting-on, counting-found, counting-end}
 use Rattle.inspection.proofs.first_wrong_count.Statement.{statement}
 use Rattle.inspection.proofs.first_wrong_count.Tie as tie
 

@@ -12,19 +12,16 @@ use mir.Syntax.{w64}
 use mir.Val.{Fits}
 use borrow.Author.Tests.{lt-ltb, le-ltb, eq-eqb, ne-eqb}
 use Rattle.rules.specs.Words.{first}
-use Rattle.rules.specs.Flows.{flows, numberOf, inputs, portOf, countsOf, flow, portOn, output, load}
+use Rattle.rules.specs.Flows.{flows, numberOf, inputs, portOf, portOn, output}
 use Rattle.rules.specs.Frames.{right, cells, runOf}
-use Rattle.calls.specs.Inspect.{isWrong, twiceIn, usedTwice, wrongCount}
+use Rattle.calls.specs.Inspect.{isWrong, twiceIn, usedTwice}
 use Rattle.rules.proofs.Cases.{byEq, byLt, within-yes, within-above}
 use Rattle.rules.proofs.Searches.{Passed, passed-start, passed-on, passed-found, passed-done, first-found, first-before}
 use Rattle.rules.proofs.Levels.{levels-power}
-use Rattle.rules.proofs.Halves.{load-flow}
-use Rattle.rules.proofs.Flows.{counts-at}
-use Rattle.rules.proofs.Cells.{run-all}
 use Rattle.calls.specs.Demand2.{Ported}
 use Rattle.tally.specs.Tally.{RightFrame, tallyOf}
 use Rattle.tally.proofs.Tallies.{tally-class}
-use Rattle.inspection.specs.Faults.{Lent, wrongIn}
+use Rattle.entries.specs.Entries.{Lent, wrongIn}
 
 -- ---- one entry
 pub idle-right : (list : List ℕ) (i e : ℕ) → e ≡ 0 → false ≡ not (right list i e)
@@ -104,50 +101,6 @@ module _ (ports slots o : ℕ) (list frame slot tally : List ℕ) (r : RightFram
   pub twice-found : Passed (twiceIn ports list slot) 0 ports o → o < ports → 1 < getD tally (528 + o) 0 → o ≡ first (twiceIn ports list slot) 0 ports
   unfolding twiceIn
   twice-found p h l = passed-found p (omega arith) (lt-ltb 1 (cells (portOn output o) ports list slot) (omega (arith, uses h)))
-
--- ---- flows in the wrong number of slots
-pub record Counting (ports slots : ℕ) (list frame tally : List ℕ) (n f : ℕ) : Type 0 where
-  pub all : n ≡ flows list
-  pub tallied : tally ≡ tallyOf ports list (runOf ports 0 slots frame)
-  pub passed : Passed (wrongCount ports list frame) 0 (flows list) f
-
-pub counting-start : {ports slots n : ℕ} {list frame tally : List ℕ} → n ≡ flows list → tally ≡ tallyOf ports list (runOf ports 0 slots frame)
-    → Counting ports slots list frame tally n 0
-counting-start {ports} {slots} {n} {list} {frame} e y = record { all = e; tallied = y; passed = passed-start (wrongCount ports list frame) 0 (flows list) }
-
-module _ {ports slots n f : ℕ} {list frame tally : List ℕ} (r : RightFrame ports slots list frame) (c : Counting ports slots list frame tally n f) (h : f < n) where
-  pub counting-in : f < flows list
-  counting-in = omega (arith, c .all)
-
-  pub counting-low : f < 609
-  counting-low = omega (arith, c .all, r .switch .few)
-
-  count-is : getD tally f 0 ≡ cells (flow f) ports list frame
-  count-is =
-      tally-class ports list (runOf ports 0 slots frame) tally (r .switch) (c .tallied) (flow f) counting-in
-      ∙ ap (cells (flow f) ports list) (run-all ports slots frame (r .size))
-
-  load-is : numberOf 2 list f ≡ load (flow f) list
-  load-is = sym (load-flow f (portOf list) (countsOf list) ∙ counts-at list f counting-in)
-
-  module _ {x y : ℕ} (tallied : x ≡ getD tally f 0) (asked : y ≡ numberOf 2 list f) where
-    pub counting-on : x ≡ y → Counting ports slots list frame tally n (f + 1)
-    unfolding wrongCount
-    counting-on e =
-        record {
-          all = c .all;
-          tallied = c .tallied;
-          passed = passed-on (c .passed) (omega (arith, c .all)) (ap not (eq-eqb _ _ (sym count-is ∙ sym tallied ∙ e ∙ asked ∙ load-is)));
-        }
-
-    pub counting-found : (x ≡ y → ⊥) → f ≡ first (wrongCount ports list frame) 0 (flows list)
-    unfolding wrongCount
-    counting-found d =
-        passed-found (c .passed) (omega (arith, c .all)) (ap not (ne-eqb _ _ (λ e. d (tallied ∙ count-is ∙ e ∙ sym load-is ∙ sym asked))))
-
-pub counting-end : {ports slots n f : ℕ} {list frame tally : List ℕ} → Counting ports slots list frame tally n f → n ≤ f
-    → f ≡ first (wrongCount ports list frame) 0 (flows list)
-counting-end c h = passed-done (c .passed) (omega (arith, c .all))
 
 -- ---- slots, one after the other: a test of places, and the same test slot by slot
 module _ (ports slots : ℕ) (test : ℕ → Bool) (inSlot : ℕ → ℕ → Bool) (same : (s u : ℕ) → u < ports → test (s * ports + u) ≡ inSlot s u) where

@@ -1,10 +1,10 @@
 use Prim.Native.Nat.{_-_}
 use borrow.Author.Needs.{needs}
 use Rattle.rules.proofs.Searches.{Passed, passed-start, passed-done}
-use Rattle.inspection.specs.Faults.{wrongIn}
-use Rattle.inspection.proofs.Found.{lent-ported, input-low, from-fits, place-low, place-fits, offset-fits, wrong-on, wrong-found}
-use Rattle.inspection.proofs.lowest_wrong.Statement.{statement}
-use Rattle.inspection.proofs.lowest_wrong.Tie as tie
+use Rattle.entries.specs.Entries.{wrongIn}
+use Rattle.entries.proofs.Found.{lent-ported, input-low, from-fits, place-low, place-fits, offset-fits, wrong-on, wrong-found}
+use Rattle.entries.proofs.lowest_wrong.Statement.{statement}
+use Rattle.entries.proofs.lowest_wrong.Tie as tie
 
 abbrev Inv-loop : tie.InvT-loop
 Inv-loop ports slots list frame slot «from» i₀ i = Passed (wrongIn ports list frame slot) 0 ports i

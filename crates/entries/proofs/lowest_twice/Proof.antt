@@ -5,9 +5,9 @@ use Rattle.rules.specs.Frames.{runOf}
 use Rattle.calls.specs.Inspect.{twiceIn}
 use Rattle.rules.proofs.Searches.{Passed, passed-start, passed-done}
 use Rattle.tally.specs.Tally.{tallyOf}
-use Rattle.inspection.proofs.Found.{twice-on, twice-found}
-use Rattle.inspection.proofs.lowest_twice.Statement.{statement}
-use Rattle.inspection.proofs.lowest_twice.Tie as tie
+use Rattle.entries.proofs.Found.{twice-on, twice-found}
+use Rattle.entries.proofs.lowest_twice.Statement.{statement}
+use Rattle.entries.proofs.lowest_twice.Tie as tie
 
 abbrev Inv-loop : tie.InvT-loop
 Inv-loop ports slots list frame slot tally o₀ o = (tally ≡ tallyOf ports list (runOf ports slot 1 frame)) × Passed (twiceIn ports list (runOf ports slot 1 frame)) 0 ports o

@@ -3,9 +3,9 @@ use borrow.Author.Needs.{needs}
 use native.Mathlib.Omega.{arith}
 use Rattle.calls.specs.Inspect.{usedTwice}
 use Rattle.rules.proofs.Searches.{Passed}
-use Rattle.inspection.proofs.Found.{slots-start, outputs-on, outputs-found, outputs-row, outputs-fits, slots-end, whole-fits}
-use Rattle.inspection.proofs.first_twice.Statement.{statement}
-use Rattle.inspection.proofs.first_twice.Tie as tie
+use Rattle.entries.proofs.Found.{slots-start, outputs-on, outputs-found, outputs-row, outputs-fits, slots-end, whole-fits}
+use Rattle.entries.proofs.first_twice.Statement.{statement}
+use Rattle.entries.proofs.first_twice.Tie as tie
 
 abbrev Inv-loop : tie.InvT-loop
 Inv-loop ports slots list frame s₀ s = (s ≤ slots) × Passed (usedTwice ports list frame) 0 (slots * ports) (s * ports)

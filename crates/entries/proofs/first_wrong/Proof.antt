@@ -3,9 +3,9 @@ use borrow.Author.Needs.{needs}
 use native.Mathlib.Omega.{arith}
 use Rattle.calls.specs.Inspect.{isWrong}
 use Rattle.rules.proofs.Searches.{Passed}
-use Rattle.inspection.proofs.Found.{slots-start, entries-on, entries-found, entries-row, entries-fits, slots-end, lent-fits}
-use Rattle.inspection.proofs.first_wrong.Statement.{statement}
-use Rattle.inspection.proofs.first_wrong.Tie as tie
+use Rattle.entries.proofs.Found.{slots-start, entries-on, entries-found, entries-row, entries-fits, slots-end, lent-fits}
+use Rattle.entries.proofs.first_wrong.Statement.{statement}
+use Rattle.entries.proofs.first_wrong.Tie as tie
 
 abbrev Inv-loop : tie.InvT-loop
 Inv-loop ports slots list frame s₀ s = (s ≤ slots) × Passed (isWrong ports list frame) 0 (slots * ports) (s * ports)

@@ -1,7 +1,7 @@
 use borrow.Author.Needs.{needs}
-use Rattle.inspection.proofs.Found.{idle-right, above-wrong, flow-in, flow-wrong}
-use Rattle.inspection.proofs.is_wrong.Statement.{statement}
-use Rattle.inspection.proofs.is_wrong.Tie as tie
+use Rattle.entries.proofs.Found.{idle-right, above-wrong, flow-in, flow-wrong}
+use Rattle.entries.proofs.is_wrong.Statement.{statement}
+use Rattle.entries.proofs.is_wrong.Tie as tie
 
 pub is-wrong-spec : {M : Type 1} → statement M
 is-wrong-spec =

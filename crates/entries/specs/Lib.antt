@@ -1,0 +1,2 @@
+-- What the searches of the entries promise.
+pub mod Entries
