@@ -36,7 +36,7 @@ fn first_far(a: &[u16; 609], b: &[u16; 609], from: usize, count: usize) -> usize
     let end = from + count;
     let mut x = from;
     while x < end {
-        if apart(widths::number(a[x]), widths::number(b[x])) {
+        if apart(bits::number(a[x]), bits::number(b[x])) {
             return x;
         }
         x += 1;

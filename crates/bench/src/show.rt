@@ -93,7 +93,7 @@ pub fn admit(ports: usize, slots: usize, list: &[u16])
 fn entries(part: &[u16]) {
     let mut q: usize = 0;
     while q < part.len() {
-        number(widths::number(part[q]));
+        number(bits::number(part[q]));
         q += 1;
     }
 }

@@ -34,7 +34,7 @@ fn lowest_wrong(ports: usize, slots: usize, list: &[u16], frame: &[u16], slot: u
     let from = slot * ports;
     let mut i: usize = 0;
     while i < ports {
-        let entry = widths::number(frame[from + i]);
+        let entry = bits::number(frame[from + i]);
         if is_wrong(list, i, entry) {
             return i;
         }

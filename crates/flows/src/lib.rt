@@ -26,7 +26,7 @@ pub fn number_of(list: &[u16], f: usize, place: usize) -> usize
     ensures { λ r. ⌜ (r ≡ numberOf place (now (list .entry)) f) × (r ≤ 65535) ⌝ }
 {
     let at = f * STRIDE + place;
-    widths::number(list[at])
+    bits::number(list[at])
 }
 
 // The cells of flow f, as they stand in the list.

@@ -28,7 +28,7 @@ fn first_wrong_count(ports: usize, slots: usize, list: &[u16], frame: &[u16]) ->
     let count = flows_of(list);
     let mut f: usize = 0;
     while f < count {
-        if widths::number(tally[f]) != number_of(list, f, 2) {
+        if bits::number(tally[f]) != number_of(list, f, 2) {
             return f;
         }
         f += 1;

@@ -10,9 +10,9 @@ use borrow.Author.Tests.{ne-eqb}
 use Rattle.rules.specs.Words.{upFrom, keep}
 use Rattle.rules.specs.Rules.{odd}
 use Rattle.rules.proofs.Kept.{keep-same}
-use Rattle.planes.specs.Digits.{digit, binary}
+use Rattle.bits.specs.Digits.{digit, binary}
 use Rattle.planes.specs.Planes.{digitIn, digitAt, countAt, each, countsIn, oddAt, oddsIn, spanOf, Ends, BlockPlanes}
-use Rattle.planes.proofs.Digits.{digit-most, binary-up}
+use Rattle.bits.proofs.Digits.{digit-most, binary-up}
 
 -- ---- lists of counts
 pub each-length : (f : ℕ → ℕ) (a n : ℕ) → length (each f a n) ≡ n

@@ -11,11 +11,11 @@ use lib.Seq.{getD-set-same, getD-set-other}
 use Rattle.rules.specs.Words.{Every}
 use Rattle.rules.proofs.Cases.{byEq}
 use Rattle.rules.proofs.Lists.{every-map}
-use Rattle.planes.specs.Digits.{digit, places}
+use Rattle.bits.specs.Digits.{digit, places, PutAt}
 use Rattle.planes.specs.Planes.{digitAt, wordsOf, spanOf, Ends, Mask}
-use Rattle.planes.specs.Steps.{PutAt, Picked, Marked, Others}
-use Rattle.planes.proofs.Digits.{digit-most, digit-none, digit-sum, if-same, if-other}
-use Rattle.planes.proofs.Lowest.{rest, next-place, next-zeros, next-digit, next-fits}
+use Rattle.planes.specs.Steps.{Picked, Marked, Others}
+use Rattle.bits.proofs.Digits.{digit-most, digit-none, digit-sum, if-same, if-other}
+use Rattle.bits.proofs.Lowest.{rest, next-place, next-zeros, next-digit, next-fits}
 use Rattle.planes.proofs.Placed.{word-below}
 
 -- ---- one word

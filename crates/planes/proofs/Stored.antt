@@ -13,12 +13,12 @@ use Rattle.rules.specs.Words.{if}
 use Rattle.rules.specs.Flows.{flows, numberOf, countsOf}
 use Rattle.rules.proofs.Cases.{byEq, byLt}
 use Rattle.rules.proofs.Flows.{counts-length, counts-at}
-use Rattle.planes.specs.Digits.{digit}
+use Rattle.bits.specs.Digits.{digit, PutAt}
 use Rattle.planes.specs.Planes.{digitIn, countAt, countsIn}
-use Rattle.planes.specs.Steps.{PutAt, Blank, Stored, Loaded}
+use Rattle.planes.specs.Steps.{Blank, Stored, Loaded}
 use Rattle.planes.proofs.Lists.{zeros-at}
-use Rattle.planes.proofs.Digits.{digit-most, digit-first, digit-half, digit-none, digit-past, if-same, if-other, binary-same, binary-none, binary-digits}
-use Rattle.planes.proofs.Lowest.{rest, next-zeros, next-digit, next-fits}
+use Rattle.bits.proofs.Digits.{digit-most, digit-first, digit-half, digit-none, digit-past, if-same, if-other, binary-same, binary-none, binary-digits}
+use Rattle.bits.proofs.Lowest.{rest, next-zeros, next-digit, next-fits}
 use Rattle.planes.proofs.Counts.{counts-are}
 
 -- ---- one digit

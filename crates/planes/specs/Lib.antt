@@ -1,4 +1,3 @@
 -- Counts as planes of bits, and what the functions of the crate do with them.
-pub mod Digits
 pub mod Planes
 pub mod Steps

@@ -6,7 +6,7 @@ use mathlib.Core.List.{List, [], _∷_}
 use lib.Dec.{eqb}
 use lib.ListN.{length, getD}
 use Rattle.rules.specs.Words.{keep, upFrom}
-use Rattle.planes.specs.Digits.{digit, binary}
+use Rattle.bits.specs.Digits.{digit, binary}
 
 -- The digit of plane b at a position.
 unfoldable pub digitIn : List ℕ → ℕ → ℕ → ℕ

@@ -7,18 +7,8 @@ use lib.Dec.{eqb}
 use lib.ListN.{length, getD, take}
 use Rattle.rules.specs.Words.{if}
 use Rattle.rules.specs.Flows.{flows, numberOf, countsOf}
-use Rattle.planes.specs.Digits.{digit, binary, places}
+use Rattle.bits.specs.Digits.{digit, binary, places}
 use Rattle.planes.specs.Planes.{digitIn, digitAt, countAt, countsIn, oddsIn, spanOf}
-
--- ---- digits
--- The word x with d put at digit i, where it had 0 or d, is r.
-pub record PutAt (x i d r : ℕ) : Type 0 where
-  pub put : (j : ℕ) → digit r j ≡ max (digit x j) (if (eqb j i) d 0)
-
--- The word x with digit i turned to the other is r.
-pub record FlippedAt (x i r : ℕ) : Type 0 where
-  pub here : digit r i ≡ 1 - digit x i
-  pub others : (j : ℕ) → j ≢ i → digit r j ≡ digit x j
 
 -- ---- load
 -- Nothing is in the planes.

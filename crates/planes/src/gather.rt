@@ -3,7 +3,7 @@ use crate::words::words_of;
 ghost use mathlib.Core.Path.{_≡_};
 ghost use Prim.Native.Nat.{_+_, _≤_};
 ghost use lib.ListN.{length};
-ghost use Rattle.planes.specs.Digits.{places};
+ghost use Rattle.bits.specs.Digits.{places};
 ghost use Rattle.planes.specs.Planes.{Ends};
 ghost use Rattle.planes.specs.Steps.{PlacesListed, Gathered};
 

@@ -1,5 +1,5 @@
 // The counts of a list into planes.
-use crate::digit::put_digit;
+use bits::put_digit;
 use flows::cells_of;
 use flows::flows_of;
 ghost use Prim.Native.Nat.{ℕ, _%_, _^_, _<_, _≤_};

@@ -1,11 +1,11 @@
 // Masks of the odd counts that favour a half.
-use crate::digit::put_digit;
+use bits::put_digit;
 use crate::words::words_of;
 ghost use mathlib.Core.Path.{_≡_};
 ghost use Prim.Native.Nat.{_%_, _<_, _≤_};
 ghost use lib.ListN.{length};
 ghost use Rattle.rules.specs.Words.{Every};
-ghost use Rattle.planes.specs.Digits.{places};
+ghost use Rattle.bits.specs.Digits.{places};
 ghost use Rattle.planes.specs.Planes.{Ends, Mask};
 ghost use Rattle.planes.specs.Steps.{Picked, Marked, Others};
 

@@ -140,7 +140,7 @@ fn put_cells(out: &mut [u8], at: usize, slot: &[u16]) -> usize
     let mut i: usize = 0;
     let mut next = at;
     while i < slot.len() {
-        let flow = widths::number(slot[i]);
+        let flow = bits::number(slot[i]);
         next = put_cell(out, next, flow);
         i += 1;
     }

@@ -75,7 +75,7 @@ fn digit(sheet: &[u8], at: usize) -> usize
     if sheet.len() <= at {
         return 10;
     }
-    let byte = widths::byte(sheet[at]);
+    let byte = bits::byte(sheet[at]);
     if byte < 48 {
         return 10;
     }

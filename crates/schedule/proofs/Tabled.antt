@@ -12,9 +12,8 @@ use Rattle.rules.specs.Flows.{End, inputs, links, flows, outputOf, numberOf, po
 use Rattle.rules.proofs.Cases.{byEq}
 use Rattle.calls.specs.Demand2.{Ported, Linked}
 use Rattle.checks.specs.Lists.{ListFits}
-use Rattle.planes.specs.Digits.{digit}
-use Rattle.planes.specs.Steps.{PutAt}
-use Rattle.planes.proofs.Digits.{digit-none, if-same, if-other}
+use Rattle.bits.specs.Digits.{digit, PutAt}
+use Rattle.bits.proofs.Digits.{digit-none, if-same, if-other}
 use Rattle.split.specs.Steps.{Wide, lookup, tabled, Sides, Outputs, MultiLink}
 use Rattle.schedule.specs.Steps.{Tables, Tabled}
 

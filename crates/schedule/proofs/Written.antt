@@ -13,9 +13,9 @@ use Rattle.rules.specs.Words.{upFrom, keep, Every}
 use Rattle.rules.specs.Rules.{odd}
 use Rattle.rules.specs.Schedule.{put, slotOf}
 use Rattle.rules.proofs.Lists.{every-map}
-use Rattle.planes.specs.Digits.{places}
+use Rattle.bits.specs.Digits.{places}
 use Rattle.planes.specs.Planes.{countsIn, oddsIn, wordsOf, Ends}
-use Rattle.planes.proofs.Lowest.{rest, places-none, next-place, next-zeros, next-fits}
+use Rattle.bits.proofs.Lowest.{rest, places-none, next-place, next-zeros, next-fits}
 use Rattle.planes.proofs.Placed.{word-below, words-odds, odds-past}
 use Rattle.planes.proofs.Counts.{counts-length, odds-are}
 use Rattle.split.specs.Steps.{lookup}

@@ -2,7 +2,7 @@
 use flows::flows_of;
 use flows::link_of;
 use flows::number_of;
-use planes::digit::put_digit;
+use bits::put_digit;
 ghost use mathlib.Core.Path.{_≡_};
 ghost use Prim.Native.Nat.{_%_, _≤_};
 ghost use lib.Dec.{eqb};

@@ -2,12 +2,12 @@
 use planes::halve::halve_two;
 use planes::mark::others;
 use planes::words::words_of;
-use widths::byte;
+use bits::byte;
 ghost use mathlib.Core.Path.{_≡_};
 ghost use Prim.Native.Nat.{_*_, _^_, _≤_};
 ghost use lib.ListN.{length, replicate};
 ghost use Rattle.rules.specs.Schedule.{slotOf};
-ghost use Rattle.planes.specs.Digits.{places};
+ghost use Rattle.bits.specs.Digits.{places};
 ghost use Rattle.planes.specs.Planes.{countsIn, halves, Ends, BlockPlanes, Mask};
 ghost use Rattle.schedule.specs.Steps.{Table, atInputs, AtSlot, PutBy, TwoSlots};
 

@@ -108,7 +108,7 @@ fn slot_cells(ports: usize, list: &[u16], who: Who, entries: &[u16]) -> usize
     let mut sum: usize = 0;
     let mut q: usize = first_entry(who);
     while q < entries.len() {
-        sum += counted(list, who, widths::number(entries[q]));
+        sum += counted(list, who, bits::number(entries[q]));
         q += step;
     }
     sum

@@ -19,9 +19,9 @@ use Rattle.rules.proofs.Kept.{keep-keep}
 use Rattle.rules.proofs.Lists.{every-map, Apart}
 use Rattle.rules.proofs.Partners.{in-none, odd-lt}
 use Rattle.rules.proofs.Singles.{every-both, Single, singles-every, singles-apart, output-linked, output-single, one-link}
-use Rattle.planes.specs.Digits.{digit}
-use Rattle.planes.proofs.Digits.{digit-most, digit-none, if-same, if-other}
-use Rattle.planes.proofs.Lowest.{rest, next-zeros, next-digit, next-fits}
+use Rattle.bits.specs.Digits.{digit}
+use Rattle.bits.proofs.Digits.{digit-most, digit-none, if-same, if-other}
+use Rattle.bits.proofs.Lowest.{rest, next-zeros, next-digit, next-fits}
 use Rattle.split.specs.Steps.{lookup, Outputs, MultiLink, MateTable, portIn, thoseAt, Pends, pendsAt, Latest, PendingBy, AllMated, pendingAt, pendingFrom, MatedBoth, Joins, OddsOf, MatedOut}
 use Rattle.split.proofs.Lists.{every-snoc, every-kept}
 use Rattle.split.proofs.Mated.{Mated, even-in, odd-in, odd-pending, odd-new, single-has, set-low, choice-low, pends-next}

@@ -18,9 +18,8 @@ use Rattle.rules.proofs.Cases.{byBool, byEq, byLt}
 use Rattle.rules.proofs.Lists.{Rising, rising-apart, Apart, rising-weaken, every-map}
 use Rattle.rules.proofs.Partners.{in-none, in-first, in-second, in-rest}
 use Rattle.rules.proofs.Singles.{single-every, every-both}
-use Rattle.planes.specs.Digits.{digit}
-use Rattle.planes.specs.Steps.{FlippedAt}
-use Rattle.planes.proofs.Digits.{digit-most, digit-none}
+use Rattle.bits.specs.Digits.{digit, FlippedAt}
+use Rattle.bits.proofs.Digits.{digit-most, digit-none}
 use Rattle.split.specs.Steps.{Odds, MateTable, lookup, portIn, thoseAt, mateAmong, Pends, pendsAt, Free, PendingBy, AllMated}
 use Rattle.split.proofs.Lists.{keep-snoc, every-snoc, position-low}
 

@@ -11,7 +11,7 @@ use Rattle.rules.specs.Flows.{End, inputs, links, outputOf}
 use Rattle.rules.specs.Rules.{odd, single}
 use Rattle.rules.specs.Schedule.{partnerIn, outputPartner, walk, favouring, level, favours}
 use Rattle.rules.proofs.Lists.{Rising, Apart}
-use Rattle.planes.specs.Digits.{digit}
+use Rattle.bits.specs.Digits.{digit}
 use Rattle.planes.specs.Planes.{digitAt, countsIn, Mask}
 
 -- ---- positions

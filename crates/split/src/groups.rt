@@ -1,5 +1,5 @@
 // Groups: who is joined by partnership favours the two halves in turn. A count has 0 until it is settled.
-use widths::number;
+use bits::number;
 ghost use mathlib.Core.Path.{_≡_};
 ghost use Prim.Native.Nat.{_<_};
 ghost use lib.ListN.{take, replicate};

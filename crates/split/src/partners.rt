@@ -1,9 +1,9 @@
 // Partners: the odd counts of an input, or of a link, first with second, third with fourth, and so on; and of those that the links of an
 // output leave single, by rising link, the same.
-use planes::digit::has_digit;
-use planes::digit::flip_digit;
-use widths::byte;
-use widths::number;
+use bits::has_digit;
+use bits::flip_digit;
+use bits::byte;
+use bits::number;
 ghost use mathlib.Core.Path.{_≡_};
 ghost use mathlib.Core.Bool.{not};
 ghost use Prim.Native.Nat.{_*_, _%_, _<_};

@@ -41,7 +41,7 @@ fn add_slot(ports: usize, list: &[u16], slot: &[u16], tally: &mut [u16; 609])
     let mut cells: u16 = 0;
     let mut i: usize = 0;
     while i < slot.len() {
-        let entry = widths::number(slot[i]);
+        let entry = bits::number(slot[i]);
         cells += add_entry(ports, list, i, entry, tally);
         i += 1;
     }

@@ -1,6 +1,6 @@
 use borrow.Author.Needs.{needs}
 use native.Mathlib.Omega.{arith}
-use Rattle.planes.proofs.Lowest.{rest-less}
+use Rattle.bits.proofs.Lowest.{rest-less}
 use Rattle.planes.proofs.Placed.{Placing, placing-start, placing-zeros, placing-room, placing-on, placing-end}
 use Rattle.planes.proofs.gather.place.Statement.{statement}
 use Rattle.planes.proofs.gather.place.Tie as tie

@@ -1,6 +1,6 @@
 use borrow.Author.Needs.{needs}
 use native.Mathlib.Omega.{arith}
-use Rattle.planes.proofs.Lowest.{rest-less}
+use Rattle.bits.proofs.Lowest.{rest-less}
 use Rattle.planes.proofs.Stored.{Storing, storing-start, storing-zeros, storing-low, storing-on, storing-end}
 use Rattle.planes.proofs.load.store_ones.Statement.{statement}
 use Rattle.planes.proofs.load.store_ones.Tie as tie

@@ -1,6 +1,6 @@
 use borrow.Author.Needs.{needs}
 use native.Mathlib.Omega.{arith}
-use Rattle.planes.proofs.Lowest.{rest-less}
+use Rattle.bits.proofs.Lowest.{rest-less}
 use Rattle.planes.proofs.Marked.{Picking, picking-start, picking-zeros, picking-below, picking-on, picking-end}
 use Rattle.planes.proofs.mark.pick.Statement.{statement}
 use Rattle.planes.proofs.mark.pick.Tie as tie

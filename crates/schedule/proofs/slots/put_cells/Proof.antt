@@ -1,7 +1,7 @@
 use mathlib.Core.Path.{refl}
 use borrow.Author.Needs.{needs}
 use native.Mathlib.Omega.{arith}
-use Rattle.planes.proofs.Lowest.{rest-less}
+use Rattle.bits.proofs.Lowest.{rest-less}
 use Rattle.schedule.proofs.Written.{Putting, putting-start, putting-zeros, putting-low, putting-lt, putting-on, putting-end}
 use Rattle.schedule.proofs.slots.put_cells.Statement.{statement}
 use Rattle.schedule.proofs.slots.put_cells.Tie as tie

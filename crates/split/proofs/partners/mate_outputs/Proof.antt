@@ -1,6 +1,6 @@
 use borrow.Author.Needs.{needs}
 use native.Mathlib.Omega.{arith}
-use Rattle.planes.proofs.Lowest.{rest-less}
+use Rattle.bits.proofs.Lowest.{rest-less}
 use Rattle.split.proofs.Mated.{all-free}
 use Rattle.split.proofs.Joined.{MatingRest, mating-start, mating-zeros, mating-low, mating-on, mating-end}
 use Rattle.split.proofs.partners.mate_outputs.Statement.{statement}

@@ -12,8 +12,8 @@ use lib.Count.{trailingZeros}
 use borrow.Author.Tests.{eq-eqb}
 use Rattle.rules.specs.Words.{if, upFrom, keep}
 use Rattle.rules.proofs.Cases.{byEq}
-use Rattle.planes.specs.Digits.{digit, places}
-use Rattle.planes.proofs.Digits.{digit-first, digit-half}
+use Rattle.bits.specs.Digits.{digit, places}
+use Rattle.bits.proofs.Digits.{digit-first, digit-half}
 
 -- the word without its lowest digit
 abbrev pub rest : ℕ → ℕ

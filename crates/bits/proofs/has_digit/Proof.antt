@@ -1,7 +1,7 @@
 use borrow.Author.Needs.{needs}
-use Rattle.planes.specs.Digits.{digit}
-use Rattle.planes.proofs.digit.has_digit.Statement.{statement}
-use Rattle.planes.proofs.digit.has_digit.Tie as tie
+use Rattle.bits.specs.Digits.{digit}
+use Rattle.bits.proofs.has_digit.Statement.{statement}
+use Rattle.bits.proofs.has_digit.Tie as tie
 
 returns : tie.Need-returns
 unfolding digit

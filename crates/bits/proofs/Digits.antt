@@ -10,8 +10,7 @@ use lib.Bits.{bitAnd, bitOr, bitXor, and-shr, or-shr, xor-shr, and-mod, xor-mod,
 use lib.Pow.{shr-shr, shl-exact}
 use borrow.Author.Tests.{eq-eqb, ne-eqb}
 use Rattle.rules.specs.Words.{if}
-use Rattle.planes.specs.Digits.{digit, binary}
-use Rattle.planes.specs.Steps.{PutAt, FlippedAt}
+use Rattle.bits.specs.Digits.{digit, binary, PutAt, FlippedAt}
 
 -- ---- one digit
 pub digit-most : (x i : ℕ) → digit x i ≤ 1

@@ -1,7 +1,7 @@
 use borrow.Author.Needs.{needs}
-use Rattle.planes.proofs.Digits.{put-at}
-use Rattle.planes.proofs.digit.put_digit.Statement.{statement}
-use Rattle.planes.proofs.digit.put_digit.Tie as tie
+use Rattle.bits.proofs.Digits.{put-at}
+use Rattle.bits.proofs.put_digit.Statement.{statement}
+use Rattle.bits.proofs.put_digit.Tie as tie
 
 pub put-digit-spec : {M : Type 1} → statement M
 put-digit-spec =

@@ -1,0 +1,3 @@
+-- Laws of digits.
+pub mod Digits
+pub mod Lowest

@@ -1,0 +1,2 @@
+-- Numbers by their binary digits.
+pub mod Digits
