@@ -13,11 +13,12 @@ use mir.Syntax.{w64}
 use mir.Val.{Fits}
 use borrow.Author.Tests.{eq-eqb, ne-eqb, eqb-true, le-leb, lt-leb, leb-true, lt-ltb, le-ltb}
 use Rattle.rules.specs.Words.{if, both}
-use Rattle.sheets.specs.Sheet.{text, decimal, printCells, printSlots, printFrame, printRefusal}
+use Rattle.sheets.specs.Text.{text, decimal}
+use Rattle.sheets.specs.Sheet.{printCells, printSlots, printFrame, printRefusal}
 use Rattle.calls.specs.Refusals.{refusal}
 use Rattle.calls.specs.declared.Refusal.{Refusal}
 use Rattle.rules.proofs.Cases.{both-true}
-use Rattle.sheets.proofs.Sheets.{decimal-one, decimal-go, decimal-most}
+use Rattle.sheets.proofs.Text.{decimal-one, decimal-go, decimal-most}
 use Rattle.numbers.specs.Numbers.{Four}
 use Rattle.numbers.proofs.Valued.{valued-is}
 use Rattle.printing.specs.Printing.{Printed, PrintedIn, Prints, Sized, ofSize, frameBytes, wordThen, cellOf, slotLine}

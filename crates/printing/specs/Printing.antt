@@ -7,7 +7,8 @@ use lib.ListN.{length}
 use lib.Dec.{eqb, leb}
 use lib.Seq.{sets}
 use Rattle.rules.specs.Words.{if, both}
-use Rattle.sheets.specs.Sheet.{text, decimal, printCells, printFrame}
+use Rattle.sheets.specs.Text.{text, decimal}
+use Rattle.sheets.specs.Sheet.{printCells, printFrame}
 
 -- The bytes stand in the buffer from a place on, as far as they fit, and next is the place behind them.
 pub record Printed (out : List ℕ) (at : ℕ) (bytes new : List ℕ) (next : ℕ) : Type 0 where

@@ -4,7 +4,8 @@ ghost use mathlib.Core.List.{[], _∷_};
 ghost use Prim.Native.Nat.{_+_, _≤_, _<_};
 ghost use lib.ListN.{length};
 ghost use Rattle.calls.specs.Refusals.{refusal};
-ghost use Rattle.sheets.specs.Sheet.{decimal, printCells, printSlots, printFrame, printRefusal};
+ghost use Rattle.sheets.specs.Text.{decimal};
+ghost use Rattle.sheets.specs.Sheet.{printCells, printSlots, printFrame, printRefusal};
 ghost use Rattle.printing.specs.Printing.{Printed, PrintedIn, Sized, ofSize, frameBytes, wordThen, cellOf, slotLine};
 use calls::Refusal;
 

@@ -13,7 +13,8 @@ use Rattle.rules.specs.Flows.{stride, flows}
 use Rattle.rules.specs.Frames.{levels}
 use Rattle.calls.specs.Refusals.{refusal, bad-ports, bad-slots}
 use Rattle.calls.specs.declared.Refusal.{Refusal}
-use Rattle.sheets.specs.Sheet.{text, portsLine, slotsLine, pairLine, lines, line-past-512, bad-port, Asked, refused, unless, readPairs, readSlots, readPorts}
+use Rattle.sheets.specs.Text.{text, lines}
+use Rattle.sheets.specs.Sheet.{portsLine, slotsLine, pairLine, line-past-512, bad-port, Asked, refused, unless, readPairs, readSlots, readPorts}
 use Rattle.calls.proofs.Reports.{within-known, slots-tells}
 use Rattle.calls.proofs.Demand2.{well-clear, clear-well}
 use Rattle.sheets.proofs.Responses.{well-none, well-more}

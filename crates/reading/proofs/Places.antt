@@ -10,9 +10,10 @@ use lib.ListN.{length, getD, drop, length-drop, drop-of-length-le}
 use lib.Seq.{drop-cons, drop-drop}
 use borrow.Author.Tests.{eq-eqb, ne-eqb, eqb-true}
 use Rattle.rules.specs.Words.{both, within}
-use Rattle.sheets.specs.Sheet.{text, decimal, numbersFrom, pairLine}
+use Rattle.sheets.specs.Text.{text, decimal, numbersFrom}
+use Rattle.sheets.specs.Sheet.{pairLine}
 use Rattle.rules.proofs.Cases.{byLt, both-true, within-yes, within-below, within-above}
-use Rattle.sheets.proofs.Sheets.{lead, decimal-one, decimal-more, numbers-decimal, number-grows, other-on}
+use Rattle.sheets.proofs.Text.{lead, decimal-one, decimal-more, numbers-decimal, number-grows, other-on}
 use Rattle.reading.specs.Reading.{starts, DigitAt, NumberAt, NoNumberAt, NumberOf, oneLine, LineAt, NoLineAt, PairAt, NoPairAt}
 use Rattle.reading.specs.declared.NumberRead.{NumberRead}
 use Rattle.reading.specs.declared.NumberRead.the-variants.{Number, NoNumber}

@@ -9,7 +9,8 @@ use Rattle.rules.specs.Words.{both, within}
 use Rattle.rules.specs.Flows.{stride, flows}
 use Rattle.calls.specs.Refusals.{none-holds, listChecks, refusal}
 use Rattle.rules.specs.Frames.{levels}
-use Rattle.sheets.specs.Sheet.{text, decimal, pairLine, lines, Asked, loads, refused, readPairs, readSlots, readPorts}
+use Rattle.sheets.specs.Text.{text, decimal, lines}
+use Rattle.sheets.specs.Sheet.{pairLine, Asked, loads, refused, readPairs, readSlots, readPorts}
 use Rattle.reading.specs.declared.NumberRead.{NumberRead}
 use Rattle.reading.specs.declared.NumberRead.the-variants.{Number, NoNumber}
 use Rattle.reading.specs.declared.PairForm.{PairForm}

@@ -16,7 +16,8 @@ use Rattle.rules.specs.Words.{if, both, Every}
 use Rattle.rules.specs.Flows.{stride}
 use Rattle.calls.specs.Refusals.{report, none-holds, listChecks, bad-frame, refusal, portOverloads, linkOverload, overloads, slotsEach}
 use Rattle.calls.specs.Build.{buildChecks, frameFor, outcome, acceptance, built, frameAfter}
-use Rattle.sheets.specs.Sheet.{Asked, loads, refused, overloaded, lines, readPorts, readSheet, printed, printFrame, response}
+use Rattle.sheets.specs.Sheet.{Asked, loads, refused, overloaded, readPorts, readSheet, printed, printFrame, response}
+use Rattle.sheets.specs.Text.{lines}
 use Rattle.calls.specs.declared.Refusal.{Refusal}
 use Rattle.calls.specs.declared.Refusal.the-variants as variants
 use Rattle.calls.specs.declared.Built.{Built}

@@ -6,7 +6,8 @@ use mathlib.Core.Path.{_≡_, refl}
 use mathlib.Core.List.{List, [], _∷_, _++_, map}
 use Rattle.rules.specs.Words.{sumTo}
 use Rattle.rules.specs.Flows.{portOf, countsOf, loadIn}
-use Rattle.sheets.specs.Sheet.{text, digits, portsLine, slotsLine, pairLine, lines, numbersFrom, readPairs, loads, readSheet, printSlots, response}
+use Rattle.sheets.specs.Text.{text, digits, lines, numbersFrom}
+use Rattle.sheets.specs.Sheet.{portsLine, slotsLine, pairLine, readPairs, loads, readSheet, printSlots, response}
 use Rattle.rules.specs.Schedule.{walk, settleAt, favours, slotOf, frameOf}
 use Rattle.calls.proofs.Bench.{Case, table7, table7-framed}
 use Rattle.calls.proofs.Bench as called

@@ -14,7 +14,8 @@ use Rattle.calls.specs.Refusals.{Check, report, none-holds, bad-ports, bad-slot
 use Rattle.rules.specs.Frames.{levels}
 use Rattle.rules.specs.Rules.{odd}
 use Rattle.rules.specs.Schedule.{favours, halfBy, put, slotOf, frameOf}
-use Rattle.sheets.specs.Sheet.{text, decimal, portsLine, slotsLine, pairLine, lines, numberIn, same, bad-line, line-past-512, bad-port, Asked, loads, refused, unless, most, readPairs, readSlots, readPorts, bad-sheet, overloaded, readSheet, printCells, printSlots, printFrame, printRefusal, printed, response}
+use Rattle.sheets.specs.Text.{text, decimal, lines, numberIn, same}
+use Rattle.sheets.specs.Sheet.{portsLine, slotsLine, pairLine, bad-line, line-past-512, bad-port, Asked, loads, refused, unless, most, readPairs, readSlots, readPorts, bad-sheet, overloaded, readSheet, printCells, printSlots, printFrame, printRefusal, printed, response}
 use Rattle.rules.proofs.Cases.{byBool, byEq, byLt, both-true, within-true}
 use Rattle.rules.proofs.Sums.{sum-most}
 use Rattle.rules.proofs.Searches.{first-high}
@@ -22,7 +23,8 @@ use Rattle.rules.proofs.Levels.{known-power, power-most}
 use Rattle.rules.proofs.Kept.{keep-every}
 use Rattle.rules.proofs.Lists.{zero-at}
 use Rattle.rules.proofs.Flows.{counts-length, counts-at}
-use Rattle.sheets.proofs.Sheets.{decimal-short, lines-most, most-low}
+use Rattle.sheets.proofs.Text.{decimal-short, lines-most}
+use Rattle.sheets.proofs.Sheets.{most-low}
 
 -- ---- numbers
 -- how many digits the numbers 1 to n have together, n at most 9,999

@@ -10,7 +10,8 @@ use Rattle.rules.specs.Words.{within, Within}
 use Rattle.rules.specs.Flows.{stride, flows, numberOf, inputs, links, portOf, countsOf, portOn, output, load, input}
 use Rattle.calls.specs.Refusals.{Check, report, overload, portOverloads}
 use Rattle.rules.specs.Schedule.{frameOf}
-use Rattle.sheets.specs.Sheet.{bad-sheet, printFrame, digits, portsLine, slotsLine, pairLine, lines, line-past-512, bad-port, Asked, loads, readPairs, readPorts, readSheet, response}
+use Rattle.sheets.specs.Sheet.{bad-sheet, printFrame, portsLine, slotsLine, pairLine, line-past-512, bad-port, Asked, loads, readPairs, readPorts, readSheet, response}
+use Rattle.sheets.specs.Text.{digits, lines}
 use Rattle.sheets.specs.Sheet as asked
 use Rattle.rules.proofs.Cases.{byLt, both-true, within-yes, within-true}
 use Rattle.rules.specs.Frames.{Power}

@@ -1,3 +1,4 @@
 -- The sheet and its response.
+pub mod Text
 pub mod Sheet
 pub mod Responds

@@ -9,7 +9,8 @@ use Rattle.rules.specs.Frames.{Power}
 use Rattle.rules.specs.Rules.{Scheduled}
 use Rattle.calls.specs.Demand2.{Light, Over}
 use Rattle.calls.specs.Answers.{Exactly}
-use Rattle.sheets.specs.Sheet.{text, portsLine, slotsLine, pairLine, Asked, loads, printFrame, printRefusal, response}
+use Rattle.sheets.specs.Text.{text}
+use Rattle.sheets.specs.Sheet.{portsLine, slotsLine, pairLine, Asked, loads, printFrame, printRefusal, response}
 use Rattle.sheets.specs.Sheet as asked
 
 -- Bytes begin with no line of a form.

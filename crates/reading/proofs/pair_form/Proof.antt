@@ -1,4 +1,4 @@
-use Rattle.sheets.specs.Sheet.{text}
+use Rattle.sheets.specs.Text.{text}
 use Rattle.reading.proofs.Places.{number-inside, form-first, form-second, form-third, form-yes, form-end}
 use borrow.Author.Needs.{needs}
 use native.Mathlib.Omega.{arith}

@@ -1,5 +1,6 @@
 use mathlib.Core.Path.{sym}
-use Rattle.sheets.specs.Sheet.{lines, readPorts}
+use Rattle.sheets.specs.Text.{lines}
+use Rattle.sheets.specs.Sheet.{readPorts}
 use Rattle.sheet.proofs.Responses.{sheet-long, sheet-passed, loads-known, loads-readable, sheet-built}
 use borrow.Author.Needs.{needs}
 use Rattle.sheet.proofs.read_sheet.Statement.{statement}
