@@ -19,28 +19,29 @@ use Rattle.calls.proofs.Reports.{within-known, slots-tells}
 use Rattle.calls.proofs.Demand2.{well-clear, clear-well}
 use Rattle.sheets.proofs.Responses.{well-none, well-more}
 use Rattle.sheets.proofs.Sheets.{ports-yes, ports-no, slots-yes, slots-no, pairs-yes, pairs-no, pairs-none}
-use Rattle.reading.specs.Reading.{LineAt, NoLineAt, LineOf, PairAt, NoPairAt, FormOf, PortsRead, PortsOf, SlotsRead, SlotsOf, PairRead, PairRefused, PairOf, LoadsRead, SheetOf, listLeft, Fresh, Reached}
+use Rattle.text.specs.Places.{LineAt, NoLineAt, LineOf}
+use Rattle.reading.specs.Reading.{PairAt, NoPairAt, FormOf, PortsRead, PortsOf, SlotsRead, SlotsOf, PairRead, PairRefused, PairOf, LoadsRead, SheetOf, listLeft, Fresh, Reached}
 use types.Run.{OneOf, miss}
 use denote.Enum.Declared.{tagOf}
 use Rattle.reading.proofs.Reading.{the-type}
-use Rattle.reading.specs.declared.NumberRead.{NumberRead}
-use Rattle.reading.specs.declared.NumberRead.the-variants.{Number, NoNumber}
+use Rattle.text.specs.declared.NumberRead.{NumberRead}
+use Rattle.text.specs.declared.NumberRead.the-variants.{Number, NoNumber}
 use Rattle.reading.specs.declared.PairForm.{PairForm}
 use Rattle.reading.specs.declared.PairForm.the-variants.{Form, NoForm}
 use Rattle.reading.specs.declared.Reading.{Reading}
 use Rattle.reading.specs.declared.Reading.the-variants.{Ports, Slots, Pair, Loads, Refused}
 
 -- ---- line 1
-pub ports-form : (s : List ℕ) (r : NumberRead) → LineOf (text "(ports ") s 0 r → r ≡ NoNumber → readPorts (lines s) ≡ refused (7 ∷ 1 ∷ [])
+pub ports-form : (s : List ℕ) (r : NumberRead) → LineOf 65535 (text "(ports ") s 0 r → r ≡ NoNumber → readPorts (lines s) ≡ refused (7 ∷ 1 ∷ [])
 unfolding portsLine
-ports-form s r y e = let x : NoLineAt (text "(ports ") s 0 = rw e at y in ports-no s (x .never)
+ports-form s r y e = let x : NoLineAt 65535 (text "(ports ") s 0 = rw e at y in ports-no s (x .never)
 
-module _ (s : List ℕ) (r : NumberRead) (ports next : ℕ) (b : Bool) (y : LineOf (text "(ports ") s 0 r) (e : r ≡ Number ports next)
+module _ (s : List ℕ) (r : NumberRead) (ports next : ℕ) (b : Bool) (y : LineOf 65535 (text "(ports ") s 0 r) (e : r ≡ Number ports next)
     (f : b ≡ not (within 1 16 ports)) where
   ports-line : readPorts (lines s) ≡ unless (bad-ports ports ∷ []) (readSlots ports (lines (drop next s)))
   unfolding portsLine
   ports-line =
-      let x : LineAt (text "(ports ") s 0 ports next = rw e at y in
+      let x : LineAt 65535 (text "(ports ") s 0 ports next = rw e at y in
       ap (λ z. readPorts (lines z)) (x .stands) ∙ ports-yes ports (drop next s) (x .low)
 
   pub ports-out : b ≡ true → readPorts (lines s) ≡ refused (1 ∷ [])
@@ -48,22 +49,22 @@ module _ (s : List ℕ) (r : NumberRead) (ports next : ℕ) (b : Bool) (y : Line
 
   pub ports-in : b ≡ false → PortsRead s ports next
   ports-in g =
-      let x : LineAt (text "(ports ") s 0 ports next = rw e at y in
+      let x : LineAt 65535 (text "(ports ") s 0 ports next = rw e at y in
       let w = within-known f g in
       record { reads = ports-line ∙ rw (sym f ∙ g); least = w .0; most = w .1; inside = x .inside }
 
 -- ---- line 2
-pub slots-form : (ports : ℕ) (s : List ℕ) (at : ℕ) (r : NumberRead) → LineOf (text "(slots ") s at r → r ≡ NoNumber
+pub slots-form : (ports : ℕ) (s : List ℕ) (at : ℕ) (r : NumberRead) → LineOf 65535 (text "(slots ") s at r → r ≡ NoNumber
     → readSlots ports (lines (drop at s)) ≡ refused (7 ∷ 2 ∷ [])
 unfolding slotsLine
-slots-form ports s at r y e = let x : NoLineAt (text "(slots ") s at = rw e at y in slots-no ports (drop at s) (x .never)
+slots-form ports s at r y e = let x : NoLineAt 65535 (text "(slots ") s at = rw e at y in slots-no ports (drop at s) (x .never)
 
-module _ (ports : ℕ) (s : List ℕ) (at : ℕ) (r : NumberRead) (slots next : ℕ) (b : Bool) (y : LineOf (text "(slots ") s at r) (e : r ≡ Number slots next)
+module _ (ports : ℕ) (s : List ℕ) (at : ℕ) (r : NumberRead) (slots next : ℕ) (b : Bool) (y : LineOf 65535 (text "(slots ") s at r) (e : r ≡ Number slots next)
     (f : b ≡ eqb (levels slots) 11) where
   slots-line : readSlots ports (lines (drop at s)) ≡ unless (bad-slots slots ∷ []) (readPairs ports slots 3 [] (lines (drop next s)))
   unfolding slotsLine
   slots-line =
-      let x : LineAt (text "(slots ") s at slots next = rw e at y in
+      let x : LineAt 65535 (text "(slots ") s at slots next = rw e at y in
       ap (λ z. readSlots ports (lines z)) (x .stands) ∙ slots-yes ports slots (drop next s) (x .low)
 
   pub slots-out : b ≡ true → readSlots ports (lines (drop at s)) ≡ refused (2 ∷ [])
@@ -71,7 +72,7 @@ module _ (ports : ℕ) (s : List ℕ) (at : ℕ) (r : NumberRead) (slots next : 
 
   pub slots-in : b ≡ false → SlotsRead ports s at slots next
   slots-in g =
-      let x : LineAt (text "(slots ") s at slots next = rw e at y in
+      let x : LineAt 65535 (text "(slots ") s at slots next = rw e at y in
       record { reads = slots-line ∙ rw (sym f ∙ g); power = sym f ∙ g; inside = x .inside }
 
 -- ---- a pair line

@@ -1,65 +1,19 @@
--- What stands in a sheet from a place on: a word, a number, a line; and what is read there.
+-- What is read of a sheet, from a place on.
 use Prim.Native.Nat.{ℕ, _+_, _-_, _*_, _≤_, _<_}
 use mathlib.Core.Path.{_≡_}
 use mathlib.Core.List.{List, [], _∷_, _++_}
-use mathlib.Core.Bool.{Bool, true, false}
+use mathlib.Core.Bool.{true, false}
 use lib.Dec.{eqb}
-use lib.ListN.{length, getD, take, drop, replicate}
-use Rattle.rules.specs.Words.{both, within}
+use lib.ListN.{length, take, drop, replicate}
 use Rattle.rules.specs.Flows.{stride, flows}
 use Rattle.calls.specs.Refusals.{none-holds, listChecks, refusal}
 use Rattle.rules.specs.Frames.{levels}
-use Rattle.sheets.specs.Text.{text, decimal, lines}
+use Rattle.sheets.specs.Text.{lines}
 use Rattle.sheets.specs.Sheet.{pairLine, Asked, loads, refused, readPairs, readSlots, readPorts}
-use Rattle.reading.specs.declared.NumberRead.{NumberRead}
-use Rattle.reading.specs.declared.NumberRead.the-variants.{Number, NoNumber}
 use Rattle.reading.specs.declared.PairForm.{PairForm}
 use Rattle.reading.specs.declared.PairForm.the-variants.{Form, NoForm}
 use Rattle.reading.specs.declared.Reading.{Reading}
 use Rattle.reading.specs.declared.Reading.the-variants.{Ports, Slots, Pair, Loads, Refused}
-
--- A list begins with a word.
-abbrev pub starts : List ℕ → List ℕ → Bool
-starts [] s = true
-starts (x ∷ w) [] = false
-starts (x ∷ w) (y ∷ s) = both (eqb x y) (starts w s)
-
--- The digit at a place; 10 where none stands there.
-pub record DigitAt (s : List ℕ) (at d : ℕ) : Type 0 where
-  pub high : d ≤ 10
-  pub inside : d < 10 → at < length s
-  pub digit : d < 10 → drop at s ≡ (48 + d) ∷ drop (at + 1) s
-  pub other : 10 ≤ d → within 48 57 (getD (drop at s) 0 0) ≡ false
-
--- From a place on stand a word and the number v, which end before next. A ) behind a number leaves only one that can stand there.
-pub record NumberAt (before s : List ℕ) (at v next : ℕ) : Type 0 where
-  pub stands : drop at s ≡ before ++ (decimal v ++ drop next s)
-  pub low : v ≤ 65535
-  pub inside : next ≤ length s
-  pub only : (u : ℕ) (t : List ℕ) → u ≤ 65535 → drop at s ≡ before ++ (decimal u ++ (41 ∷ t)) → u ≡ v
-
-pub record NoNumberAt (before s : List ℕ) (at : ℕ) : Type 0 where
-  pub never : (u : ℕ) (t : List ℕ) → u ≤ 65535 → drop at s ≡ before ++ (decimal u ++ (41 ∷ t)) → ⊥
-
-abbrev pub NumberOf : List ℕ → List ℕ → ℕ → NumberRead → Type 0
-NumberOf before s at (Number v next) = NumberAt before s at v next
-NumberOf before s at NoNumber = NoNumberAt before s at
-
--- The line of a word and one number.
-abbrev pub oneLine : List ℕ → ℕ → List ℕ
-oneLine before v = before ++ (decimal v ++ text ")\n")
-
-pub record LineAt (before s : List ℕ) (at v next : ℕ) : Type 0 where
-  pub stands : drop at s ≡ oneLine before v ++ drop next s
-  pub low : v ≤ 65535
-  pub inside : next ≤ length s
-
-pub record NoLineAt (before s : List ℕ) (at : ℕ) : Type 0 where
-  pub never : (u : ℕ) (t : List ℕ) → u ≤ 65535 → drop at s ≡ oneLine before u ++ t → ⊥
-
-abbrev pub LineOf : List ℕ → List ℕ → ℕ → NumberRead → Type 0
-LineOf before s at (Number v next) = LineAt before s at v next
-LineOf before s at NoNumber = NoLineAt before s at
 
 -- A pair line.
 pub record PairAt (s : List ℕ) (at i o m next : ℕ) : Type 0 where

@@ -5,16 +5,17 @@ ghost use Prim.Native.Nat.{_≤_, _<_};
 ghost use lib.ListN.{length, drop};
 ghost use Rattle.sheets.specs.Text.{lines};
 ghost use Rattle.sheets.specs.Sheet.{readPorts, readPairs};
-ghost use Rattle.reading.specs.Reading.{starts, DigitAt, NumberOf, LineOf, FormOf, PortsOf, SlotsOf, PairOf, SheetOf, Fresh, listLeft};
+ghost use Rattle.reading.specs.Reading.{FormOf, PortsOf, SlotsOf, PairOf, SheetOf, Fresh, listLeft};
 use flows::LIST_MOST;
 use flows::put_flow;
 use calls::Refusal;
+use text::NumberRead;
+use text::number_after;
+use text::one_number;
+use text::word;
 
-// A number at a place of the sheet, and the place behind it.
-enum NumberRead {
-    Number { value: usize, next: usize },
-    NoNumber,
-}
+// The largest number of a sheet.
+const NUMBER_MOST: usize = 65535;
 
 // The numbers of a pair line, and the place behind it.
 enum PairForm {
@@ -51,104 +52,16 @@ pub enum Reading {
     Refused(Refusal),
 }
 
-// A word stands at a place of the sheet.
-fn word(sheet: &[u8], at: usize, w: &[u8]) -> bool
-    requires { ⌜ at ≤ length (now sheet) ⌝ }
-    ensures { λ r. ⌜ r ≡ starts (now (w .entry)) (drop at (now (sheet .entry))) ⌝ }
-{
-    if sheet.len() - at < w.len() {
-        return false;
-    }
-    let mut i: usize = 0;
-    while i < w.len() {
-        if sheet[at + i] != w[i] {
-            return false;
-        }
-        i += 1;
-    }
-    true
-}
-
-// The digit at a place of the sheet; 10 where none stands there.
-fn digit(sheet: &[u8], at: usize) -> usize
-    ensures { λ r. ⌜ DigitAt (now (sheet .entry)) at r ⌝ }
-{
-    if sheet.len() <= at {
-        return 10;
-    }
-    let byte = bits::byte(sheet[at]);
-    if byte < 48 {
-        return 10;
-    }
-    if 57 < byte {
-        return 10;
-    }
-    byte - 48
-}
-
-// Reads a number, 0 to 65535 without leading zeros: a 0 ends it.
-fn number(sheet: &[u8], at: usize) -> NumberRead
-    ensures { λ r. ⌜ NumberOf [] (now (sheet .entry)) at r ⌝ }
-{
-    let mut value = digit(sheet, at);
-    if 9 < value {
-        return NumberRead::NoNumber;
-    }
-    let mut next = at + 1;
-    if value == 0 {
-        return NumberRead::Number { value, next };
-    }
-    let mut d = digit(sheet, next);
-    while d < 10 {
-        value = 10 * value + d;
-        if 65535 < value {
-            return NumberRead::NoNumber;
-        }
-        next += 1;
-        d = digit(sheet, next);
-    }
-    NumberRead::Number { value, next }
-}
-
-// Reads a word and the number behind it.
-fn number_after(sheet: &[u8], at: usize, before: &[u8]) -> NumberRead
-    requires { ⌜ at ≤ length (now sheet) ⌝ }
-    ensures { λ r. ⌜ NumberOf (now (before .entry)) (now (sheet .entry)) at r ⌝ }
-{
-    if word(sheet, at, before) {
-        return number(sheet, at + before.len());
-    }
-    NumberRead::NoNumber
-}
-
-// Reads a line of a word and one number.
-fn one_number(sheet: &[u8], at: usize, before: &[u8]) -> NumberRead
-    requires { ⌜ at ≤ length (now sheet) ⌝ }
-    ensures { λ r. ⌜ LineOf (now (before .entry)) (now (sheet .entry)) at r ⌝ }
-{
-    let read = number_after(sheet, at, before);
-    let NumberRead::Number { value, next } = read else {
-        return NumberRead::NoNumber;
-    };
-    if word(sheet, next, b")\n") {
-        return NumberRead::Number {
-            value,
-            next: next + 2,
-        };
-    }
-    NumberRead::NoNumber
-}
-
 // Reads the numbers of a pair line.
 fn pair_form(sheet: &[u8], at: usize) -> PairForm
     requires { ⌜ at ≤ length (now sheet) ⌝ }
     ensures { λ r. ⌜ FormOf (now (sheet .entry)) at r ⌝ }
 {
-    let first = number_after(sheet, at, b"(pair (in ");
+    let first = number_after(sheet, at, b"(pair (in ", NUMBER_MOST);
     let NumberRead::Number { value: input, next } = first else {
         return PairForm::NoForm;
     };
-    let second = number_after(sheet, next, b") (out ");
+    let second = number_after(sheet, next, b") (out ", NUMBER_MOST);
     let NumberRead::Number {
         value: output,
         next,
@@ -156,7 +69,7 @@ fn pair_form(sheet: &[u8], at: usize) -> PairForm
     else {
         return PairForm::NoForm;
     };
-    let third = number_after(sheet, next, b") (cells ");
+    let third = number_after(sheet, next, b") (cells ", NUMBER_MOST);
     let NumberRead::Number { value: cells, next } = third else {
         return PairForm::NoForm;
     };
@@ -175,7 +88,7 @@ fn pair_form(sheet: &[u8], at: usize) -> PairForm
 fn ports_line(sheet: &[u8]) -> Reading
     ensures { λ r. ⌜ PortsOf (now (sheet .entry)) r ⌝ }
 {
-    let read = one_number(sheet, 0, b"(ports ");
+    let read = one_number(sheet, 0, b"(ports ", NUMBER_MOST);
     let NumberRead::Number { value: ports, next } = read else {
         return Reading::Refused(Refusal::LineForm { line: 1 });
     };
@@ -190,7 +103,7 @@ fn slots_line(sheet: &[u8], at: usize, ports: usize) -> Reading
     requires { ⌜ at ≤ length (now sheet) ⌝ }
     ensures { λ r. ⌜ SlotsOf ports (now (sheet .entry)) at r ⌝ }
 {
-    let read = one_number(sheet, at, b"(slots ");
+    let read = one_number(sheet, at, b"(slots ", NUMBER_MOST);
     let NumberRead::Number { value: slots, next } = read else {
         return Reading::Refused(Refusal::LineForm { line: 2 });
     };

@@ -69,21 +69,21 @@ pub decimal-most : (n : ℕ) → n < 2 ^ 64 → length (decimal n) ≤ 20
 decimal-most n h = decimal-short 19 n (omega arith)
 
 -- what the first digit is, and that it is no 0 where the number is none
-pub record Lead (n h : ℕ) : Type 0 where
+pub record Leading (n h : ℕ) : Type 0 where
   pub low : 48 ≤ h
   pub high : h ≤ 57
   pub first : 1 ≤ n → 49 ≤ h
 
-pub lead-of : (f n : ℕ) (t : List ℕ) → n < f → Lead n (getD (digits f n ++ t) 0 0)
-lead-of zero n t h = absurd (omega arith)
-lead-of (suc f) n t h =
+pub leading-of : (f n : ℕ) (t : List ℕ) → n < f → Leading n (getD (digits f n ++ t) 0 0)
+leading-of zero n t h = absurd (omega arith)
+leading-of (suc f) n t h =
     byLt n 10
     (λ k. rw (digits-end f n k) (record { low = omega arith; high = omega arith; first = λ z. omega arith }))
     (λ k. rw (digits-go f n k, append-assoc (digits f (n / 10)) ((48 + n % 10) ∷ []) t)
-    (let l = lead-of f (n / 10) ((48 + n % 10) ∷ t) (omega arith) in record { low = l .low; high = l .high; first = λ z. l .first (omega arith) }))
+    (let l = leading-of f (n / 10) ((48 + n % 10) ∷ t) (omega arith) in record { low = l .low; high = l .high; first = λ z. l .first (omega arith) }))
 
-pub lead : (n : ℕ) (t : List ℕ) → Lead n (getD (decimal n ++ t) 0 0)
-lead n t = lead-of (suc n) n t (omega arith)
+pub leading : (n : ℕ) (t : List ℕ) → Leading n (getD (decimal n ++ t) 0 0)
+leading n t = leading-of (suc n) n t (omega arith)
 
 -- ---- numbers in a line
 pub digit-on : (inside : Bool) (v b : ℕ) (t : List ℕ) → within 48 57 b ≡ true → numbersFrom inside v (b ∷ t) ≡ numbersFrom true (10 * v + (b - 48)) t

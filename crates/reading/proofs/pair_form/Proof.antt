@@ -1,5 +1,6 @@
 use Rattle.sheets.specs.Text.{text}
-use Rattle.reading.proofs.Places.{number-inside, form-first, form-second, form-third, form-yes, form-end}
+use Rattle.text.proofs.Places.{number-inside}
+use Rattle.reading.proofs.Pairs.{sheet-limit, form-first, form-second, form-third, form-yes, form-end}
 use borrow.Author.Needs.{needs}
 use native.Mathlib.Omega.{arith}
 use Rattle.reading.proofs.pair_form.Statement.{statement}
@@ -10,12 +11,12 @@ pair-form-spec =
     tie.close
     (tie.spec
     (λ c. search needs)
-    (λ c κs. search needs)
+    (λ c κs. search (needs, sheet-limit))
     (λ c. search needs)
     (λ c. search needs)
     (λ c. form-first _ _ _ (c .before .before .number-after .ensures) (c .enum-told .given .1))
     (λ c. search needs)
-    (λ c κs. let one = c .before in number-inside (text "(pair (in ") _ (one .before .before .before .before .before .before .args .at) _ _ _ (one .before .before .before .number-after .ensures) (one .before .first .given .1))
+    (λ c κs. let one = c .before in (number-inside _ (text "(pair (in ") _ (one .before .before .before .before .before .before .args .at) _ _ _ (one .before .before .before .number-after .ensures) (one .before .first .given .1), sheet-limit))
     (λ c. search needs)
     (λ c. search needs)
     (λ c.
@@ -26,7 +27,7 @@ pair-form-spec =
     (λ c κs.
     let two = c .before in
     let one = two .before .before .before .before .before in
-    number-inside (text ") (out ") _ (one .before .first .given .0 .1 .0) _ _ _ (two .before .before .before .number-after2 .ensures) (two .before .second .given .1))
+    (number-inside _ (text ") (out ") _ (one .before .first .given .0 .1 .0) _ _ _ (two .before .before .before .number-after2 .ensures) (two .before .second .given .1), sheet-limit))
     (λ c. search needs)
     (λ c. search needs)
     (λ c.
@@ -39,12 +40,12 @@ pair-form-spec =
     (λ c κs.
     let three = c .before in
     let two = three .before .before .before .before .before in
-    number-inside (text ") (cells ") _ (two .before .second .given .0 .1 .0) _ _ _ (three .before .before .before .number-after3 .ensures) (three .before .third .given .1))
+    number-inside _ (text ") (cells ") _ (two .before .second .given .0 .1 .0) _ _ _ (three .before .before .before .number-after3 .ensures) (three .before .third .given .1))
     (λ c.
     let three = c .before .before .before in
     let two = three .before .before .before .before .before in
     let start = two .before .before .before .before .before .before .before .before .before .before .before in
-    omega (arith, start .good .0 .0, number-inside (text ") (cells ") (start .args .sheet .now) (two .before .second .given .0 .1 .0) _ _ _ (three .before .before .before .number-after3 .ensures) (three .before .third .given .1)))
+    omega (arith, start .good .0 .0, number-inside _ (text ") (cells ") (start .args .sheet .now) (two .before .second .given .0 .1 .0) _ _ _ (three .before .before .before .number-after3 .ensures) (three .before .third .given .1)))
     (λ c.
     let three = c .before .before .before in
     let two = three .before .before .before .before .before in

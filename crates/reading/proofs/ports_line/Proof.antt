@@ -1,3 +1,4 @@
+use Rattle.reading.proofs.Pairs.{sheet-limit}
 use Rattle.reading.proofs.Lines.{ports-form, ports-out, ports-in}
 use borrow.Author.Needs.{needs}
 use Rattle.reading.proofs.ports_line.Statement.{statement}
@@ -8,10 +9,10 @@ ports-line-spec =
     tie.close
     (tie.spec
     (λ c. search needs)
-    (λ c κs. search needs)
+    (λ c κs. search (needs, sheet-limit))
     (λ c. search needs)
     (λ c. search needs)
     (λ c. ports-form _ _ (c .before .before .one-number .ensures) (c .enum-told .given .1))
-    (λ c κs. search needs)
+    (λ c κs. search (needs, sheet-limit))
     (λ c. ports-out _ _ _ _ _ (c .before .before .before .before .before .one-number .ensures) (c .before .before .before .read .given .1) (c .before .outside .ensures) (c .if1 .taken))
     (λ c. ports-in _ _ _ _ _ (c .before .before .before .before .before .one-number .ensures) (c .before .before .before .read .given .1) (c .before .outside .ensures) (c .if1 .left)))

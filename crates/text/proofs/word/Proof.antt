@@ -1,15 +1,15 @@
 use Prim.Native.Nat.{_-_}
 use lib.ListN.{length}
-use Rattle.reading.proofs.Places.{Matching, word-short, word-start, word-on, word-off, word-end}
+use Rattle.text.proofs.Places.{Matching, word-short, word-start, word-on, word-off, word-end}
 use borrow.Author.Needs.{needs}
-use Rattle.reading.proofs.word.Statement.{statement}
-use Rattle.reading.proofs.word.Tie as tie
+use Rattle.text.proofs.word.Statement.{statement}
+use Rattle.text.proofs.word.Tie as tie
 
 abbrev Inv-loop : tie.InvT-loop
-Inv-loop sheet at w i₀ i = Matching sheet w at i
+Inv-loop bytes at w i₀ i = Matching bytes w at i
 
 abbrev μ-loop : tie.MeasureT-loop
-μ-loop sheet at w i₀ i = length w - i
+μ-loop bytes at w i₀ i = length w - i
 
 pub word-spec : {M : Type 1} → statement M
 word-spec =

@@ -1,7 +1,7 @@
-use Rattle.reading.proofs.Places.{after-yes, after-no}
+use Rattle.text.proofs.Places.{after-yes, after-no}
 use borrow.Author.Needs.{needs}
-use Rattle.reading.proofs.number_after.Statement.{statement}
-use Rattle.reading.proofs.number_after.Tie as tie
+use Rattle.text.proofs.number_after.Statement.{statement}
+use Rattle.text.proofs.number_after.Tie as tie
 
 pub number-after-spec : {M : Type 1} → statement M
 number-after-spec =

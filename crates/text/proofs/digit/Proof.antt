@@ -1,7 +1,7 @@
-use Rattle.reading.proofs.Places.{digit-end, digit-low, digit-high, digit-is}
+use Rattle.text.proofs.Places.{digit-end, digit-low, digit-high, digit-is}
 use borrow.Author.Needs.{needs}
-use Rattle.reading.proofs.digit.Statement.{statement}
-use Rattle.reading.proofs.digit.Tie as tie
+use Rattle.text.proofs.digit.Statement.{statement}
+use Rattle.text.proofs.digit.Tie as tie
 
 pub digit-spec : {M : Type 1} → statement M
 digit-spec =

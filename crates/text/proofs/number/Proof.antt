@@ -1,16 +1,17 @@
 use Prim.Native.Nat.{_-_}
 use lib.ListN.{length}
-use Rattle.reading.proofs.Places.{Counted, number-none, number-zero, number-start, number-more, number-over, number-end}
+use Rattle.text.specs.Places.{Limit}
+use Rattle.text.proofs.Places.{Counted, number-none, number-zero, number-start, number-more, number-over, number-end}
 use borrow.Author.Needs.{needs}
 use native.Mathlib.Omega.{arith}
-use Rattle.reading.proofs.number.Statement.{statement}
-use Rattle.reading.proofs.number.Tie as tie
+use Rattle.text.proofs.number.Statement.{statement}
+use Rattle.text.proofs.number.Tie as tie
 
 abbrev Inv-loop : tie.InvT-loop
-Inv-loop sheet at value₀ next₀ d₀ value next d = Counted sheet at value next d
+Inv-loop bytes at most value₀ next₀ d₀ value next d = Counted most bytes at value next d
 
 abbrev μ-loop : tie.MeasureT-loop
-μ-loop sheet at value₀ next₀ d₀ value next d = length sheet - next
+μ-loop bytes at most value₀ next₀ d₀ value next d = length bytes - next
 
 pub number-spec : {M : Type 1} → statement M
 number-spec =

@@ -1,4 +1,4 @@
--- Words and numbers at a place of the sheet.
+-- Words and numbers at a place.
 use Prim.Native.Nat.{ℕ, suc, _+_, _-_, _*_, _≤_, _<_}
 use mathlib.Core.Path.{_≡_, refl, sym, ap, _∙_}
 use mathlib.Core.List.{List, [], _∷_, _++_, append-assoc, append-cancel-left}
@@ -11,12 +11,11 @@ use lib.Seq.{drop-cons, drop-drop}
 use borrow.Author.Tests.{eq-eqb, ne-eqb, eqb-true}
 use Rattle.rules.specs.Words.{both, within}
 use Rattle.sheets.specs.Text.{text, decimal, numbersFrom}
-use Rattle.sheets.specs.Sheet.{pairLine}
 use Rattle.rules.proofs.Cases.{byLt, both-true, within-yes, within-below, within-above}
-use Rattle.sheets.proofs.Text.{lead, decimal-one, decimal-more, numbers-decimal, number-grows, other-on}
-use Rattle.reading.specs.Reading.{starts, DigitAt, NumberAt, NoNumberAt, NumberOf, oneLine, LineAt, NoLineAt, PairAt, NoPairAt}
-use Rattle.reading.specs.declared.NumberRead.{NumberRead}
-use Rattle.reading.specs.declared.NumberRead.the-variants.{Number, NoNumber}
+use Rattle.sheets.proofs.Text.{leading, decimal-one, decimal-more, numbers-decimal, number-grows, other-on}
+use Rattle.text.specs.Places.{starts, DigitAt, NumberAt, NoNumberAt, NumberOf, oneLine, LineAt, NoLineAt, Limit}
+use Rattle.text.specs.declared.NumberRead.{NumberRead}
+use Rattle.text.specs.declared.NumberRead.the-variants.{Number, NoNumber}
 
 -- ---- a word
 starts-short : (w s : List ℕ) → length s < length w → starts w s ≡ false
@@ -103,62 +102,65 @@ digit-is s at b h e l g =
     }
 
 -- ---- a number
-pub record Counted (s : List ℕ) (at v next d : ℕ) : Type 0 where
+pub record Counted (most : ℕ) (s : List ℕ) (at v next d : ℕ) : Type 0 where
   pub stands : drop at s ≡ decimal v ++ drop next s
   pub some : 1 ≤ v
-  pub low : v ≤ 65535
+  pub low : v ≤ most
   pub inside : next ≤ length s
   pub digit : DigitAt s next d
+  pub limit : Limit most
 
-pub number-none : (s : List ℕ) (at d : ℕ) → DigitAt s at d → 9 < d → NoNumberAt [] s at
-number-none s at d x h =
+pub number-none : (most : ℕ) (s : List ℕ) (at d : ℕ) → DigitAt s at d → 9 < d → NoNumberAt most [] s at
+number-none most s at d x h =
     record {
       never = λ u t k e.
-          let l = lead u (41 ∷ t) in
+          let l = leading u (41 ∷ t) in
           true≢false (sym (within-yes 48 57 (getD (decimal u ++ (41 ∷ t)) 0 0) (l .low) (l .high))
           ∙ (ap (λ z. within 48 57 (getD z 0 0)) (sym e) ∙ x .other (omega arith)));
     }
 
-pub number-zero : (s : List ℕ) (at d next : ℕ) → DigitAt s at d → d ≤ 9 → next ≡ at + 1 → d ≡ 0 → NumberAt [] s at d next
-number-zero s at d next x h n z =
+pub number-zero : (most : ℕ) (s : List ℕ) (at d next : ℕ) → Limit most → DigitAt s at d → d ≤ 9 → next ≡ at + 1 → d ≡ 0 → NumberAt most [] s at d next
+number-zero most s at d next limit x h n z =
     let i = x .inside (omega arith) in
     let f = x .digit (omega arith) in
     record {
       stands = f ∙ (ap (λ y. (48 + d) ∷ drop y s) (sym n) ∙ ap (λ y. y ++ drop next s) (sym (decimal-one d (omega arith))));
-      low = omega arith;
+      low = omega (arith, limit .one-digit);
       inside = omega arith;
       only = λ u t k e. byLt u 1 (λ g. omega arith)
-          (λ g. absurd (let a = lead u (41 ∷ t) .first g in let b = ap (λ y. getD y 0 0) (sym e ∙ f) in omega arith));
+          (λ g. absurd (let a = leading u (41 ∷ t) .first g in let b = ap (λ y. getD y 0 0) (sym e ∙ f) in omega arith));
     }
 
-pub number-start : (s : List ℕ) (at v next d : ℕ) → DigitAt s at v → v ≤ 9 → next ≡ at + 1 → (v ≡ 0 → ⊥) → DigitAt s next d → Counted s at v next d
-number-start s at v next d x h n z y =
+pub number-start : (most : ℕ) (s : List ℕ) (at v next d : ℕ) → Limit most → DigitAt s at v → v ≤ 9 → next ≡ at + 1 → (v ≡ 0 → ⊥) → DigitAt s next d → Counted most s at v next d
+number-start most s at v next d limit x h n z y =
     let i = x .inside (omega arith) in
     record {
       stands = x .digit (omega arith) ∙ (ap (λ k. (48 + v) ∷ drop k s) (sym n) ∙ ap (λ k. k ++ drop next s) (sym (decimal-one v (omega arith))));
       some = omega arith;
-      low = omega arith;
+      low = omega (arith, limit .one-digit);
       inside = omega arith;
       digit = y;
+      limit = limit;
     }
 
-counted-on : (s : List ℕ) (at v next d : ℕ) → Counted s at v next d → d < 10 → drop at s ≡ decimal (10 * v + d) ++ drop (next + 1) s
-counted-on s at v next d x h =
+counted-on : (most : ℕ) (s : List ℕ) (at v next d : ℕ) → Counted most s at v next d → d < 10 → drop at s ≡ decimal (10 * v + d) ++ drop (next + 1) s
+counted-on most s at v next d x h =
     x .stands
     ∙ (ap (λ z. decimal v ++ z) (x .digit .digit h)
     ∙ (sym (append-assoc (decimal v) ((48 + d) ∷ []) (drop (next + 1) s)) ∙ ap (λ z. z ++ drop (next + 1) s) (sym (decimal-more v d (x .some) h))))
 
-pub number-more : (s : List ℕ) (at v next d v′ next′ d′ : ℕ) → Counted s at v next d → d < 10 → v′ ≡ 10 * v + d → v′ ≤ 65535 → next′ ≡ next + 1 → DigitAt s next′ d′
-    → Counted s at v′ next′ d′
-number-more s at v next d v′ next′ d′ x h ev l en y =
+pub number-more : (most : ℕ) (s : List ℕ) (at v next d v′ next′ d′ : ℕ) → Counted most s at v next d → d < 10 → v′ ≡ 10 * v + d → v′ ≤ most → next′ ≡ next + 1 → DigitAt s next′ d′
+    → Counted most s at v′ next′ d′
+number-more most s at v next d v′ next′ d′ x h ev l en y =
     let i = x .digit .inside h in
     let o = x .some in
     record {
-      stands = counted-on s at v next d x h ∙ (ap (λ z. decimal z ++ drop (next + 1) s) (sym ev) ∙ ap (λ z. decimal v′ ++ drop z s) (sym en));
+      stands = counted-on most s at v next d x h ∙ (ap (λ z. decimal z ++ drop (next + 1) s) (sym ev) ∙ ap (λ z. decimal v′ ++ drop z s) (sym en));
       some = omega arith;
       low = l;
       inside = omega arith;
       digit = y;
+      limit = x .limit;
     }
 
 -- the numbers that two readings of the same bytes begin with
@@ -167,11 +169,11 @@ head-is l v u t k e f =
     ap (λ z. getD z 0 0)
     (sym (numbers-decimal v false t) ∙ (ap (numbersFrom false 0) (sym e ∙ f) ∙ (numbers-decimal u false (41 ∷ k) ∙ other-on u 41 k refl)))
 
-pub number-over : (s : List ℕ) (at v next d v′ : ℕ) → Counted s at v next d → d < 10 → v′ ≡ 10 * v + d → 65535 < v′ → NoNumberAt [] s at
-number-over s at v next d v′ x h ev g =
+pub number-over : (most : ℕ) (s : List ℕ) (at v next d v′ : ℕ) → Counted most s at v next d → d < 10 → v′ ≡ 10 * v + d → most < v′ → NoNumberAt most [] s at
+number-over most s at v next d v′ x h ev g =
     record {
       never = λ u t k e.
-          omega (arith, number-grows (10 * v + d) (drop (next + 1) s), head-is (drop at s) (10 * v + d) u (drop (next + 1) s) t (counted-on s at v next d x h) e);
+          omega (arith, number-grows (10 * v + d) (drop (next + 1) s), head-is (drop at s) (10 * v + d) u (drop (next + 1) s) t (counted-on most s at v next d x h) e);
     }
 
 ends : (v : ℕ) (t : List ℕ) → within 48 57 (getD t 0 0) ≡ false → getD (numbersFrom true v t) 0 0 ≡ v
@@ -179,8 +181,8 @@ unfolding numbersFrom
 ends v [] e = refl
 ends v (b ∷ t) e = ap (λ z. getD z 0 0) (other-on v b t e)
 
-pub number-end : (s : List ℕ) (at v next d : ℕ) → Counted s at v next d → 10 ≤ d → NumberAt [] s at v next
-number-end s at v next d x h =
+pub number-end : (most : ℕ) (s : List ℕ) (at v next d : ℕ) → Counted most s at v next d → 10 ≤ d → NumberAt most [] s at v next
+number-end most s at v next d x h =
     record {
       stands = x .stands;
       low = x .low;
@@ -198,8 +200,8 @@ behind-inside w s at h e =
     (λ k. absurd (true≢false (sym e ∙ starts-short w (drop at s) k)))
     (λ k. omega (arith, length-drop at s))
 
-pub after-yes : (w s : List ℕ) (at : ℕ) (b : Bool) (r : NumberRead) → b ≡ starts w (drop at s) → b ≡ true → NumberOf [] s (at + length w) r → NumberOf w s at r
-after-yes w s at b (Number v next) f e x =
+pub after-yes : (most : ℕ) (w s : List ℕ) (at : ℕ) (b : Bool) (r : NumberRead) → b ≡ starts w (drop at s) → b ≡ true → NumberOf most [] s (at + length w) r → NumberOf most w s at r
+after-yes most w s at b (Number v next) f e x =
     let k = behind w s at (sym f ∙ e) in
     record {
       stands = k ∙ ap (λ z. w ++ z) (x .stands);
@@ -207,17 +209,17 @@ after-yes w s at b (Number v next) f e x =
       inside = x .inside;
       only = λ u t h g. x .only u t h (append-cancel-left w (drop (at + length w) s) (decimal u ++ (41 ∷ t)) (sym k ∙ g));
     }
-after-yes w s at b NoNumber f e x =
+after-yes most w s at b NoNumber f e x =
     let k = behind w s at (sym f ∙ e) in
     record { never = λ u t h g. x .never u t h (append-cancel-left w (drop (at + length w) s) (decimal u ++ (41 ∷ t)) (sym k ∙ g)) }
 
-pub after-no : (w s : List ℕ) (at : ℕ) (b : Bool) → b ≡ starts w (drop at s) → b ≡ false → NoNumberAt w s at
-after-no w s at b f e =
+pub after-no : (most : ℕ) (w s : List ℕ) (at : ℕ) (b : Bool) → b ≡ starts w (drop at s) → b ≡ false → NoNumberAt most w s at
+after-no most w s at b f e =
     record { never = λ u t h g. true≢false (sym (starts-self w (decimal u ++ (41 ∷ t))) ∙ (ap (starts w) (sym g) ∙ (sym f ∙ e))) }
 
 -- what stands behind a number is settled where a ) does
-pub rest-is : (w s : List ℕ) (at v next u : ℕ) (t : List ℕ) → NumberAt w s at v next → u ≤ 65535 → drop at s ≡ w ++ (decimal u ++ (41 ∷ t)) → drop next s ≡ 41 ∷ t
-rest-is w s at v next u t x h e =
+pub rest-is : (most : ℕ) (w s : List ℕ) (at v next u : ℕ) (t : List ℕ) → NumberAt most w s at v next → u ≤ most → drop at s ≡ w ++ (decimal u ++ (41 ∷ t)) → drop next s ≡ 41 ∷ t
+rest-is most w s at v next u t x h e =
     let k = x .only u t h e in
     append-cancel-left (decimal v) (drop next s) (41 ∷ t)
     (append-cancel-left w (decimal v ++ drop next s) (decimal v ++ (41 ∷ t)) (sym (x .stands) ∙ (e ∙ ap (λ z. w ++ (decimal z ++ (41 ∷ t))) k)))
@@ -227,96 +229,31 @@ line-append : (w : List ℕ) (v : ℕ) (t : List ℕ) → oneLine w v ++ t ≡ w
 line-append w v t = append-assoc w (decimal v ++ text ")\n") t ∙ ap (λ z. w ++ z) (append-assoc (decimal v) (text ")\n") t)
 
 -- what is read, once its case is known
-pub number-known : (w s : List ℕ) (at : ℕ) (r : NumberRead) (v next : ℕ) → NumberOf w s at r → r ≡ Number v next → NumberAt w s at v next
-number-known w s at r v next x e = rw e at x
+pub number-known : (most : ℕ) (w s : List ℕ) (at : ℕ) (r : NumberRead) (v next : ℕ) → NumberOf most w s at r → r ≡ Number v next → NumberAt most w s at v next
+number-known most w s at r v next x e = rw e at x
 
-pub number-inside : (w s : List ℕ) (at : ℕ) (r : NumberRead) (v next : ℕ) → NumberOf w s at r → r ≡ Number v next → next ≤ length s
-number-inside w s at r v next x e = number-known w s at r v next x e .inside
+pub number-inside : (most : ℕ) (w s : List ℕ) (at : ℕ) (r : NumberRead) (v next : ℕ) → NumberOf most w s at r → r ≡ Number v next → next ≤ length s
+number-inside most w s at r v next x e = number-known most w s at r v next x e .inside
 
-pub line-yes : (w s : List ℕ) (at v next : ℕ) (r : NumberRead) (b : Bool) → NumberOf w s at r → r ≡ Number v next → b ≡ starts (text ")\n") (drop next s) → b ≡ true
-    → LineAt w s at v (next + 2)
-line-yes w s at v next r b y g f e =
-    let x = number-known w s at r v next y g in
+pub line-yes : (most : ℕ) (w s : List ℕ) (at v next : ℕ) (r : NumberRead) (b : Bool) → NumberOf most w s at r → r ≡ Number v next → b ≡ starts (text ")\n") (drop next s) → b ≡ true
+    → LineAt most w s at v (next + 2)
+line-yes most w s at v next r b y g f e =
+    let x = number-known most w s at r v next y g in
     record {
       stands = x .stands ∙ (ap (λ z. w ++ (decimal v ++ z)) (behind (text ")\n") s next (sym f ∙ e)) ∙ sym (line-append w v (drop (next + 2) s)));
       low = x .low;
       inside = behind-inside (text ")\n") s next (x .inside) (sym f ∙ e);
     }
 
-pub line-off : (w s : List ℕ) (at v next : ℕ) (r : NumberRead) (b : Bool) → NumberOf w s at r → r ≡ Number v next → b ≡ starts (text ")\n") (drop next s) → b ≡ false
-    → NoLineAt w s at
-line-off w s at v next r b y g f e =
-    let x = number-known w s at r v next y g in
+pub line-off : (most : ℕ) (w s : List ℕ) (at v next : ℕ) (r : NumberRead) (b : Bool) → NumberOf most w s at r → r ≡ Number v next → b ≡ starts (text ")\n") (drop next s) → b ≡ false
+    → NoLineAt most w s at
+line-off most w s at v next r b y g f e =
+    let x = number-known most w s at r v next y g in
     record {
       never = λ u t h j.
-          let k = rest-is w s at v next u (10 ∷ t) x h (j ∙ line-append w u t) in
+          let k = rest-is most w s at v next u (10 ∷ t) x h (j ∙ line-append w u t) in
           true≢false (sym (starts-self (text ")\n") t) ∙ (ap (starts (text ")\n")) (sym k) ∙ (sym f ∙ e)));
     }
 
-pub line-none : (w s : List ℕ) (at : ℕ) (r : NumberRead) → NumberOf w s at r → r ≡ NoNumber → NoLineAt w s at
-line-none w s at r y g = let x : NoNumberAt w s at = rw g at y in record { never = λ u t h j. x .never u (10 ∷ t) h (j ∙ line-append w u t) }
-
--- ---- a pair line
-abbrev ofWords : ℕ → ℕ → ℕ → List ℕ → List ℕ
-ofWords i o m t =
-    text "(pair (in " ++ (decimal i ++ (text ") (out " ++ (decimal o ++ (text ") (cells " ++ (decimal m ++ (text "))\n" ++ t))))))
-
-pair-append : (i o m : ℕ) (t : List ℕ) → pairLine i o m ++ t ≡ ofWords i o m t
-unfolding pairLine
-pair-append i o m t = simp append-assoc
-
-abbrev behindIn : ℕ → ℕ → List ℕ → List ℕ
-behindIn o m t = drop 1 (text ") (out " ++ (decimal o ++ (text ") (cells " ++ (decimal m ++ (text "))\n" ++ t)))))
-
-abbrev behindOut : ℕ → List ℕ → List ℕ
-behindOut m t = drop 1 (text ") (cells " ++ (decimal m ++ (text "))\n" ++ t)))
-
-pub form-first : (s : List ℕ) (at : ℕ) (r : NumberRead) → NumberOf (text "(pair (in ") s at r → r ≡ NoNumber → NoPairAt s at
-form-first s at r y g =
-    let x : NoNumberAt (text "(pair (in ") s at = rw g at y in
-    record { never = λ i o m t a b c e. x .never i (behindIn o m t) a (e ∙ pair-append i o m t) }
-
-module _ (s : List ℕ) (at : ℕ) (r1 : NumberRead) (i n1 : ℕ) (y1 : NumberOf (text "(pair (in ") s at r1) (e1 : r1 ≡ Number i n1) where
-  at-output : (j o m : ℕ) (t : List ℕ) → j ≤ 65535 → drop at s ≡ pairLine j o m ++ t → drop n1 s ≡ 41 ∷ behindIn o m t
-  at-output j o m t a e =
-      rest-is (text "(pair (in ") s at i n1 j (behindIn o m t) (number-known (text "(pair (in ") s at r1 i n1 y1 e1) a (e ∙ pair-append j o m t)
-
-  pub form-second : (r : NumberRead) → NumberOf (text ") (out ") s n1 r → r ≡ NoNumber → NoPairAt s at
-  form-second r y g =
-      let x : NoNumberAt (text ") (out ") s n1 = rw g at y in
-      record { never = λ j o m t a b c e. x .never o (behindOut m t) b (at-output j o m t a e) }
-
-  module _ (r2 : NumberRead) (o n2 : ℕ) (y2 : NumberOf (text ") (out ") s n1 r2) (e2 : r2 ≡ Number o n2) where
-    at-cells : (j p m : ℕ) (t : List ℕ) → j ≤ 65535 → p ≤ 65535 → drop at s ≡ pairLine j p m ++ t → drop n2 s ≡ 41 ∷ behindOut m t
-    at-cells j p m t a b e =
-        rest-is (text ") (out ") s n1 o n2 p (behindOut m t) (number-known (text ") (out ") s n1 r2 o n2 y2 e2) b (at-output j p m t a e)
-
-    pub form-third : (r : NumberRead) → NumberOf (text ") (cells ") s n2 r → r ≡ NoNumber → NoPairAt s at
-    form-third r y g =
-        let x : NoNumberAt (text ") (cells ") s n2 = rw g at y in
-        record { never = λ j p m t a b c e. x .never m (drop 1 (text "))\n" ++ t)) c (at-cells j p m t a b e) }
-
-    module _ (r3 : NumberRead) (m n3 : ℕ) (b : Bool) (y3 : NumberOf (text ") (cells ") s n2 r3) (e3 : r3 ≡ Number m n3)
-        (f : b ≡ starts (text "))\n") (drop n3 s)) where
-      pub form-yes : b ≡ true → PairAt s at i o m (n3 + 3)
-      form-yes e =
-          let x = number-known (text "(pair (in ") s at r1 i n1 y1 e1 in
-          let y = number-known (text ") (out ") s n1 r2 o n2 y2 e2 in
-          let z = number-known (text ") (cells ") s n2 r3 m n3 y3 e3 in
-          record {
-            stands = x .stands
-                ∙ (ap (λ k. text "(pair (in " ++ (decimal i ++ k)) (y .stands
-                ∙ ap (λ k. text ") (out " ++ (decimal o ++ k)) (z .stands
-                ∙ ap (λ k. text ") (cells " ++ (decimal m ++ k)) (behind (text "))\n") s n3 (sym f ∙ e)))) ∙ sym (pair-append i o m (drop (n3 + 3) s)));
-            low = (x .low, y .low, z .low);
-            inside = behind-inside (text "))\n") s n3 (z .inside) (sym f ∙ e);
-          }
-
-      pub form-end : b ≡ false → NoPairAt s at
-      form-end g =
-          record {
-            never = λ j p n t a d c e.
-                let z = number-known (text ") (cells ") s n2 r3 m n3 y3 e3 in
-                let k = rest-is (text ") (cells ") s n2 m n3 n (drop 1 (text "))\n" ++ t)) z c (at-cells j p n t a d e) in
-                true≢false (sym (starts-self (text "))\n") t) ∙ (ap (starts (text "))\n")) (sym k) ∙ (sym f ∙ g)));
-          }
+pub line-none : (most : ℕ) (w s : List ℕ) (at : ℕ) (r : NumberRead) → NumberOf most w s at r → r ≡ NoNumber → NoLineAt most w s at
+line-none most w s at r y g = let x : NoNumberAt most w s at = rw g at y in record { never = λ u t h j. x .never u (10 ∷ t) h (j ∙ line-append w u t) }

@@ -1,0 +1,2 @@
+-- Laws of words and numbers at a place.
+pub mod Places

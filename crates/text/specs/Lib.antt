@@ -1,0 +1,2 @@
+-- What the readings of words and numbers promise.
+pub mod Places
