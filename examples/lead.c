@@ -1,5 +1,5 @@
 /* How far ahead of its share and how far behind it flow 1 of examples/studio.sheet gets while its frame repeats, and how deep a buffer it
- * needs for so long: gcc -Iinclude examples/lead.c target/staticlib/libexports.a. docs/BUFFERS.md says why. */
+ * needs for so long: cc lead.c $(pkg-config --cflags --libs frame_builder). BUFFERS.md says why. */
 #include <inttypes.h>
 #include <stdio.h>
 

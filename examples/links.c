@@ -1,5 +1,5 @@
 /* Two slow links of one output, of which one is asked for too much until a flow takes the other:
- * gcc -Iinclude examples/links.c target/staticlib/libexports.a */
+ * cc links.c $(pkg-config --cflags --libs frame_builder) */
 #include <stdio.h>
 
 #include "frame_builder.h"

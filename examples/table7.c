@@ -1,4 +1,4 @@
-/* Builds the frame of the Table 7 load, inspects it, and counts: gcc -Iinclude examples/table7.c target/staticlib/libexports.a */
+/* Builds the frame of the Table 7 load, inspects it, and counts: cc table7.c $(pkg-config --cflags --libs frame_builder) */
 #include <inttypes.h>
 #include <stdio.h>
 
@@ -11,9 +11,9 @@
 #define FRAME_LENGTH (SLOTS * PORTS)
 
 /* Prints an answer: its text and, of a refusal or a fault, its number and two values; only a link's load has a third. */
-static void print_answer(const char *call, size_t answer, size_t first, size_t second)
+static void print_answer(const char *call, const char *text, size_t answer, size_t first, size_t second)
 {
-    printf("%s: %s", call, frame_builder_text(answer));
+    printf("%s: %s", call, text);
     if (answer != FRAME_BUILDER_ACCEPTED)
         printf(" (%zu: %zu, %zu)", answer, first, second);
     printf("\n");
@@ -55,24 +55,24 @@ int main(void)
     for (size_t place = 0; place < FRAME_BUILDER_LIMITS; place++)
         limits[place] = SLOTS;
     size_t answer = frame_builder_build(PORTS, SLOTS, list, LIST_LENGTH, limits, frame, FRAME_LENGTH, &first, &second, &third);
-    print_answer("build", answer, first, second);
+    print_answer("build", frame_builder_text(answer), answer, first, second);
     if (answer != FRAME_BUILDER_ACCEPTED)
         return 1;
     printf("odd counts settled: %zu\n", first);
     print_slots(frame);
 
     answer = frame_builder_inspect(PORTS, SLOTS, list, LIST_LENGTH, frame, FRAME_LENGTH, &first, &second);
-    print_answer("inspect", answer, first, second);
+    print_answer("inspect", frame_builder_inspect_text(answer), answer, first, second);
     print_count(list, frame, 4);
     print_count(list, frame, 2);
 
     /* The cells of flow 1. */
     list[2]++;
     answer = frame_builder_build(PORTS, SLOTS, list, LIST_LENGTH, limits, frame, FRAME_LENGTH, &first, &second, &third);
-    print_answer("build with one cell more", answer, first, second);
+    print_answer("build with one cell more", frame_builder_text(answer), answer, first, second);
     /* A flow of input 4 where input 1 stands. */
     frame[0] = 5;
     answer = frame_builder_inspect(PORTS, SLOTS, list, LIST_LENGTH, frame, FRAME_LENGTH, &first, &second);
-    print_answer("inspect after damage", answer, first, second);
+    print_answer("inspect after damage", frame_builder_inspect_text(answer), answer, first, second);
     return 0;
 }

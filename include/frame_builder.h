@@ -1,8 +1,13 @@
 /* The frame builder of a sixteen-port cell switch: the proved calls, for C99 and C++11, on x86-64 Linux.
  *
- * Link with libframe_builder.a: `./install` of the frame builder proves the calls and puts it under its prefix, and pkg-config has the
- * flags of frame_builder. In a checkout `rt staticlib exports` writes the same to target/staticlib/libexports.a. Of the C library it needs
- * memcpy and memset. examples/table7.c shows how the calls are used, examples/links.c how links and limits are.
+ * LINKING. `./install` of the frame builder proves the calls and puts them under its prefix twice: as the shared library
+ * libframe_builder.so and as the archive libframe_builder.a. `pkg-config --libs frame_builder` has the flags. With them the linker takes
+ * the shared library, and under -static the archive. A program that takes the archive and is otherwise linked as usual names
+ * -l:libframe_builder.a in the place of -lframe_builder. In a checkout `rt staticlib exports` writes the archive to
+ * target/staticlib/libexports.a. The shared library exports the calls below and nothing else. Its soname is libframe_builder.so.N, where N
+ * is the first number of the version, and its calls have the symbol version FRAME_BUILDER_N. So a program is never given the calls of
+ * another N. Of the C library the calls need memset and nothing else. examples/table7.c shows how the calls are used, examples/links.c how
+ * links and limits are.
  *
  * WORDS. Ports and slots are numbered from 1, inputs and outputs separately. An output drives up to four links, 1 to 4. A flow is so many
  * cells per frame from an input to one link of an output; a pair of ports may have several. A list is the reserved flows as 16-bit numbers,
@@ -33,13 +38,15 @@
  *
  * THREADS, SIGNALS, STACK. A call keeps no state, allocates nothing, makes no system call, waits for nothing and leaves errno alone. Any
  * number of calls may run at once, in threads and in signal handlers, as long as nobody else uses meanwhile what one of them writes. A call
- * takes FRAME_BUILDER_STACK_BYTES of stack at most. This paragraph is no part of the proofs; harness/c/test holds the archive to it.
+ * takes FRAME_BUILDER_STACK_BYTES of stack at most. A program over the shared library has each call found by the loader when it first makes
+ * that call, and these sentences hold of its later ones. Linked with -Wl,-z,now, it has all calls found when it starts. This paragraph is
+ * no part of the proofs; harness/c/test holds the archive and the shared library to it.
  */
 #ifndef FRAME_BUILDER_H
 #define FRAME_BUILDER_H
 
 #if !defined(__x86_64__) || !defined(__linux__) || defined(__ILP32__)
-#error "frame_builder.h: the archive is for x86-64 Linux with 64-bit pointers (System V calling convention), and for no other platform"
+#error "frame_builder.h: the library is for x86-64 Linux with 64-bit pointers (System V calling convention), and for no other platform"
 #endif
 
 #include <stddef.h>
@@ -63,7 +70,8 @@
  * PTHREAD_STACK_MIN and a signal stack of SIGSTKSZ may be too small for it. */
 #define FRAME_BUILDER_STACK_BYTES 28672
 
-/* Answers. What each means is its text in frame_builder_text; what it carries is in the tables of the calls. */
+/* Answers. What each means is its text in frame_builder_text and, after Inspect, in frame_builder_inspect_text; what it carries is in the
+ * tables of the calls. */
 #define FRAME_BUILDER_ACCEPTED 0
 #define FRAME_BUILDER_CLEAN 0 /* Inspect's name for it */
 
@@ -89,7 +97,8 @@
 #define FRAME_BUILDER_FAULT_FLOW_COUNT 103
 #define FRAME_BUILDER_FAULT_UNBALANCED_BLOCK 104
 
-/* What an answer means, for a message; a fixed text for a number that is no answer. Never null. */
+/* What an answer means, for a message; a fixed text for a number that is no answer. Never null. Of Inspect's answers 0 means something
+ * else: their texts are those of frame_builder_inspect_text. */
 static inline const char *frame_builder_text(size_t number)
 {
     switch (number) {
@@ -138,6 +147,12 @@ static inline const char *frame_builder_text(size_t number)
     default:
         return "not a number of the frame builder";
     }
+}
+
+/* What an answer of Inspect means: "clean" for 0, and the same text for every other number. Never null. */
+static inline const char *frame_builder_inspect_text(size_t number)
+{
+    return number == FRAME_BUILDER_CLEAN ? "clean" : frame_builder_text(number);
 }
 
 #ifdef __cplusplus
@@ -235,6 +250,10 @@ size_t frame_builder_slot_view(size_t ports, size_t slots, const uint16_t *frame
  * is behind. Length 0 and whole turns of the frame have lead 0, so that a whole turn more or less leaves the lead as it is. Whatever the
  * entries, |lead| is at most slots x slots / 4 for an input, and ports times as much for a flow or an output, whose cells may stand at
  * every input in the same slot; this follows from what the lead is, and is no theorem of its own.
+ *
+ * No call counts a link or the total: both are sums of these answers for the same start and length. The cells of a link are the sum of the
+ * cells of its flows, and its lead is the sum of their leads. The cells of the total are the sum of the cells of all outputs, 1 to ports,
+ * and its lead is the sum of their leads. So an entry above the number of flows counts for no link and not for the total.
  *
  * For a frame that Build made, counted with the ports, slots and list that Build was given, 3 x |lead| <= (2k + 1) x slots, where slots are
  * 2^k, and |lead| is at most what stands here. Both are proved, for every flow, input and output and every run.

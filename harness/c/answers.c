@@ -1,5 +1,6 @@
-/* Holds the calls to what the header says of them: the texts, every answer with what the lent numbers and the frame then hold, slices of
- * length 0, slices and limits beside memory that must not be touched, and two threads at once. The last line is 'N passed, M failed'.
+/* Holds the calls to what the header says of them: the texts, every answer with what the lent numbers and the frame then hold, the counts
+ * of links and of the total, slices of length 0, slices and limits beside memory that must not be touched, and two threads at once. The
+ * last line is 'N passed, M failed'.
  */
 #define _GNU_SOURCE
 #include <errno.h>
@@ -80,8 +81,12 @@ static void check_texts(void)
             if (other != one && strcmp(text, frame_builder_text(numbers[other])) == 0)
                 distinct = 0;
         check(distinct, text);
+        if (numbers[one] != FRAME_BUILDER_CLEAN)
+            check(strcmp(text, frame_builder_inspect_text(numbers[one])) == 0, "a text of Inspect that is the same for every call");
     }
     check(FRAME_BUILDER_CLEAN == FRAME_BUILDER_ACCEPTED, "clean is 0 as accepted is");
+    check(strcmp(frame_builder_inspect_text(FRAME_BUILDER_CLEAN), "clean") == 0, "the text of clean");
+    check(strcmp(frame_builder_text(FRAME_BUILDER_ACCEPTED), "accepted") == 0, "the text of accepted");
 }
 
 /* Answers. */
@@ -622,6 +627,76 @@ static void check_own_limits(void)
     check(answers_three(BUILD, &lent, FRAME_BUILDER_REFUSED_LINK_LOAD, 3, 1, 4), "a list that is its limits, refused");
 }
 
+/* Sums of counts. */
+
+/* A link of an output, or all of them where link is 0, and the sums of some answers of Service count. */
+struct sum {
+    size_t output, link, cells;
+    int64_t lead;
+};
+
+static int is_on(const struct sum *sum, const uint16_t *flow)
+{
+    return sum->link == 0 || (flow[1] == sum->output && flow[3] == sum->link);
+}
+
+static void add_count(enum call call, struct lent lent, size_t whose, struct sum *sum)
+{
+    struct numbers n = {0};
+    lent.whose = whose;
+    check(make_call(call, &lent, &n) == FRAME_BUILDER_ACCEPTED, "a count that is added up");
+    sum->cells += n.first;
+    sum->lead += n.lead;
+}
+
+/* The entries of a run that are flows of `linked` on what is summed. */
+static size_t entries_of(const struct sum *sum, const uint16_t *frame, size_t start, size_t length)
+{
+    size_t found = 0;
+    for (size_t place = 0; place < length * PORTS; place++) {
+        size_t entry = frame[((start - 1) * PORTS + place) % (SLOTS * PORTS)];
+        found += entry != 0 && entry <= COUNT_OF(linked) / OF_FLOW && is_on(sum, linked + (entry - 1) * OF_FLOW);
+    }
+    return found;
+}
+
+static int is_counted(const struct lent *lent, const struct sum *sum)
+{
+    size_t cells = entries_of(sum, lent->frame, lent->slot, lent->length), whole = entries_of(sum, lent->frame, 1, SLOTS);
+    return sum->cells == cells && sum->lead == (int64_t)(SLOTS * cells) - (int64_t)(lent->length * whole);
+}
+
+static int link_is_sum(const struct lent *lent, size_t output, size_t link)
+{
+    struct sum sum = {output, link, 0, 0};
+    for (size_t flow = 1; flow <= COUNT_OF(linked) / OF_FLOW; flow++)
+        if (is_on(&sum, linked + (flow - 1) * OF_FLOW))
+            add_count(COUNT_FLOW, *lent, flow, &sum);
+    return is_counted(lent, &sum);
+}
+
+static int total_is_sum(const struct lent *lent)
+{
+    struct sum sum = {0};
+    for (size_t output = 1; output <= PORTS; output++)
+        add_count(COUNT_OUTPUT, *lent, output, &sum);
+    return is_counted(lent, &sum);
+}
+
+/* Entries of every kind: idle, flows at their own input and at others, and numbers above those of the flows. */
+static void check_sums(void)
+{
+    uint16_t frame[SLOTS * PORTS] = {1, 2, 3, 4, 5, 6, 7, 0, 2, 2, 513, 3, 0, 4, 1, 65535};
+    struct lent lent = {PORTS, SLOTS, LIST(linked), FRAME(frame), 0, 0, 0};
+    for (lent.slot = 1; lent.slot <= SLOTS; lent.slot++)
+        for (lent.length = 0; lent.length <= 2 * SLOTS + 1; lent.length++) {
+            for (size_t place = 0; place < PORTS * FRAME_BUILDER_MAX_LINKS; place++)
+                check(link_is_sum(&lent, place / FRAME_BUILDER_MAX_LINKS + 1, place % FRAME_BUILDER_MAX_LINKS + 1),
+                      "the count of a link is the sum of its flows'");
+            check(total_is_sum(&lent), "the count of the total is the sum of all outputs'");
+        }
+}
+
 /* The furthest leads of any entries: all inputs have the last flow in the first half of the frame, and nothing in the second. */
 static void check_furthest(void)
 {
@@ -651,6 +726,7 @@ int main(void)
     check_texts();
     check_answers();
     check_limits();
+    check_sums();
     check_furthest();
     check_settled();
     check_bounds();
