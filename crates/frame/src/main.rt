@@ -31,10 +31,14 @@ fn fill(buffer: &mut [u8], failed: &mut bool) -> usize
     at
 }
 
-// Reads what is past the longest sheet, to its end. A proved loop has to end, so it counts its turns down.
+// How often the rest of a sheet that is too long is read, 4,096 bytes at most each time: with the sheet 1 MiB at most.
+const REST_READS: u64 = 247;
+
+// Reads what is past the longest sheet, to its end or up to the limit, so that whoever writes a sheet that is a little too long is not
+// cut off, and an input without end is.
 fn skip_rest(failed: &mut bool) {
     let mut rest = io::buffer();
-    let mut turns = u64::MAX;
+    let mut turns = REST_READS;
     while turns > 0 {
         let n = read_some(&mut rest, failed);
         if n == 0 {
@@ -44,7 +48,7 @@ fn skip_rest(failed: &mut bool) {
     }
 }
 
-// Reads a sheet to its end, and answers how many bytes of it are in the buffer: a sheet that fills it is too long.
+// Reads a sheet, and answers how many bytes of it are in the buffer: a sheet that fills it is too long.
 fn take_sheet(buffer: &mut [u8], failed: &mut bool) -> usize
     requires { ⌜ 32768 < length (now buffer) ⌝ }
     ensures { λ r. ⌜ Counts r (now (buffer .exit)) ⌝ }
