@@ -12,6 +12,7 @@ mod grid;
 mod legend;
 mod look;
 mod palette;
+mod refused;
 mod request;
 mod sheet;
 mod svg;
@@ -21,19 +22,31 @@ pub use chart::draw_course;
 pub use course::Course;
 pub use frame::Frame;
 pub use grid::draw_frame;
+pub use refused::Refused;
 pub use request::{Picture, Request, ADVICE, HELP};
-pub use sheet::{Fault, Sheet, LONGEST_SHEET};
+pub use sheet::{Sheet, LONGEST_SHEET};
+
+/// Why there is no picture: the sheet is refused, or it does not have what is asked for, as a sentence says.
+#[derive(Debug, Clone, PartialEq, Eq)]
+pub enum NoPicture {
+    Refused(Refused),
+    Missing(String),
+}
+
+impl From<Refused> for NoPicture {
+    fn from(refused: Refused) -> NoPicture {
+        NoPicture::Refused(refused)
+    }
+}
 
 /// The picture that is asked for of a sheet's frame.
-pub fn draw(picture: Picture, text: &[u8]) -> Result<String, String> {
-    if text.len() > LONGEST_SHEET {
-        return Err(format!("the sheet is longer than 32,768 bytes; {ADVICE}"));
-    }
-    let sheet = Sheet::read(text).map_err(|fault| fault.to_string())?;
-    let frame = Frame::build(sheet)
-        .map_err(|refusal| format!("the sheet is refused: {refusal}; {ADVICE}"))?;
+pub fn draw(picture: Picture, text: &[u8]) -> Result<String, NoPicture> {
+    let frame = Frame::build(Sheet::read(text)?).map_err(Refused::Call)?;
     match picture {
         Picture::Frame => Ok(draw_frame(&frame)),
-        Picture::Course(who) => Ok(draw_course(&Course::of(&frame, who)?)),
+        Picture::Course(who) => {
+            let course = Course::of(&frame, who).map_err(NoPicture::Missing)?;
+            Ok(draw_course(&course))
+        }
     }
 }

@@ -4,9 +4,9 @@
 
 use std::fs::File;
 use std::io::{self, IsTerminal, Read, Write};
-use std::process::ExitCode;
+use std::process::{Command, ExitCode, Stdio};
 
-use picture::{draw, Request, ADVICE, HELP, LONGEST_SHEET};
+use picture::{draw, NoPicture, Refused, Request, ADVICE, HELP, LONGEST_SHEET};
 
 fn main() -> ExitCode {
     let words: Vec<String> = std::env::args_os()
@@ -15,15 +15,17 @@ fn main() -> ExitCode {
         .collect();
     match answer(&words) {
         Ok(()) => ExitCode::SUCCESS,
-        Err(what) => {
-            // Where standard error is closed there is nobody left to tell.
-            let _ = writeln!(io::stderr(), "picture: {what}");
+        Err(sentences) => {
+            for sentence in sentences.lines() {
+                // Where standard error is closed there is nobody left to tell.
+                let _ = writeln!(io::stderr(), "picture: {sentence}");
+            }
             ExitCode::from(2)
         }
     }
 }
 
-/// Writes the help or the picture that the words ask for.
+/// Writes the help or the picture that the words ask for. What is wrong is a sentence a line.
 fn answer(words: &[String]) -> Result<(), String> {
     if matches!(words, [word] if word == "--help" || word == "-h") {
         return write(HELP);
@@ -33,7 +35,34 @@ fn answer(words: &[String]) -> Result<(), String> {
         Some(name) => read_file(&name),
         None => read_input(),
     };
-    write(&draw(picture, &text?)?)
+    let text = text?;
+    let drawn = draw(picture, &text).map_err(|why| match why {
+        NoPicture::Refused(refused) => explain(&text, refused),
+        NoPicture::Missing(what) => what,
+    });
+    write(&drawn?)
+}
+
+/// What is wrong with a refused sheet, in the words of ./frame where their script is found.
+fn explain(text: &[u8], refused: Refused) -> String {
+    let plain = || format!("the sheet is refused: {refused}; {ADVICE}");
+    sentences(text, refused).unwrap_or_else(plain)
+}
+
+/// What the script says that explains refusals, which ./picture names in the environment.
+fn sentences(text: &[u8], refused: Refused) -> Option<String> {
+    let mut script = Command::new(std::env::var_os("FRAME_BUILDER_EXPLAIN")?)
+        .args(["-", &refused.to_string()])
+        .stdin(Stdio::piped())
+        .stdout(Stdio::piped())
+        .stderr(Stdio::null())
+        .spawn()
+        .ok()?;
+    // A script that fails may not read the sheet; its status tells.
+    let _ = script.stdin.take()?.write_all(text);
+    let output = script.wait_with_output().ok()?;
+    let said = output.status.success() && !output.stdout.is_empty();
+    said.then(|| String::from_utf8_lossy(&output.stdout).into_owned())
 }
 
 fn read_file(name: &str) -> Result<Vec<u8>, String> {

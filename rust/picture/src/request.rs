@@ -53,8 +53,8 @@ Examples:
 It is built by cargo when it is first run, with the library that has the calls: an installed one, which FRAME_BUILDER_PREFIX or
 pkg-config names, or the one that the Rattle kit proves in this checkout.
 
-A sheet of another form, one that is refused, a flow or a port that it does not have, or an unknown word is an error: a line on
-standard error, exit code 2, nothing on standard output.
+A sheet that is refused, a flow or a port that it does not have, or an unknown word is an error: exit code 2, nothing on standard
+output, and a line on standard error. Of a refused sheet standard error has every sentence that ./frame says.
 ";
 
 /// The end of each sentence about a wrong use.

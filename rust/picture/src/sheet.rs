@@ -1,10 +1,8 @@
 //! A reservation sheet: ports, slots and a list of flows.
 
-use std::fmt;
+use frame_builder::{admit, slots_each, Flow, Refusal};
 
-use frame_builder::Flow;
-
-use crate::request::ADVICE;
+use crate::refused::Refused;
 
 /// The most bytes of a sheet.
 pub const LONGEST_SHEET: usize = 32_768;
@@ -13,7 +11,7 @@ const PORTS: &str = "(ports P)";
 const SLOTS: &str = "(slots N)";
 const PAIR: &str = "(pair (in I) (out O) (cells M))";
 
-/// What a sheet asks for. Whether it can be built is the library's question.
+/// What a sheet asks for. Whether its loads fit is the library's question.
 #[derive(Debug, Clone, PartialEq, Eq)]
 pub struct Sheet {
     pub ports: usize,
@@ -21,49 +19,46 @@ pub struct Sheet {
     pub list: Vec<Flow>,
 }
 
-/// What is wrong with a text that is no sheet, and on which line.
-#[derive(Debug, PartialEq, Eq)]
-pub struct Fault {
-    pub line: usize,
-    pub what: String,
-}
-
-impl fmt::Display for Fault {
-    fn fmt(&self, out: &mut fmt::Formatter) -> fmt::Result {
-        let Fault { line, what } = self;
-        write!(out, "line {line}: {what}; {ADVICE}")
-    }
-}
-
 impl Sheet {
-    /// Reads `(ports P)`, `(slots N)` and a pair line for each flow.
-    pub fn read(text: &[u8]) -> Result<Sheet, Fault> {
+    /// Reads `(ports P)`, `(slots N)` and a pair line for each flow. Each line is judged before the next one is read, so that the refusal
+    /// is the one that the sheet program prints.
+    pub fn read(text: &[u8]) -> Result<Sheet, Refused> {
+        if text.len() > LONGEST_SHEET {
+            return Err(Refused::TooLong);
+        }
         let mut lines = text.split_inclusive(|&byte| byte == b'\n');
-        let [ports] = on_line(1, read_line(lines.next(), PORTS))?;
-        let [slots] = on_line(2, read_line(lines.next(), SLOTS))?;
-        let flows = (3..).zip(lines).map(|(place, line)| {
-            let [input, output, cells] = on_line(place, read_line(Some(line), PAIR))?;
-            Ok(Flow::new(input, output, cells))
-        });
-        Ok(Sheet {
-            ports: ports.into(),
-            slots: slots.into(),
-            list: flows.collect::<Result<_, Fault>>()?,
-        })
+        let [ports] = read_line(1, lines.next(), PORTS)?.map(usize::from);
+        judge(1, ports, 1, &[])?;
+        let [slots] = read_line(2, lines.next(), SLOTS)?.map(usize::from);
+        judge(2, ports, slots, &[])?;
+        let mut list = Vec::new();
+        for (place, line) in (3..).zip(lines) {
+            let [input, output, cells] = read_line(place, Some(line), PAIR)?;
+            list.push(Flow::new(input, output, cells));
+            judge(place, ports, slots, &list)?;
+        }
+        Ok(Sheet { ports, slots, list })
     }
 }
 
-fn on_line<T>(line: usize, read: Result<T, String>) -> Result<T, Fault> {
-    read.map_err(|what| Fault { line, what })
+/// What the library says of the lines up to this one. Loads are judged when all lines are read.
+fn judge(line: usize, ports: usize, slots: usize, list: &[Flow]) -> Result<(), Refused> {
+    match admit(ports, slots, list, slots_each(slots)) {
+        Err(Refusal::FlowPort) => Err(Refused::Port { line }),
+        Ok(()) | Err(Refusal::InputLoad { .. } | Refusal::OutputLoad { .. }) => Ok(()),
+        Err(refusal) => Err(Refused::Call(refusal)),
+    }
 }
 
 /// The numbers of a line that has to be there, with a line feed and in this form.
-fn read_line<const N: usize>(line: Option<&[u8]>, form: &str) -> Result<[u16; N], String> {
-    let line = line.ok_or_else(|| format!("{form} expected, but the sheet ends"))?;
-    let line = line.strip_suffix(b"\n").ok_or("no line feed at its end")?;
-    let line = std::str::from_utf8(line).map_err(|_| "not text")?;
-    let numbers = numbers_in(line, form).and_then(|numbers| numbers.try_into().ok());
-    numbers.ok_or_else(|| format!("{form} expected, but it is {}", shown(line)))
+fn read_line<const N: usize>(
+    place: usize,
+    line: Option<&[u8]>,
+    form: &str,
+) -> Result<[u16; N], Refused> {
+    let text = line.and_then(|line| std::str::from_utf8(line.strip_suffix(b"\n")?).ok());
+    let numbers = text.and_then(|text| numbers_in(text, form)?.try_into().ok());
+    numbers.ok_or(Refused::Form { line: place })
 }
 
 /// The numbers of a line, one in the place of each capital letter of its form.
@@ -89,26 +84,15 @@ pub fn number(text: &str) -> Option<usize> {
     text.parse().ok()
 }
 
-/// The beginning of a text, in quotes.
-fn shown(text: &str) -> String {
-    let most = 48;
-    let beginning: String = text.chars().take(most).collect();
-    let rest = if beginning.len() < text.len() {
-        " .."
-    } else {
-        ""
-    };
-    format!("{beginning:?}{rest}")
-}
-
 #[cfg(test)]
 mod tests {
     use super::*;
 
     const TABLE7: &str = include_str!("../../../examples/table7.sheet");
 
-    fn fault_of(text: &[u8]) -> Fault {
-        Sheet::read(text).expect_err("it is no sheet")
+    fn refused(text: &[u8]) -> String {
+        let refused = Sheet::read(text).expect_err("it is no sheet");
+        refused.to_string()
     }
 
     #[test]
@@ -120,11 +104,11 @@ mod tests {
     }
 
     #[test]
-    fn any_numbers_are_read() {
-        let text = "(ports 0)\n(slots 65535)\n(pair (in 65535) (out 0) (cells 10))\n";
+    fn loads_of_any_size_are_read() {
+        let text = "(ports 16)\n(slots 1)\n(pair (in 1) (out 16) (cells 65535))\n";
         let sheet = Sheet::read(text.as_bytes()).unwrap();
-        assert_eq!((sheet.ports, sheet.slots), (0, 65_535));
-        assert_eq!(sheet.list, [Flow::new(65_535, 0, 10)]);
+        assert_eq!((sheet.ports, sheet.slots), (16, 1));
+        assert_eq!(sheet.list, [Flow::new(1, 16, 65_535)]);
     }
 
     #[test]
@@ -135,28 +119,46 @@ mod tests {
     }
 
     #[test]
-    fn faults_are_named_by_line() {
+    fn other_forms_are_refused_by_line() {
         let two = "(ports 2)\n(slots 4)\n";
-        for (text, line, part) in [
-            ("", 1, "(ports P) expected, but the sheet ends"),
-            ("(ports 2)\n", 2, "(slots N) expected, but the sheet ends"),
-            ("(ports 2)", 1, "no line feed at its end"),
-            ("(ports 2)\r\n", 1, "(ports P) expected, but it is"),
-            ("(ports 02)\n", 1, "it is \"(ports 02)\""),
-            ("(ports )\n", 1, "it is \"(ports )\""),
-            ("(ports 65536)\n", 1, "it is \"(ports 65536)\""),
-            ("(ports 2)\n(slots 4) \n", 2, "(slots N) expected"),
-            (&format!("{two}\n"), 3, "it is \"\""),
-            (&format!("{two}(pair (in 1) (out 2))\n"), 3, "expected"),
-            (&format!("{two}(pair  (in 1)"), 3, "no line feed"),
-            (&format!("{two}{}\n", "x".repeat(60)), 3, "xx\" .."),
+        for (text, line) in [
+            ("", 1),
+            ("(ports 2)\n", 2),
+            ("(ports 2)", 1),
+            ("(ports 2)\r\n", 1),
+            ("(ports 02)\n", 1),
+            ("(ports )\n", 1),
+            ("(ports 65536)\n", 1),
+            ("(ports 2)\n(slots 4) \n", 2),
+            (&format!("{two}\n"), 3),
+            (&format!("{two}(pair (in 1) (out 2))\n"), 3),
+            (&format!("{two}(pair  (in 1)"), 3),
         ] {
-            let fault = fault_of(text.as_bytes());
-            assert_eq!(fault.line, line, "{text}");
-            assert!(fault.what.contains(part), "{text}: {fault}");
+            let form = format!("(refused 7 (line {line}))");
+            assert_eq!(refused(text.as_bytes()), form, "{text}");
         }
-        let fault = fault_of(b"\xff\xfe\n");
-        assert_eq!(fault.to_string(), format!("line 1: not text; {ADVICE}"));
+        assert_eq!(refused(b"\xff\xfe\n"), "(refused 7 (line 1))");
+    }
+
+    #[test]
+    fn the_first_refusal_is_that_of_the_first_line() {
+        let two = "(ports 2)\n(slots 4)\n";
+        let outside = "(pair (in 3) (out 1) (cells 1))\n";
+        let flows = "(pair (in 1) (out 1) (cells 9))\n".repeat(512);
+        for (text, first) in [
+            ("(ports 17)\n(slots 3)\n(pear)\n", "(refused 1)"),
+            ("(ports 0)\n", "(refused 1)"),
+            ("(ports 2)\n(slots 3)\n(pear)\n", "(refused 2)"),
+            ("(ports 2)\n(slots 65535)\n", "(refused 2)"),
+            (&format!("{two}{outside}(pear)\n"), "(refused 8 (line 3))"),
+            (&format!("{two}(pear)\n{outside}"), "(refused 7 (line 3))"),
+            (&format!("{two}{flows}{outside}"), "(refused 21)"),
+            (&format!("{two}{flows}(pear)\n"), "(refused 7 (line 515))"),
+            (&format!("{two}{outside}{flows}"), "(refused 8 (line 3))"),
+        ] {
+            assert_eq!(refused(text.as_bytes()), first);
+        }
+        assert_eq!(refused(&[b'\n'; LONGEST_SHEET + 1]), "(refused 10)");
     }
 
     #[test]
@@ -169,7 +171,12 @@ mod tests {
                 Ok(sheet) => {
                     assert!(beginning.ends_with(b"\n") && sheet.list.len() + 2 == line_feeds)
                 }
-                Err(fault) => assert_eq!(fault.line, line_feeds + 1),
+                Err(refused) => assert_eq!(
+                    refused,
+                    Refused::Form {
+                        line: line_feeds + 1
+                    }
+                ),
             }
         }
     }

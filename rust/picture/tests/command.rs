@@ -10,10 +10,18 @@ const OVERLOADED: &str = include_str!("../../../examples/overloaded.sheet");
 const TOO_MANY: &str = include_str!("../../../examples/too-many.sheet");
 const TOO_LONG: &str = include_str!("../../../examples/too-long.sheet");
 const TABLE7_FILE: &str = concat!(env!("CARGO_MANIFEST_DIR"), "/../../examples/table7.sheet");
+/// The script that says what is wrong with a refused sheet, and the name by which the command has it.
+const SCRIPT: &str = concat!(env!("CARGO_MANIFEST_DIR"), "/../../command/explain");
+const SCRIPT_NAME: &str = "FRAME_BUILDER_EXPLAIN";
 
 fn run(line: &str, input: &[u8]) -> Output {
-    let mut command = Command::new(env!("CARGO_BIN_EXE_picture"))
-        .args(line.split_whitespace())
+    let mut command = Command::new(env!("CARGO_BIN_EXE_picture"));
+    command.env_remove(SCRIPT_NAME);
+    run_with(command.args(line.split_whitespace()), input)
+}
+
+fn run_with(command: &mut Command, input: &[u8]) -> Output {
+    let mut command = command
         .stdin(Stdio::piped())
         .stdout(Stdio::piped())
         .stderr(Stdio::piped())
@@ -89,22 +97,59 @@ fn wrong_words_go_to_standard_error() {
     refuses(&format!("frame {named}"), b"", "one sheet at a time");
 }
 
+/// The refusals of sheets, as the sheet program prints them.
+fn refusals() -> Vec<(Vec<u8>, &'static str)> {
+    let mistakes = "(ports 4)\n(slots\t4)\n(pair (in 9) (out 1) (cells 1,000))\n\n(pear)";
+    let sheets: [(&[u8], &str); 9] = [
+        (b"", "(refused 7 (line 1))"),
+        (mistakes.as_bytes(), "(refused 7 (line 2))"),
+        (&TABLE7.as_bytes()[..60], "(refused 7 (line 4))"),
+        (b"\xff\0\n(slots 4)\n", "(refused 7 (line 1))"),
+        (b"(ports 65535)\n(slots 65535)\n", "(refused 1)"),
+        (OVERLOADED.as_bytes(), "(refused 6 (port 2) (cells 9))"),
+        (TOO_MANY.as_bytes(), "(refused 21)"),
+        (TOO_LONG.as_bytes(), "(refused 10)"),
+        (&[0xff; 1_000_000], "(refused 10)"),
+    ];
+    let owned = |(sheet, refusal): (&[u8], _)| (sheet.to_vec(), refusal);
+    sheets.into_iter().map(owned).collect()
+}
+
 #[test]
-fn wrong_sheets_go_to_standard_error() {
-    let refused = |sheet: &str, part: &str| refuses("frame", sheet.as_bytes(), part);
-    refused("", "line 1: (ports P) expected, but the sheet ends");
-    refused(&TABLE7[..60], "line 4: ");
-    refused(TOO_LONG, "the sheet is longer than 32,768 bytes");
-    refused(
-        TOO_MANY,
-        "the sheet is refused: there are more than 512 flows",
-    );
-    let output = "the sheet is refused: output 2 is asked for 9 cells";
-    refused(OVERLOADED, output);
-    let huge = "(ports 65535)\n(slots 65535)\n";
-    refused(huge, "the sheet is refused: the number of ports is not");
-    refuses("frame", &[0xff; 1_000_000], "longer than 32,768 bytes");
-    refuses("frame", b"\xff\n", "line 1: not text");
-    let printed = "(frame (ports 4) (slots 4))\n";
-    refused(printed, "line 1: (ports P) expected, but it is \"(frame (");
+fn wrong_sheets_are_refused() {
+    for (sheet, refusal) in refusals() {
+        refuses(
+            "frame",
+            &sheet,
+            &format!("the sheet is refused: {refusal};"),
+        );
+    }
+}
+
+#[test]
+fn a_script_says_what_is_wrong() {
+    for (sheet, refusal) in refusals() {
+        let said = run_with(Command::new(SCRIPT).args(["-", refusal]), &sheet).stdout;
+        let said = String::from_utf8(said).unwrap();
+        assert!(said.starts_with("refused: "), "{refusal}: {said}");
+        let lines = said.lines().map(|line| format!("picture: {line}\n"));
+        let mut command = Command::new(env!("CARGO_BIN_EXE_picture"));
+        let output = run_with(command.arg("frame").env(SCRIPT_NAME, SCRIPT), &sheet);
+        let what = String::from_utf8(output.stderr).unwrap();
+        assert_eq!(what, lines.collect::<String>(), "{refusal}");
+        assert_eq!(output.status.code(), Some(2), "{refusal}");
+        assert!(output.stdout.is_empty(), "{refusal}");
+    }
+}
+
+#[test]
+fn a_script_that_fails_is_passed_over() {
+    for script in ["/nowhere", "false", "true"] {
+        let mut command = Command::new(env!("CARGO_BIN_EXE_picture"));
+        let output = run_with(command.arg("frame").env(SCRIPT_NAME, script), b"");
+        let what = String::from_utf8(output.stderr).unwrap();
+        let plain = "picture: the sheet is refused: (refused 7 (line 1)); ";
+        assert!(what.starts_with(plain), "{script}: {what}");
+        assert_eq!(output.status.code(), Some(2), "{script}");
+    }
 }
