@@ -1,0 +1,187 @@
+# Reads what the prover said of an edited crate; command/refusals says what is printed.
+
+# ---- reading
+
+BEGIN { folder = ENVIRON["EDITED"] "/" }
+
+{ while (at = index($0, folder)) $0 = substr($0, 1, at - 1) substr($0, at + length(folder)) }
+
+/^[^ ]+:[0-9]+:[0-9]+: error/ {
+    begin($1)
+    code[count] = $2
+    words[count] = from($0, ": error[^ ]* ")
+    if (match(words[count], /^`[^`]+`: /)) {
+        law[count] = substr(words[count], 2, RLENGTH - 4)
+        words[count] = substr(words[count], RLENGTH + 1)
+    }
+    next
+}
+# A function that is proved by search alone has a note for each fact that is left, a note of what the search said, and then its line.
+/^note: [^ ]+:[0-9]+:[0-9]+: it is not proved that / {
+    begin($2)
+    by_search[count] = 1
+    words[count] = from($0, ":[0-9]+: ")
+    next
+}
+/^note: what antt said of / && by_search[count] {
+    words[count] = words[count] "\n" from($0, ":[0-9]+: `[^`]*`: ")
+    reading = 1
+    next
+}
+/^fn .*: no proof/ {
+    for (i = count; by_search[i] && !law[i]; i--) law[i] = $2
+}
+/^[^ ]+:[0-9]+:[0-9]+: note: .* trial runs? of this declaration was admitted / {
+    split($1, part, ":")
+    terms = split($0, term, "`")
+    admitted[part[1], term[terms - 1]] = term[2]
+}
+/^  / && reading {
+    # A line goes on with the sentence before it, unless it begins one.
+    sub(/^  /, "")
+    words[count] = words[count] (/^(expected type|computed as|as printed|what the two|here `|the `|`)/ ? "\n" : " ") $0
+    next
+}
+{ reading = 0 }
+
+# begin(PLACE): the next error, at FILE:LINE:COLUMN:
+function begin(place,    part) {
+    count++
+    split(place, part, ":")
+    file[count] = part[1]
+    line[count] = part[2]
+    reading = 1
+}
+
+# What stands behind the first match of a pattern.
+function from(text, pattern) { return match(text, pattern) ? substr(text, RSTART + RLENGTH) : text }
+
+# ---- kinds
+
+# A text that consists of numbers, truth values and lists of them alone.
+function literal(text) {
+    gsub(/[0-9]+|true|false|\[\]|∷|ℕ|Bool|List|Path|_≤_|_<_|≤|<|×|[ (){},]/, "", text)
+    return text == ""
+}
+
+# Both sides of an equation are the same text, as in the type of refl.
+function same_sides(text,    half) {
+    half = (length(text) - length(" ≡ ")) / 2
+    return half > 0 && text == substr(text, 1, half) " ≡ " substr(text, 1, half)
+}
+
+# The kind of an error that has two types that are not the same.
+function kind_of_types(text,    units, unit, terms, term, i, found) {
+    units = split(text, unit, "\n")
+    for (i = 1; i <= units; i++) {
+        terms = split(unit[i], term, "`")
+        if (unit[i] ~ /but this has type/) found = term[terms - 1]
+        if (unit[i] !~ /^computed as far as they go, the two types/) continue
+        if (unit[i] ~ /differ/ && literal(term[2]) && literal(term[terms - 1])) return "fact"
+        if (unit[i] ~ /two types are/ && literal_apart(term[2], term[terms - 1])) return "fact"
+    }
+    if (text ~ /expected type `[^`]*Need-/ && found ~ /Need-/) return "form"
+    return same_sides(found) && text !~ /not unfold here/ ? "fact" : "look"
+}
+
+# Two statements that are literal, or the same but for numbers.
+function literal_apart(one, other) {
+    if (literal(one) && literal(other)) return 1
+    gsub(/[0-9]+/, "0", one)
+    gsub(/[0-9]+/, "0", other)
+    return one == other
+}
+
+# The kind of error i by its words.
+function kind_of(i,    text) {
+    text = words[i]
+    if (by_search[i]) return "fact"
+    if (code[i] != "error:") return code[i] ~ /unknown/ ? "name" : "form"
+    if (text ~ /^`[^`]*` is not in scope/ || text ~ / that can be named from here/) return "name"
+    # A definition or a contract claims nothing, and what stands in no declaration was not read.
+    if (file[i] ~ /^(src|specs)\// || !law[i] || text ~ /^(`rw`: no occurrence|this clause follows)/) return "form"
+    if (text ~ /^`search`: no proof of / || text ~ /^`(omega|search|cc)`: .* does not follow from what it read/) return "fact"
+    if (text ~ /the two types|expected type/) return kind_of_types(text)
+    # What a rewriting leaves, or anything else that is not known here.
+    return match(text, /ends are equal, and `[^`]*`/) && literal(substr(text, RSTART + 21, RLENGTH - 22)) ? "fact" : "look"
+}
+
+# ---- printing
+
+# At most so many bytes of a text, with .. where it is cut, and no part of a character.
+function cut(text, most) {
+    if (length(text) <= most) return text
+    text = substr(text, 1, most)
+    sub(/[\300-\377]?[\200-\277]*$/, "", text)
+    return text ".."
+}
+
+# A term, cut and without the modules before its names. The stop of a lambda in it ends no sentence: a \001 stands behind it.
+function short(term, most) {
+    if (term ~ /use /) return term
+    gsub(/\. /, "\001 ", term)
+    gsub(/([^ ().{},\001]+\.)+/, "", term)
+    gsub(/\001 /, ".\001", term)
+    return cut(term, most)
+}
+
+# A text with its terms short. Two types that differ are to be read, and a goal that is not proved is only to be known.
+function plain(text,    pieces, piece, i, out) {
+    pieces = split(text, piece, "`")
+    for (i = 1; i <= pieces; i++) out = out (i > 1 ? "`" : "") (i % 2 ? piece[i] : short(piece[i], text ~ / types? / ? 160 : 70))
+    return out
+}
+
+# A sentence says what is refused.
+function telling(sentence) {
+    return sentence ~ /does not follow from|fails, at|no proof was found of|it leaves must be/ \
+        || sentence ~ /two types (differ|first differ|are)|expected type|the (expected|found) one (is|begins)/
+}
+
+# The first sentence of an error, and those that say what is refused, with tabs between. Advice on a rewriting, and how two types differ as
+# printed where that is told as they are computed, do not count as the first.
+function told(text,    units, unit, sentences, sentence, i, j, out) {
+    sub(/^give a proof of that[^\n]*\n/, "", text)
+    if (text ~ /\ncomputed as far as they go, the two types/) sub(/^as printed[^\n]*\n/, "", text)
+    gsub(/\. All of that holds, and/, ": all of that holds, and", text)
+    units = split(text, unit, "\n")
+    for (i = 1; i <= units; i++) {
+        sentences = split(plain(unit[i]), sentence, /\. /)
+        for (j = 1; j <= sentences; j++) {
+            if (out != "" && !telling(sentence[j])) continue
+            sub(/^In its own words: /, "", sentence[j])
+            gsub(/\001/, " ", sentence[j])
+            out = out (out == "" ? "" : "\t") cut(sentence[j], 600)
+        }
+    }
+    return out
+}
+
+# The law that an error is in, or the function that is not proved.
+function who(i,    name) {
+    name = by_search[i] ? law[i] : file[i]
+    if (!by_search[i] && name !~ /\/Proof\.antt$/) return law[i] ? law[i] : "-"
+    gsub(/^[^:\/]*::|:$|^proofs\/|\/Proof\.antt$|\+/, "", name)
+    gsub(/\//, "::", name)
+    return "fn " name
+}
+
+# Where the proof of a function lists its facts without their names, other operations have other facts at its places.
+function unnamed(i) { return moved && file[i] ~ /\/Proof\.antt$/ && law[i] ~ /-spec$/ }
+
+END {
+    for (i = 1; i <= count; i++) {
+        if (words[i] ~ /was not admitted/) continue
+        kind = kind_of(i)
+        note = ""
+        if (kind == "fact" && unnamed(i)) {
+            kind = "look"
+            note = "the edit changes the operations, so that the proof's list of facts may be unfit for them\t"
+        }
+        if ((file[i], law[i]) in admitted) {
+            kind = "form"
+            note = "it is admitted where its proof has the line `" admitted[file[i], law[i]] "`\t"
+        }
+        print kind "\t" who(i) "\t" file[i] ":" line[i] "\t" note told(words[i])
+    }
+}
