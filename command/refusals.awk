@@ -60,36 +60,34 @@ function from(text, pattern) { return match(text, pattern) ? substr(text, RSTART
 
 # A text that consists of numbers, truth values and lists of them alone.
 function literal(text) {
-    gsub(/[0-9]+|true|false|\[\]|∷|ℕ|Bool|List|Path|_≤_|_<_|≤|<|×|[ (){},]/, "", text)
+    gsub(/[0-9]+|true|false|\[\]|∷|ℕ|Bool|List|Path|[ ()]/, "", text)
     return text == ""
 }
 
-# Both sides of an equation are the same text, as in the type of refl.
+# Both sides of an equation are the same text.
 function same_sides(text,    half) {
     half = (length(text) - length(" ≡ ")) / 2
     return half > 0 && text == substr(text, 1, half) " ≡ " substr(text, 1, half)
 }
 
-# The kind of an error that has two types that are not the same.
-function kind_of_types(text,    units, unit, terms, term, i, found) {
-    units = split(text, unit, "\n")
-    for (i = 1; i <= units; i++) {
-        terms = split(unit[i], term, "`")
-        if (unit[i] ~ /but this has type/) found = term[terms - 1]
-        if (unit[i] !~ /^computed as far as they go, the two types/) continue
-        if (unit[i] ~ /differ/ && literal(term[2]) && literal(term[terms - 1])) return "fact"
-        if (unit[i] ~ /two types are/ && literal_apart(term[2], term[terms - 1])) return "fact"
-    }
-    if (text ~ /expected type `[^`]*Need-/ && found ~ /Need-/) return "form"
-    return same_sides(found) && text !~ /not unfold here/ ? "fact" : "look"
+# Two equations of one term with different numbers.
+function contrary(one, other) {
+    return one ~ /^Path / && sub(/[0-9]+$/, "", one) && sub(/[0-9]+$/, "", other) && one == other
 }
 
-# Two statements that are literal, or the same but for numbers.
-function literal_apart(one, other) {
-    if (literal(one) && literal(other)) return 1
-    gsub(/[0-9]+/, "0", one)
-    gsub(/[0-9]+/, "0", other)
-    return one == other
+# The kind of an error that has two types that are not the same. What refl shows has the same text on both sides.
+function kind_of_types(text,    units, unit, term, terms, i, refl) {
+    text = plain(text, length(text))
+    refl = match(text, /but this has type `[^`]*`/) && same_sides(substr(text, RSTART + 19, RLENGTH - 20))
+    units = split(text, unit, "\n")
+    for (i = 1; i <= units; i++) {
+        if (unit[i] !~ /^computed as far as they go, the two types/) continue
+        terms = split(unit[i], term, "`")
+        if (unit[i] ~ /differ/ && refl && literal(term[2]) && literal(term[terms - 1])) return "fact"
+        if (unit[i] ~ /two types are/ && (term[2] ~ /^Path / && literal(term[2]) || contrary(term[2], term[terms - 1]))) return "fact"
+    }
+    if (text ~ /expected type `Need-[^`]*`, but this has type `Need-/) return "form"
+    return refl && text !~ /not unfold here/ ? "fact" : "look"
 }
 
 # The kind of error i by its words.
@@ -125,10 +123,10 @@ function short(term, most) {
     return cut(term, most)
 }
 
-# A text with its terms short. Two types that differ are to be read, and a goal that is not proved is only to be known.
-function plain(text,    pieces, piece, i, out) {
+# A text with its terms short.
+function plain(text, most,    pieces, piece, i, out) {
     pieces = split(text, piece, "`")
-    for (i = 1; i <= pieces; i++) out = out (i > 1 ? "`" : "") (i % 2 ? piece[i] : short(piece[i], text ~ / types? / ? 160 : 70))
+    for (i = 1; i <= pieces; i++) out = out (i > 1 ? "`" : "") (i % 2 ? piece[i] : short(piece[i], most))
     return out
 }
 
@@ -146,7 +144,8 @@ function told(text,    units, unit, sentences, sentence, i, j, out) {
     gsub(/\. All of that holds, and/, ": all of that holds, and", text)
     units = split(text, unit, "\n")
     for (i = 1; i <= units; i++) {
-        sentences = split(plain(unit[i]), sentence, /\. /)
+        # Two types are there to be read, and of a goal it is enough to know which it is.
+        sentences = split(plain(unit[i], unit[i] ~ / types? / ? 160 : 70), sentence, /\. /)
         for (j = 1; j <= sentences; j++) {
             if (out != "" && !telling(sentence[j])) continue
             sub(/^In its own words: /, "", sentence[j])
