@@ -5,12 +5,12 @@ ghost use lib.ListN.{length};
 ghost use Rattle.calls.specs.Refusals.{lowestAbove, lowestPast, answered, admitted};
 ghost use Rattle.checks.specs.Lists.{ListFits};
 ghost use Rattle.admission.specs.Overloads.{valueAt, EveryLoad, decided};
-use flows::flows_of;
-use flows::link_of;
-use flows::number_of;
 use calls::Answer;
 use calls::Refusal;
 use checks::check_list;
+use flows::flows_of;
+use flows::link_of;
+use flows::number_of;
 
 // The load of each input, of each output and of each link, at its place from 0, and 0 at a place of no port.
 pub struct Loads {

@@ -10,8 +10,8 @@ ghost use mathlib.Core.List.{[], _∷_};
 ghost use Rattle.calls.specs.Inspect.{finding, unbalanced, unbalancedNumber, unbalancedBlock};
 ghost use Rattle.tally.specs.Tally.{RightFrame};
 ghost use Rattle.balance.specs.Balance.{far};
-use flows::flows_of;
 use calls::Inspection;
+use flows::flows_of;
 use tally::tally_run;
 
 // Two counts differ by more than 1.

@@ -1,11 +1,11 @@
 // Build: the refusals in their order, then the frame.
-use checks::bad_length;
-use checks::check_list;
 use admission::loads_of;
 use admission::overload;
 use calls::Answer;
 use calls::Built;
 use calls::Refusal;
+use checks::bad_length;
+use checks::check_list;
 ghost use mathlib.Core.Path.{_≡_};
 ghost use Rattle.rules.specs.OddShares.{settled};
 ghost use Rattle.calls.specs.Build.{outcome, built, frameAfter};

@@ -9,11 +9,11 @@ ghost use Rattle.rules.specs.Flows.{flows};
 ghost use Rattle.rules.specs.Frames.{levels};
 ghost use Rattle.calls.specs.Refusals.{portsWithin, port-outside, link-outside, answered};
 ghost use Rattle.checks.specs.Lists.{ListAnswer};
+use calls::Answer;
+use calls::Refusal;
 use flows::STRIDE;
 use flows::flows_of;
 use flows::number_of;
-use calls::Answer;
-use calls::Refusal;
 
 // Not one of 1, 2, .., most: refusals 1, 11 and 12.
 pub fn outside(most: usize, n: usize) -> bool

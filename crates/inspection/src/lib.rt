@@ -7,15 +7,15 @@ ghost use Rattle.calls.specs.Inspect.{finding, wrongCount, inspected};
 ghost use Rattle.tally.specs.Tally.{RightFrame};
 ghost use Rattle.entries.specs.Entries.{Lent};
 ghost use Rattle.inspection.specs.Faults.{faults};
-use checks::bad_length;
 use balance::unbalanced_block;
+use calls::Answer;
+use calls::Inspection;
+use calls::Refusal;
+use checks::bad_length;
 use entries::first_twice;
 use entries::first_wrong;
 use flows::flows_of;
 use flows::number_of;
-use calls::Answer;
-use calls::Inspection;
-use calls::Refusal;
 use tally::tally_run;
 
 // The first flow that is in the wrong number of slots; how many flows there are where there is none.

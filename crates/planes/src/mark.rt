@@ -1,6 +1,6 @@
 // Masks of the odd counts that favour a half.
-use bits::put_digit;
 use crate::words::words_of;
+use bits::put_digit;
 ghost use mathlib.Core.Path.{_≡_};
 ghost use Prim.Native.Nat.{_%_, _<_, _≤_};
 ghost use lib.ListN.{length};

@@ -1,8 +1,8 @@
 // The inputs and the links of the flows of a list, in two tables.
+use bits::put_digit;
 use flows::flows_of;
 use flows::link_of;
 use flows::number_of;
-use bits::put_digit;
 ghost use mathlib.Core.Path.{_≡_};
 ghost use Prim.Native.Nat.{_%_, _≤_};
 ghost use lib.Dec.{eqb};

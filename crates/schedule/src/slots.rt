@@ -1,8 +1,8 @@
 // Slots: the counts of a block of one slot, or of two, as entries.
+use bits::byte;
 use planes::halve::halve_two;
 use planes::mark::others;
 use planes::words::words_of;
-use bits::byte;
 ghost use mathlib.Core.Path.{_≡_};
 ghost use Prim.Native.Nat.{_*_, _^_, _≤_};
 ghost use lib.ListN.{length, replicate};

@@ -10,13 +10,13 @@ ghost use Rattle.rules.specs.Flows.{portOn, output};
 ghost use Rattle.rules.specs.Frames.{counts, cells, runOf, repeated};
 ghost use Rattle.calls.specs.Service.{classOf, whoWithin, lead, served, service};
 ghost use Rattle.service.specs.Whom.{Sent, whoNumber, WhoNumbered, Named, firstEntry, nextEntry, Framed, CountAsked};
-use flows::flows_of;
-use flows::number_of;
 use calls::Answer;
 use calls::Count;
 use calls::Refusal;
 use calls::Service;
 use calls::Who;
+use flows::flows_of;
+use flows::number_of;
 
 // The lesser of two numbers.
 fn lesser(a: usize, b: usize) -> usize

@@ -1,8 +1,8 @@
 // Partners: the odd counts of an input, or of a link, first with second, third with fourth, and so on; and of those that the links of an
 // output leave single, by rising link, the same.
-use bits::has_digit;
-use bits::flip_digit;
 use bits::byte;
+use bits::flip_digit;
+use bits::has_digit;
 use bits::number;
 ghost use mathlib.Core.Path.{_≡_};
 ghost use mathlib.Core.Bool.{not};
