@@ -42,10 +42,10 @@ answered (Refused r) = refusal r
 abbrev pub Check : Type 0
 Check = Bool × List ℕ
 
--- The first condition that holds is the one reported; if none holds, the answer is the one that is asked for.
+-- The first condition that holds is the one reported; if none holds, the answer is the other one.
 abbrev pub report : List Check → List ℕ → List ℕ
-report [] asked = asked
-report (c ∷ cs) asked = if (c .0) (c .1) (report cs asked)
+report [] otherwise = otherwise
+report (c ∷ cs) otherwise = if (c .0) (c .1) (report cs otherwise)
 
 -- No condition holds.
 abbrev pub none-holds : List Check → Bool

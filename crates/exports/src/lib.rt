@@ -5,7 +5,7 @@ ghost use Rattle.calls.specs.Refusals.{admitted};
 ghost use Rattle.calls.specs.Build.{built, frameAfter};
 ghost use Rattle.calls.specs.Inspect.{inspected};
 ghost use Rattle.calls.specs.Service.{viewNumber, viewStart, viewSize, service};
-ghost use Rattle.numbers.specs.Numbers.{Three, Four, Replied};
+ghost use Rattle.numbers.specs.Numbers.{Values2, Values3, Replied};
 use calls::Answer;
 use calls::Who;
 
@@ -20,7 +20,7 @@ pub extern "C" fn frame_builder_admit(
     second: &mut usize,
     third: &mut usize,
 ) -> usize
-    ensures { λ r. ⌜ Four (admitted ports slots (now (list .entry)) (now (limits .entry))) r
+    ensures { λ r. ⌜ Values3 (admitted ports slots (now (list .entry)) (now (limits .entry))) r
         (now (first .exit)) (now (second .exit)) (now (third .exit)) ⌝ }
 {
     let answer = numbers::of_answer(admission::admit(ports, slots, list, *limits));
@@ -40,7 +40,7 @@ pub extern "C" fn frame_builder_inspect(
     first: &mut usize,
     second: &mut usize,
 ) -> usize
-    ensures { λ r. ⌜ Three (inspected ports slots (now (list .entry)) (now (frame .entry))) r (now (first .exit)) (now (second .exit)) ⌝ }
+    ensures { λ r. ⌜ Values2 (inspected ports slots (now (list .entry)) (now (frame .entry))) r (now (first .exit)) (now (second .exit)) ⌝ }
 {
     let n = numbers::of_inspection(inspection::inspect(ports, slots, list, frame));
     *first = n.first;
@@ -60,7 +60,7 @@ pub extern "C" fn frame_builder_build(
     second: &mut usize,
     third: &mut usize,
 ) -> usize
-    ensures { λ r. ⌜ Four (built ports slots (now (list .entry)) (now (limits .entry)) (now (frame .entry))) r
+    ensures { λ r. ⌜ Values3 (built ports slots (now (list .entry)) (now (limits .entry)) (now (frame .entry))) r
         (now (first .exit)) (now (second .exit)) (now (third .exit)) ⌝ }
     ensures { λ _. ⌜ now (frame .exit) ≡ frameAfter ports slots (now (list .entry)) (now (limits .entry)) (now (frame .entry)) ⌝ }
 {

@@ -5,13 +5,13 @@ use mathlib.Core.List.{List}
 use lib.IntN.{ℤ}
 use lib.ListN.{getD}
 use Rattle.calls.specs.Service.{Reply}
-use Rattle.numbers.specs.Numbers.{Three, Four, Replied}
+use Rattle.numbers.specs.Numbers.{Values2, Values3, Replied}
 
-pub three-of : {a b : List ℕ} {number first second : ℕ} → Three a number first second → a ≡ b → Three b number first second
-three-of {number = n} {first = f} {second = s} t e = subst (λ (l : List ℕ). Three l n f s) e t
+pub three-of : {a b : List ℕ} {number first second : ℕ} → Values2 a number first second → a ≡ b → Values2 b number first second
+three-of {number = n} {first = f} {second = s} t e = subst (λ (l : List ℕ). Values2 l n f s) e t
 
-pub four-of : {a b : List ℕ} {number first second third : ℕ} → Four a number first second third → a ≡ b → Four b number first second third
-four-of {number = n} {first = f} {second = s} {third = t} x e = subst (λ (l : List ℕ). Four l n f s t) e x
+pub four-of : {a b : List ℕ} {number first second third : ℕ} → Values3 a number first second third → a ≡ b → Values3 b number first second third
+four-of {number = n} {first = f} {second = s} {third = t} x e = subst (λ (l : List ℕ). Values3 l n f s t) e x
 
 pub replied-of : {a b : Reply} {number cells : ℕ} {lead read : ℤ} → Replied a number cells lead → a ≡ b → read ≡ lead → Replied b number cells read
 replied-of {number = n} {cells = c} {read = z} t e r =
@@ -21,8 +21,8 @@ replied-of {number = n} {cells = c} {read = z} t e r =
 module _ {E : Type 0} (numbered : E → List ℕ) (x y : E) (e : x ≡ y) where
   pub told : {n f s t : ℕ}
       → (n ≡ getD (numbered y) 0 0) × (f ≡ getD (numbered y) 1 0) × (s ≡ getD (numbered y) 2 0) × (t ≡ getD (numbered y) 3 0)
-      → Four (numbered x) n f s t
+      → Values3 (numbered x) n f s t
   told h = rw e (record { three = record { number-is = h .0; first-is = h .1; second-is = h .2 }; third-is = h .3 })
 
-  pub passed : {n f s t : ℕ} → Four (numbered y) n f s t → Four (numbered x) n f s t
+  pub passed : {n f s t : ℕ} → Values3 (numbered y) n f s t → Values3 (numbered x) n f s t
   passed h = rw e h

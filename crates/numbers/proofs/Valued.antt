@@ -8,7 +8,7 @@ use Rattle.rules.specs.Words.{if}
 use Rattle.calls.specs.Refusals.{refusal}
 use Rattle.calls.specs.declared.Refusal.{Refusal}
 use Rattle.calls.specs.declared.Refusal.the-variants.{Ports, Slots, ListLength, FrameLength, InputLoad, OutputLoad, LineForm, LinePort, SheetLength, SlotNumber, FlowOrPort, RunLength, TooManyFlows, FlowPort, FlowLink, LinkLoad}
-use Rattle.numbers.specs.Numbers.{Four}
+use Rattle.numbers.specs.Numbers.{Values3}
 
 abbrev pub valued : ℕ → ℕ → ℕ → ℕ → List ℕ
 valued n first second third =
@@ -35,7 +35,7 @@ refusal-valued FlowPort = refl
 refusal-valued FlowLink = refl
 refusal-valued (LinkLoad output link cells) = refl
 
-pub valued-is : (r : Refusal) {number first second third : ℕ} → Four (refusal r) number first second third
+pub valued-is : (r : Refusal) {number first second third : ℕ} → Values3 (refusal r) number first second third
     → valued number first second third ≡ refusal r
 valued-is r t =
     sym (rw (sym (t .three .number-is), sym (t .three .first-is), sym (t .three .second-is), sym (t .third-is)) at (refusal-valued r))

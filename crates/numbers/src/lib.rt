@@ -4,7 +4,7 @@ ghost use Rattle.calls.specs.Refusals.{refusal, answered};
 ghost use Rattle.calls.specs.Build.{outcome};
 ghost use Rattle.calls.specs.Inspect.{finding};
 ghost use Rattle.calls.specs.Service.{served};
-ghost use Rattle.numbers.specs.Numbers.{Four, Replied};
+ghost use Rattle.numbers.specs.Numbers.{Values3, Replied};
 use calls::Answer;
 use calls::Built;
 use calls::Inspection;
@@ -27,7 +27,7 @@ pub struct CountNumbers {
 }
 
 // A number with its values.
-fn four(number: usize, first: usize, second: usize, third: usize) -> Numbers
+fn with_values(number: usize, first: usize, second: usize, third: usize) -> Numbers
     ensures { λ r. ⌜ (r .number ≡ number) × (r .first ≡ first) × (r .second ≡ second) × (r .third ≡ third) ⌝ }
 {
     Numbers {
@@ -40,62 +40,62 @@ fn four(number: usize, first: usize, second: usize, third: usize) -> Numbers
 
 // A refusal as numbers.
 pub fn of_refusal(refused: Refusal) -> Numbers
-    ensures { λ r. ⌜ Four (refusal refused) (r .number) (r .first) (r .second) (r .third) ⌝ }
+    ensures { λ r. ⌜ Values3 (refusal refused) (r .number) (r .first) (r .second) (r .third) ⌝ }
 {
     match refused {
-        Refusal::Ports => four(1, 0, 0, 0),
-        Refusal::Slots => four(2, 0, 0, 0),
-        Refusal::ListLength => four(3, 0, 0, 0),
-        Refusal::FrameLength => four(4, 0, 0, 0),
-        Refusal::InputLoad { port, cells } => four(5, port, cells, 0),
-        Refusal::OutputLoad { port, cells } => four(6, port, cells, 0),
-        Refusal::LineForm { line } => four(7, line, 0, 0),
-        Refusal::LinePort { line } => four(8, line, 0, 0),
-        Refusal::SheetLength => four(10, 0, 0, 0),
-        Refusal::SlotNumber => four(11, 0, 0, 0),
-        Refusal::FlowOrPort => four(12, 0, 0, 0),
-        Refusal::RunLength => four(13, 0, 0, 0),
-        Refusal::TooManyFlows => four(21, 0, 0, 0),
-        Refusal::FlowPort => four(22, 0, 0, 0),
-        Refusal::FlowLink => four(23, 0, 0, 0),
+        Refusal::Ports => with_values(1, 0, 0, 0),
+        Refusal::Slots => with_values(2, 0, 0, 0),
+        Refusal::ListLength => with_values(3, 0, 0, 0),
+        Refusal::FrameLength => with_values(4, 0, 0, 0),
+        Refusal::InputLoad { port, cells } => with_values(5, port, cells, 0),
+        Refusal::OutputLoad { port, cells } => with_values(6, port, cells, 0),
+        Refusal::LineForm { line } => with_values(7, line, 0, 0),
+        Refusal::LinePort { line } => with_values(8, line, 0, 0),
+        Refusal::SheetLength => with_values(10, 0, 0, 0),
+        Refusal::SlotNumber => with_values(11, 0, 0, 0),
+        Refusal::FlowOrPort => with_values(12, 0, 0, 0),
+        Refusal::RunLength => with_values(13, 0, 0, 0),
+        Refusal::TooManyFlows => with_values(21, 0, 0, 0),
+        Refusal::FlowPort => with_values(22, 0, 0, 0),
+        Refusal::FlowLink => with_values(23, 0, 0, 0),
         Refusal::LinkLoad {
             output,
             link,
             cells,
-        } => four(24, output, link, cells),
+        } => with_values(24, output, link, cells),
     }
 }
 
 // What Admit answers, as numbers.
 pub fn of_answer(answer: Answer) -> Numbers
-    ensures { λ r. ⌜ Four (answered answer) (r .number) (r .first) (r .second) (r .third) ⌝ }
+    ensures { λ r. ⌜ Values3 (answered answer) (r .number) (r .first) (r .second) (r .third) ⌝ }
 {
     match answer {
-        Answer::Accepted => four(0, 0, 0, 0),
+        Answer::Accepted => with_values(0, 0, 0, 0),
         Answer::Refused(refusal) => of_refusal(refusal),
     }
 }
 
 // What Build answers, as numbers.
 pub fn of_built(built: Built) -> Numbers
-    ensures { λ r. ⌜ Four (outcome built) (r .number) (r .first) (r .second) (r .third) ⌝ }
+    ensures { λ r. ⌜ Values3 (outcome built) (r .number) (r .first) (r .second) (r .third) ⌝ }
 {
     match built {
-        Built::Accepted { settled } => four(0, settled, 0, 0),
+        Built::Accepted { settled } => with_values(0, settled, 0, 0),
         Built::Refused(refusal) => of_refusal(refusal),
     }
 }
 
 // What Inspect answers, as numbers.
 pub fn of_inspection(inspection: Inspection) -> Numbers
-    ensures { λ r. ⌜ Four (finding inspection) (r .number) (r .first) (r .second) (r .third) ⌝ }
+    ensures { λ r. ⌜ Values3 (finding inspection) (r .number) (r .first) (r .second) (r .third) ⌝ }
 {
     match inspection {
-        Inspection::Clean => four(0, 0, 0, 0),
-        Inspection::WrongEntry { slot, input } => four(101, slot, input, 0),
-        Inspection::OutputTwice { slot, output } => four(102, slot, output, 0),
-        Inspection::FlowCount { flow } => four(103, flow, 0, 0),
-        Inspection::UnbalancedBlock { slot, size } => four(104, slot, size, 0),
+        Inspection::Clean => with_values(0, 0, 0, 0),
+        Inspection::WrongEntry { slot, input } => with_values(101, slot, input, 0),
+        Inspection::OutputTwice { slot, output } => with_values(102, slot, output, 0),
+        Inspection::FlowCount { flow } => with_values(103, flow, 0, 0),
+        Inspection::UnbalancedBlock { slot, size } => with_values(104, slot, size, 0),
         Inspection::Refused(refusal) => of_refusal(refusal),
     }
 }

@@ -19,7 +19,7 @@ use Rattle.calls.specs.Refusals.{refusal}
 use Rattle.calls.specs.declared.Refusal.{Refusal}
 use Rattle.rules.proofs.Cases.{both-true}
 use Rattle.sheets.proofs.Text.{decimal-one, decimal-go, decimal-most}
-use Rattle.numbers.specs.Numbers.{Four}
+use Rattle.numbers.specs.Numbers.{Values3}
 use Rattle.numbers.proofs.Valued.{valued-is}
 use Rattle.printing.specs.Printing.{Printed, PrintedIn, Prints, Sized, ofSize, frameBytes, wordThen, cellOf, slotLine}
 
@@ -162,7 +162,7 @@ link-printed out number o x cells mid at′ mid2 at2 mid3 at3 mid4 at4 new next 
     (prints-as out 0 all mid at′ long short e (piece (text "(refused ") number long (prints-all out 0 all) a)) b) c) d) u)
 
 -- the list of a refusal, by its number
-module _ (out : List ℕ) (r : Refusal) (n first second third : ℕ) (new : List ℕ) (next : ℕ) (t : Four (refusal r) n first second third) where
+module _ (out : List ℕ) (r : Refusal) (n first second third : ℕ) (new : List ℕ) (next : ℕ) (t : Values3 (refusal r) n first second third) where
   abbrev Is : List ℕ → Type 0
   Is l = Printed out 0 (printRefusal l) new next
 

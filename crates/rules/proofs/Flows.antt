@@ -41,6 +41,10 @@ output-is list f w = omega (arith, w .0, w .1)
 pub output-low : (ports x : ℕ) → x < ports * 4 → outputOf x < ports
 output-low ports x h = omega arith
 
+-- the total is of every switch
+pub total-on : (ports : ℕ) → OnSwitch ports total
+total-on ports = tt
+
 -- the four links of each output of the switch are links of the switch
 pub links-on : (ports o l : ℕ) → o < ports → l < 4 → OnSwitch ports (link (o * 4 + l))
 links-on ports o l h k = omega arith

@@ -5,8 +5,8 @@ mod slots;
 use checks::levels_of;
 use flows::flows_of;
 use planes::halve::halve;
-use planes::load::load;
 use planes::mark::others;
+use planes::store::store_list;
 use split::split;
 ghost use mathlib.Core.Path.{_≡_};
 ghost use Prim.Native.Nat.{suc, _*_, _^_, _≤_};
@@ -107,7 +107,7 @@ pub fn fill(ports: usize, slots: usize, list: &[u16], frame: &mut [u16]) -> usiz
     let mut planes = [0u64; 99];
     let mut ins = [0u8; 528];
     let mut outs = [0u8; 528];
-    load(list, &mut planes);
+    store_list(list, &mut planes);
     let multi_link = positions::tabulate(list, &mut ins, &mut outs);
     if m == 0 {
         slots::write(&planes, n, ports, &ins, frame);

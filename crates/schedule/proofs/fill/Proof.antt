@@ -34,8 +34,8 @@ fill-spec =
     let level = flows .before .levels-of .ensures in
     let pre = flows .before .before .before .before .pre in (
       tables-of (well-taken (pre .well)) (tabled .tabulate .ensures .0) (tabled .tabulate .ensures .1) (flows .flows-of .ensures) .at-inputs,
-      block-ends (loaded-block pre level (flows .flows-of .ensures) (load .load .ensures)),
-      omega (arith, load .load .ensures .len),
+      block-ends (loaded-block pre level (flows .flows-of .ensures) (load .store-list .ensures)),
+      omega (arith, load .store-list .ensures .len),
       one-slot _ (one .if1 .taken) (frame-size pre level),
     ))
     (λ c. search needs)
@@ -47,8 +47,8 @@ fill-spec =
     let flows = load .before .before in
     let level = flows .before .levels-of .ensures in
     let start = flows .before .before .before .before in (
-      all-settled (start .pre) level (flows .flows-of .ensures) (load .load .ensures) (none-settled _ _ (one .if1 .taken)),
-      all-filled (start .pre) level (flows .flows-of .ensures) (load .load .ensures) (tabled .tabulate .ensures .0)
+      all-settled (start .pre) level (flows .flows-of .ensures) (load .store-list .ensures) (none-settled _ _ (one .if1 .taken)),
+      all-filled (start .pre) level (flows .flows-of .ensures) (load .store-list .ensures) (tabled .tabulate .ensures .0)
           (frame-one _ _ _ _ _ _ _ (one .if1 .taken) (write .write .ensures)),
     ))
     (λ c κs.
@@ -63,7 +63,7 @@ fill-spec =
       omega arith,
       omega arith,
       tables-of (well-taken (pre .well)) (tabled .tabulate .ensures .0) (tabled .tabulate .ensures .1) (flows .flows-of .ensures),
-      loaded-block pre level (flows .flows-of .ensures) (load .load .ensures),
+      loaded-block pre level (flows .flows-of .ensures) (load .store-list .ensures),
       blank-scratch,
       frame-size pre level,
     ))
@@ -75,6 +75,6 @@ fill-spec =
     let flows = load .before .before in
     let level = flows .before .levels-of .ensures in
     let start = flows .before .before .before .before in (
-      all-settled (start .pre) level (flows .flows-of .ensures) (load .load .ensures) (block .block .ensures .0),
-      all-filled (start .pre) level (flows .flows-of .ensures) (load .load .ensures) (tabled .tabulate .ensures .0) (block .block .ensures .1),
+      all-settled (start .pre) level (flows .flows-of .ensures) (load .store-list .ensures) (block .block .ensures .0),
+      all-filled (start .pre) level (flows .flows-of .ensures) (load .store-list .ensures) (tabled .tabulate .ensures .0) (block .block .ensures .1),
     )))

@@ -2,8 +2,8 @@ use borrow.Author.Needs.{needs}
 use native.Mathlib.Omega.{arith}
 use Rattle.bits.proofs.Lowest.{rest-less}
 use Rattle.planes.proofs.Stored.{Storing, storing-start, storing-zeros, storing-low, storing-on, storing-end}
-use Rattle.planes.proofs.load.store_ones.Statement.{statement}
-use Rattle.planes.proofs.load.store_ones.Tie as tie
+use Rattle.planes.proofs.store.store_ones.Statement.{statement}
+use Rattle.planes.proofs.store.store_ones.Tie as tie
 
 abbrev Inv-loop : tie.InvT-loop
 Inv-loop x p planes₀ w i rest₀ planes rest = Storing x rest p planes₀ planes

@@ -37,7 +37,7 @@ fn store_ones(x: u64, p: usize, planes: &mut [u64; 99])
 
 // One count. Its two lowest digits are put without a test: in a small frame most counts have no others, and which of them are 1 no
 // processor foresees.
-fn store(count: u16, p: usize, planes: &mut [u64; 99])
+fn store_count(count: u16, p: usize, planes: &mut [u64; 99])
     requires { ⌜ (count < 2 ^ 11) × (p < 528) × (length (now planes) ≡ 99) ⌝ }
     ensures { λ _. ⌜ Stored count p (now (planes .entry)) (now (planes .exit)) ⌝ }
 {
@@ -47,7 +47,7 @@ fn store(count: u16, p: usize, planes: &mut [u64; 99])
 }
 
 // The cells of every flow, at the position of its place in the list.
-pub fn load(list: &[u16], planes: &mut [u64; 99])
+pub fn store_list(list: &[u16], planes: &mut [u64; 99])
     requires { ⌜ (flows (now list) ≤ 528) × Blank (now planes)
         × ((f : ℕ) → f < flows (now list) → numberOf 2 (now list) f < 2 ^ 11) ⌝ }
     ensures { λ _. ⌜ Loaded (now (list .entry)) (now (planes .exit)) ⌝ }
@@ -55,7 +55,7 @@ pub fn load(list: &[u16], planes: &mut [u64; 99])
     let count = flows_of(list);
     let mut f: usize = 0;
     while f < count {
-        store(cells_of(list, f), f, planes);
+        store_count(cells_of(list, f), f, planes);
         f += 1;
     }
 }
