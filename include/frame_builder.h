@@ -53,7 +53,7 @@
 #include <stdint.h>
 
 /* The version of the project. It stands in this line alone; whatever else says the version reads it from here. */
-#define FRAME_BUILDER_VERSION "5.0.0"
+#define FRAME_BUILDER_VERSION "5.1.0"
 
 /* Sizes. */
 #define FRAME_BUILDER_MAX_PORTS 16

@@ -48,7 +48,7 @@ pub fn bad_slots(slots: usize) -> bool
     levels_of(slots) == 11
 }
 
-// Refusal 4: a length that is not so many rows of so many columns. It is divided, for a product could be too large.
+// Refusal 4: `length` is not rows × columns. It is compared by division, since the product could overflow.
 pub fn bad_length(length: usize, rows: usize, columns: usize) -> bool
     ensures { λ r. ⌜ r ≡ not (eqb length (rows * columns)) ⌝ }
 {

@@ -52,7 +52,7 @@ pub record Marked (n : ℕ) (planes favoured mask : List ℕ) : Type 0 where
   pub has : (p : ℕ) → p < spanOf n → digitAt planes p ≡ 1 → digitAt mask p ≡ getD favoured p 0 % 2
   pub none : (p : ℕ) → p < spanOf n → digitAt planes p ≡ 0 → digitAt mask p ≡ 0
 
--- A mask has the odd counts that another has not.
+-- A mask has the odd counts that are not in another.
 pub record Others (n : ℕ) (planes old mask : List ℕ) : Type 0 where
   pub len : length mask ≡ 9
   pub has : (p : ℕ) → p < spanOf n → digitAt mask p ≡ digitAt planes p - digitAt old p

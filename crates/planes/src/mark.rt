@@ -44,7 +44,7 @@ pub fn mark(planes: &[u64; 99], n: usize, favoured: &[u8; 528], mask: &mut [u64;
     }
 }
 
-// The odd counts that a mask has not.
+// The odd counts that are not in the mask.
 pub fn others(planes: &[u64; 99], n: usize, mask: &mut [u64; 9])
     requires { ⌜ Ends n (now planes) × Mask n (now planes) (now mask) ⌝ }
     ensures { λ _. ⌜ Others n (now (planes .entry)) (now (mask .entry)) (now (mask .exit)) ⌝ }

@@ -35,8 +35,8 @@ fn store_ones(x: u64, p: usize, planes: &mut [u64; 99])
     }
 }
 
-// One count. Its two lowest digits are put without a test: in a small frame most counts have no others, and which of them are 1 no
-// processor foresees.
+// One count. Its two lowest digits are put without a test: in a small frame most counts have no others, and a branch on them would be
+// unpredictable.
 fn store_count(count: u16, p: usize, planes: &mut [u64; 99])
     requires { ⌜ (count < 2 ^ 11) × (p < 528) × (length (now planes) ≡ 99) ⌝ }
     ensures { λ _. ⌜ Stored count p (now (planes .entry)) (now (planes .exit)) ⌝ }

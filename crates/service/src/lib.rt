@@ -50,7 +50,7 @@ fn one_if(counts: bool) -> usize
     if counts { 1 } else { 0 }
 }
 
-// Where in whole slots the first entry stands that can count for whom is asked.
+// Index of the first entry that can count for `who`.
 fn first_entry(who: Who) -> usize
     requires { ⌜ 1 ≤ whoNumber who ⌝ }
     ensures { λ r. ⌜ r ≡ firstEntry (classOf who) ⌝ }

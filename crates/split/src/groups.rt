@@ -47,7 +47,7 @@ fn walk(
     }
 }
 
-// Turns the counts of a list round: each favours the half that it did not.
+// Flips the counts of a list: each then favours the half that it did not.
 fn flip_group(group: &[u16; 528], n: usize, favoured: &mut [u8; 528])
     requires { ⌜ Positions (now group) n × Wide (now favoured) ⌝ }
     ensures { λ _. ⌜ Wide (now (favoured .exit)) × (now (favoured .exit) ≡ flipped (take n (now (group .entry))) (now (favoured .entry))) ⌝ }
@@ -68,8 +68,8 @@ fn larger_half(count: usize) -> u8
     if count % 2 == 1 { 1 } else { 2 }
 }
 
-// The first count that is met of a group is its first in matrix order, for the scan goes in that order. The next larger share
-// goes to `turn`; the answer is whose turn it is then.
+// The scan goes by rising flow number, so the count of a group that it meets first is the group's first. The next larger share goes to the
+// half `next`; the answer is the half that the one after it goes to.
 fn settle_group(
     p: usize,
     next: u8,

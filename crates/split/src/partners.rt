@@ -17,15 +17,15 @@ fn port_index(x: u8) -> usize
     byte(x % 64)
 }
 
-// The one that waits at the port; where none does, a count is its own until another comes.
+// The count that waits for a partner at the port. Where none does, a count is its own partner until another comes.
 fn pending_or_own(pending: bool, latest: u16, own: u16) -> u16
     ensures { λ r. ⌜ r ≡ if pending latest own ⌝ }
 {
     if pending { latest } else { own }
 }
 
-// Links each both ways with no branch that depends on the counts; one that stays single is its own partner, and is held. The answer has
-// a digit for each port or link at which one waits.
+// Makes each the partner of the one that is pending at its port, both ways. A single one is its own partner. The answer has a digit for
+// each port or link at which one is pending.
 fn mate_all(
     odds: &[u16; 528],
     k: usize,
@@ -63,14 +63,14 @@ pub(crate) fn mate_inputs(odds: &[u16; 528], k: usize, ins: &[u8; 528], mates: &
     mate_all(odds, k, ins, mates, &mut latest);
 }
 
-// Whether one waits after one more, if that comes.
+// Whether one is pending after one more, if that comes.
 fn pending_after(pending: bool, comes: bool) -> bool
     ensures { λ r. ⌜ r ≡ if comes (not pending) pending ⌝ }
 {
     if comes { !pending } else { pending }
 }
 
-// Links two both ways, if the one comes.
+// Makes two partners of each other, if the one comes.
 fn mate_both(comes: bool, p: u16, q: u16, mates: &mut [u16; 528])
     requires { ⌜ (p < 528) × (q < 528) × MateTable (now mates) ⌝ }
     ensures { λ _. ⌜ MatedBoth comes p q (now (mates .entry)) (now (mates .exit)) ⌝ }
