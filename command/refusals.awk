@@ -165,22 +165,24 @@ function who(i,    name) {
     return "fn " name
 }
 
-# Where the proof of a function lists its facts without their names, other operations have other facts at its places.
-function unnamed(i) { return moved && file[i] ~ /\/Proof\.antt$/ && law[i] ~ /-spec$/ }
+# Why a goal that the proof of a function leaves may hold for all that.
+function doubt(i) {
+    if (file[i] !~ /\/Proof\.antt$/) return ""
+    if (moved && law[i] ~ /-spec$/) return "the edit changes the operations, so that the proof's list of facts may be unfit for them"
+    if (code_edited && words[i] ~ /^`omega`/) return "the facts that the proof hands to `omega` may be about what the edit took away"
+    return ""
+}
 
 END {
     for (i = 1; i <= count; i++) {
         if (words[i] ~ /was not admitted/) continue
         kind = kind_of(i)
-        note = ""
-        if (kind == "fact" && unnamed(i)) {
-            kind = "look"
-            note = "the edit changes the operations, so that the proof's list of facts may be unfit for them\t"
-        }
+        note = kind == "fact" ? doubt(i) : ""
+        if (note != "") kind = "look"
         if ((file[i], law[i]) in admitted) {
             kind = "form"
-            note = "it is admitted where its proof has the line `" admitted[file[i], law[i]] "`\t"
+            note = "it is admitted where its proof has the line `" admitted[file[i], law[i]] "`"
         }
-        print kind "\t" who(i) "\t" file[i] ":" line[i] "\t" note told(words[i])
+        print kind "\t" who(i) "\t" file[i] ":" line[i] "\t" note (note == "" ? "" : "\t") told(words[i])
     }
 }
