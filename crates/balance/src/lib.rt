@@ -12,6 +12,11 @@ ghost use Rattle.tally.specs.Tally.{RightFrame};
 ghost use Rattle.balance.specs.Balance.{far};
 use calls::Inspection;
 use flows::flows_of;
+use tally::INPUTS_AT;
+use tally::LINKS_AT;
+use tally::OUTPUTS_AT;
+use tally::TALLY_PLACES;
+use tally::TOTAL_AT;
 use tally::tally_run;
 
 // Two counts differ by more than 1.
@@ -29,7 +34,7 @@ fn apart(a: usize, b: usize) -> bool
 }
 
 // The first of some places where two tallies differ by more than 1; the place past them where there is none.
-fn first_far(a: &[u16; 609], b: &[u16; 609], from: usize, count: usize) -> usize
+fn first_far(a: &[u16; TALLY_PLACES], b: &[u16; TALLY_PLACES], from: usize, count: usize) -> usize
     requires { ⌜ (from + count ≤ 609) × (length (now a) ≡ 609) × (length (now b) ≡ 609) ⌝ }
     ensures { λ r. ⌜ r ≡ first (far (now (a .entry)) (now (b .entry))) from count ⌝ }
 {
@@ -56,24 +61,24 @@ fn unbalanced_at(
     requires { ⌜ RightFrame ports slots (now list) (now frame) × (start + half + half ≤ slots) ⌝ }
     ensures { λ r. ⌜ r ≡ unbalanced ports (now (list .entry)) (now (frame .entry)) start half ⌝ }
 {
-    let mut front = [0u16; 609];
-    let mut back = [0u16; 609];
+    let mut front = [0u16; TALLY_PLACES];
+    let mut back = [0u16; TALLY_PLACES];
     tally_run(ports, slots, list, frame, start, half, &mut front);
     tally_run(ports, slots, list, frame, start + half, half, &mut back);
     let count = flows_of(list);
     if first_far(&front, &back, 0, count) < count {
         return true;
     }
-    if first_far(&front, &back, 512, ports) < 512 + ports {
+    if first_far(&front, &back, INPUTS_AT, ports) < INPUTS_AT + ports {
         return true;
     }
-    if first_far(&front, &back, 528, ports) < 528 + ports {
+    if first_far(&front, &back, OUTPUTS_AT, ports) < OUTPUTS_AT + ports {
         return true;
     }
-    if first_far(&front, &back, 544, ports * 4) < 544 + ports * 4 {
+    if first_far(&front, &back, LINKS_AT, ports * 4) < LINKS_AT + ports * 4 {
         return true;
     }
-    if first_far(&front, &back, 608, 1) < 609 {
+    if first_far(&front, &back, TOTAL_AT, 1) < TALLY_PLACES {
         return true;
     }
     false

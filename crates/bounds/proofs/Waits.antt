@@ -19,17 +19,11 @@ use Rattle.wire.proofs.Demand3.{Sound, SoundFrame, good-of, chain-sound}
 use Rattle.bounds.proofs.Sharp.{run-sharp}
 use Rattle.bounds.proofs.Queues.{since, share-least, share-more, arrived-append, served}
 use Rattle.bounds.proofs.Rows.{kept}
+use Rattle.rules.proofs.Kept.{up-add}
 
 -- ---- numbers in a row
 up-same : (a b n m : ℕ) → a ≡ b → n ≡ m → upFrom a n ≡ upFrom b m
 up-same a b n m e f = ap₂ upFrom e f
-
-up-append : (a n m : ℕ) → upFrom a n ++ upFrom (a + n) m ≡ upFrom a (n + m)
-up-append a zero m = up-same (a + 0) a m (0 + m) (omega arith) (omega arith)
-up-append a (suc n) m =
-    let next : a + suc n ≡ suc a + n = omega arith in
-    let all : suc n + m ≡ suc (n + m) = omega arith in
-    rw (next, all) (ap (λ l. a ∷ l) (up-append (suc a) n m))
 
 up-drop : (d a n : ℕ) → drop d (upFrom a n) ≡ upFrom (a + min n d) (n - d)
 up-drop zero a n = up-same a (a + min n 0) n (n - 0) (omega arith) (omega arith)
@@ -68,7 +62,7 @@ module _ (arrive scheduled : ℕ → ℕ) where
   queue-is (suc t) =
       let w = waiting arrive scheduled t in
       ap₂ (λ q a. drop (scheduled t) (q ++ upFrom a (arrive t))) (queue-is t) (sym (gone-waits t))
-      ∙ ap (drop (scheduled t)) (up-append (gone t) w (arrive t))
+      ∙ ap (drop (scheduled t)) (sym (up-add (gone t) w (arrive t)))
       ∙ up-drop (scheduled t) (gone t) (w + arrive t)
 
   -- so its cells are as many as wait

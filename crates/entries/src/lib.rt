@@ -10,6 +10,8 @@ ghost use Rattle.tally.specs.Tally.{RightFrame};
 ghost use Rattle.entries.specs.Entries.{Lent, wrongIn};
 use flows::flows_of;
 use flows::number_of;
+use tally::OUTPUTS_AT;
+use tally::TALLY_PLACES;
 use tally::tally_run;
 
 // An entry of an input is neither 0 nor the number of a flow of that input.
@@ -64,11 +66,11 @@ fn lowest_twice(ports: usize, slots: usize, list: &[u16], frame: &[u16], slot: u
     requires { ⌜ RightFrame ports slots (now list) (now frame) × (slot < slots) ⌝ }
     ensures { λ r. ⌜ r ≡ first (twiceIn ports (now (list .entry)) (runOf ports slot 1 (now (frame .entry)))) 0 ports ⌝ }
 {
-    let mut tally = [0u16; 609];
+    let mut tally = [0u16; TALLY_PLACES];
     tally_run(ports, slots, list, frame, slot, 1, &mut tally);
     let mut o: usize = 0;
     while o < ports {
-        if 1 < tally[528 + o] {
+        if 1 < tally[OUTPUTS_AT + o] {
             return o;
         }
         o += 1;

@@ -16,6 +16,7 @@ use entries::first_twice;
 use entries::first_wrong;
 use flows::flows_of;
 use flows::number_of;
+use tally::TALLY_PLACES;
 use tally::tally_run;
 
 // The first flow that is in the wrong number of slots; how many flows there are where there is none.
@@ -23,7 +24,7 @@ fn first_wrong_count(ports: usize, slots: usize, list: &[u16], frame: &[u16]) ->
     requires { ⌜ RightFrame ports slots (now list) (now frame) ⌝ }
     ensures { λ r. ⌜ r ≡ first (wrongCount ports (now (list .entry)) (now (frame .entry))) 0 (flows (now (list .entry))) ⌝ }
 {
-    let mut tally = [0u16; 609];
+    let mut tally = [0u16; TALLY_PLACES];
     tally_run(ports, slots, list, frame, 0, slots, &mut tally);
     let count = flows_of(list);
     let mut f: usize = 0;

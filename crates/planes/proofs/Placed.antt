@@ -14,11 +14,10 @@ use borrow.Author.Tests.{eqb-true}
 use Rattle.rules.specs.Words.{upFrom, keep, Every}
 use Rattle.rules.proofs.Cases.{byLt}
 use Rattle.rules.proofs.Lists.{every-map}
-use Rattle.rules.proofs.Kept.{keep-every}
+use Rattle.rules.proofs.Kept.{keep-every, keep-add, keep-none, keep-most}
 use Rattle.bits.specs.Digits.{digit, places}
 use Rattle.planes.specs.Planes.{digitAt, oddAt, oddsIn, wordsOf, spanOf, Ends}
 use Rattle.planes.specs.Steps.{PlacesListed, Gathered}
-use Rattle.planes.proofs.Lists.{keep-add, keep-none, keep-most}
 use Rattle.bits.proofs.Lowest.{rest, places-none, places-kept, next-place, next-fits, next-zeros}
 use Rattle.planes.proofs.Counts.{none-odd}
 

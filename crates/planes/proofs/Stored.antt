@@ -16,7 +16,7 @@ use Rattle.rules.proofs.Flows.{counts-length, counts-at}
 use Rattle.bits.specs.Digits.{digit, PutAt}
 use Rattle.planes.specs.Planes.{digitIn, countAt, countsIn}
 use Rattle.planes.specs.Steps.{Blank, Stored, Loaded}
-use Rattle.planes.proofs.Lists.{zeros-at}
+use Rattle.rules.proofs.Lists.{zero-at}
 use Rattle.bits.proofs.Digits.{digit-most, digit-first, digit-half, digit-none, digit-past, if-same, if-other, binary-same, binary-none, binary-digits}
 use Rattle.bits.proofs.Lowest.{rest, next-zeros, next-digit, next-fits}
 use Rattle.planes.proofs.Counts.{counts-are}
@@ -201,7 +201,7 @@ pub record Loading (list : List ℕ) (n f : ℕ) (planes : List ℕ) : Type 0 wh
   pub none : (q b : ℕ) → f ≤ q → q < 576 → b < 11 → digitIn planes q b ≡ 0
 
 pub blank : Blank (replicate 99 0)
-blank = record { len = length-replicate {A = ℕ} 99 0; none = zeros-at 99 }
+blank = record { len = length-replicate {A = ℕ} 99 0; none = zero-at 99 }
 
 pub loading-start : {list planes : List ℕ} {n : ℕ} → n ≡ flows list → Blank planes → Loading list n 0 planes
 unfolding digitIn

@@ -1,4 +1,6 @@
 // Positions of the odd counts.
+use crate::PLANES_WORDS;
+use crate::POSITIONS;
 use crate::words::words_of;
 ghost use mathlib.Core.Path.{_≡_};
 ghost use Prim.Native.Nat.{_+_, _≤_};
@@ -8,7 +10,7 @@ ghost use Rattle.planes.specs.Planes.{Ends};
 ghost use Rattle.planes.specs.Steps.{PlacesListed, Gathered};
 
 // The places of the digits of a word, from place k of the list on.
-fn place(x: u64, base: usize, k: usize, list: &mut [u16; 528]) -> usize
+fn place(x: u64, base: usize, k: usize, list: &mut [u16; POSITIONS]) -> usize
     requires { ⌜ (base ≤ 512) × (k + length (places base 64 x) ≤ 528) × (length (now list) ≡ 528) ⌝ }
     ensures { λ r. ⌜ PlacesListed base x k (now (list .entry)) (now (list .exit)) r ⌝ }
 {
@@ -24,7 +26,7 @@ fn place(x: u64, base: usize, k: usize, list: &mut [u16; 528]) -> usize
 }
 
 // The answer is how many there are.
-pub fn gather(planes: &[u64; 99], n: usize, list: &mut [u16; 528]) -> usize
+pub fn gather(planes: &[u64; PLANES_WORDS], n: usize, list: &mut [u16; POSITIONS]) -> usize
     requires { ⌜ Ends n (now planes) × (length (now list) ≡ 528) ⌝ }
     ensures { λ r. ⌜ Gathered n (now (planes .entry)) (now (list .exit)) r ⌝ }
 {

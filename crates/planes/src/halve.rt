@@ -1,4 +1,6 @@
 // Half of every count.
+use crate::PLANE_WORDS;
+use crate::PLANES_WORDS;
 use crate::words::words_of;
 ghost use mathlib.Core.Path.{_≡_};
 ghost use Prim.Native.Nat.{_<_, _≤_};
@@ -7,15 +9,21 @@ ghost use Rattle.planes.specs.Planes.{BlockPlanes, Mask};
 ghost use Rattle.planes.specs.Steps.{Grown, HalfPlanes};
 
 // One word of every plane: the planes above the lowest, with one word added.
-fn ripple(planes: &[u64; 99], m: usize, w: usize, extra: u64, half: &mut [u64; 99])
+fn ripple(
+    planes: &[u64; PLANES_WORDS],
+    m: usize,
+    w: usize,
+    extra: u64,
+    half: &mut [u64; PLANES_WORDS],
+)
     requires { ⌜ (m ≤ 10) × (w < 9) × (length (now half) ≡ 99) ⌝ }
     ensures { λ _. ⌜ Grown (now (planes .entry)) w extra m (now (half .entry)) (now (half .exit)) ⌝ }
 {
     let mut carry = extra;
     let mut b: usize = 0;
     while b < m {
-        let at = b * 9 + w;
-        let x = planes[at + 9];
+        let at = b * PLANE_WORDS + w;
+        let x = planes[at + PLANE_WORDS];
         half[at] = x ^ carry;
         carry = x & carry;
         b += 1;
@@ -23,7 +31,13 @@ fn ripple(planes: &[u64; 99], m: usize, w: usize, extra: u64, half: &mut [u64; 9
 }
 
 // The mask has the odd counts that favour the half.
-pub fn halve(planes: &[u64; 99], m: usize, n: usize, mask: &[u64; 9], half: &mut [u64; 99])
+pub fn halve(
+    planes: &[u64; PLANES_WORDS],
+    m: usize,
+    n: usize,
+    mask: &[u64; PLANE_WORDS],
+    half: &mut [u64; PLANES_WORDS],
+)
     requires { ⌜ (1 ≤ m) × (m ≤ 10) × BlockPlanes m n (now planes) × Mask n (now planes) (now mask) × (length (now half) ≡ 99) ⌝ }
     ensures { λ _. ⌜ (length (now (half .exit)) ≡ 99) × HalfPlanes m n (now (planes .entry)) (now (mask .entry)) (now (half .exit)) ⌝ }
 {
@@ -36,14 +50,19 @@ pub fn halve(planes: &[u64; 99], m: usize, n: usize, mask: &[u64; 9], half: &mut
 }
 
 // A block of two slots has two planes, and its halves have one: nothing is carried.
-pub fn halve_two(planes: &[u64; 99], n: usize, mask: &[u64; 9], cells: &mut [u64; 9])
+pub fn halve_two(
+    planes: &[u64; PLANES_WORDS],
+    n: usize,
+    mask: &[u64; PLANE_WORDS],
+    cells: &mut [u64; PLANE_WORDS],
+)
     requires { ⌜ BlockPlanes 1 n (now planes) × Mask n (now planes) (now mask) × (length (now cells) ≡ 9) ⌝ }
     ensures { λ _. ⌜ (length (now (cells .exit)) ≡ 9) × HalfPlanes 1 n (now (planes .entry)) (now (mask .entry)) (now (cells .exit)) ⌝ }
 {
     let words = words_of(n);
     let mut w: usize = 0;
     while w < words {
-        cells[w] = planes[w + 9] ^ mask[w];
+        cells[w] = planes[w + PLANE_WORDS] ^ mask[w];
         w += 1;
     }
 }

@@ -4,3 +4,12 @@ pub mod halve;
 pub mod mark;
 pub mod store;
 pub mod words;
+
+// Positions of counts: 512 flows, and room for a flow more of each port.
+pub const POSITIONS: usize = 528;
+
+// Words that have a digit for each position: a plane, or a mask.
+pub const PLANE_WORDS: usize = 9;
+
+// Words of the eleven planes that counts of up to 1,024 take.
+pub const PLANES_WORDS: usize = 11 * PLANE_WORDS;

@@ -1,4 +1,7 @@
 // Masks of the odd counts that favour a half.
+use crate::PLANE_WORDS;
+use crate::PLANES_WORDS;
+use crate::POSITIONS;
 use crate::words::words_of;
 use bits::put_digit;
 ghost use mathlib.Core.Path.{_≡_};
@@ -17,7 +20,7 @@ fn first_half(favoured: u8) -> u64
 }
 
 // The word is made in a register: digits put into a mask one after the other would wait for each store.
-fn pick(x: u64, base: usize, favoured: &[u8; 528]) -> u64
+fn pick(x: u64, base: usize, favoured: &[u8; POSITIONS]) -> u64
     requires { ⌜ (base ≤ 512) × (length (now favoured) ≡ 528) × Every (λ p. p < 528) (places base 64 x) ⌝ }
     ensures { λ r. ⌜ Picked x base (now (favoured .entry)) r ⌝ }
 {
@@ -32,7 +35,12 @@ fn pick(x: u64, base: usize, favoured: &[u8; 528]) -> u64
 }
 
 // The odd counts that favour the first half.
-pub fn mark(planes: &[u64; 99], n: usize, favoured: &[u8; 528], mask: &mut [u64; 9])
+pub fn mark(
+    planes: &[u64; PLANES_WORDS],
+    n: usize,
+    favoured: &[u8; POSITIONS],
+    mask: &mut [u64; PLANE_WORDS],
+)
     requires { ⌜ Ends n (now planes) × (length (now favoured) ≡ 528) × (length (now mask) ≡ 9) ⌝ }
     ensures { λ _. ⌜ Marked n (now (planes .entry)) (now (favoured .entry)) (now (mask .exit)) ⌝ }
 {
@@ -45,7 +53,7 @@ pub fn mark(planes: &[u64; 99], n: usize, favoured: &[u8; 528], mask: &mut [u64;
 }
 
 // The odd counts that are not in the mask.
-pub fn others(planes: &[u64; 99], n: usize, mask: &mut [u64; 9])
+pub fn others(planes: &[u64; PLANES_WORDS], n: usize, mask: &mut [u64; PLANE_WORDS])
     requires { ⌜ Ends n (now planes) × Mask n (now planes) (now mask) ⌝ }
     ensures { λ _. ⌜ Others n (now (planes .entry)) (now (mask .entry)) (now (mask .exit)) ⌝ }
 {

@@ -4,8 +4,8 @@ use mathlib.Core.Path.{_≡_, refl, ap, _∙_}
 use mathlib.Core.List.{List, [], _++_}
 use native.Mathlib.Omega.{arith}
 use native.Mathlib.Nat.{mul-le-mul-right, mul-add-mod-self-right, mod-eq-of-lt}
-use lib.ListN.{length, getD, drop, length-append, length-take, length-drop, drop-of-length-le, List·getD-append}
-use lib.Seq.{getD-append-add, take-nil, take-add, drop-drop, take-all, take-append-le, drop-append-le, drop-append-add}
+use lib.ListN.{length, getD, drop, length-append, length-take, length-drop, List·getD-append}
+use lib.Seq.{getD-append-add, take-add, drop-drop, take-all, take-append-le, drop-append-le, drop-append-add}
 use Rattle.rules.specs.Words.{bit, sumTo}
 use Rattle.rules.specs.Flows.{Class}
 use Rattle.rules.specs.Frames.{counts, cells, runOf}
@@ -67,11 +67,6 @@ module _ (ports : ℕ) where
       rw (f, drop-append-add v w (start * ports))
 
   module _ (list : List ℕ) where
-    -- beyond the last slot there are no cells
-    pub cells-beyond : (c : Class) (start len : ℕ) (entries : List ℕ) → length entries ≤ start * ports → cells c ports list (runOf ports start len entries) ≡ 0
-    unfolding runOf
-    cells-beyond c start len entries h = rw (drop-of-length-le entries h, take-nil) (cells-none list c)
-
     -- the cells of a run that is two runs end to end
     pub cells-run : (c : Class) (start a b : ℕ) (entries : List ℕ) → (start + a) * ports ≤ length entries
         → cells c ports list (runOf ports start (a + b) entries) ≡ cells c ports list (runOf ports start a entries) + cells c ports list (runOf ports (start + a) b entries)

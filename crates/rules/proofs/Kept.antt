@@ -10,13 +10,24 @@ use Rattle.rules.proofs.Cases.{byBool}
 use Rattle.rules.proofs.Lists.{Rising, rising-weaken}
 use Rattle.rules.proofs.Sums.{sum-ext, sum-shift, sum-zero}
 
+-- the numbers from a on, in two parts
+pub up-add : (a n k : ℕ) → upFrom a (n + k) ≡ upFrom a n ++ upFrom (a + n) k
+up-add a zero k =
+    let e : 0 + k ≡ k = omega arith in
+    let f : a + 0 ≡ a = omega arith in
+    rw (e, f)
+up-add a (suc n) k =
+    let e : suc n + k ≡ suc (n + k) = omega arith in
+    let f : a + suc n ≡ suc a + n = omega arith in
+    rw (e, f, up-add (suc a) n k)
+
 pub keep-same : (t u : ℕ → Bool) (a n : ℕ) → ((p : ℕ) → p < a + n → t p ≡ u p) → keep t (upFrom a n) ≡ keep u (upFrom a n)
 keep-same t u a zero f = refl
 keep-same t u a (suc n) f = rw (f a (omega arith), keep-same t u (suc a) n (λ p h. f p (omega arith)))
 
-pub keep-none : (t : ℕ → Bool) (a n : ℕ) → ((p : ℕ) → p < a + n → t p ≡ false) → keep t (upFrom a n) ≡ []
-keep-none t a zero f = refl
-keep-none t a (suc n) f = rw (f a (omega arith)) (keep-none t (suc a) n (λ p h. f p (omega arith)))
+pub keep-none : (t : ℕ → Bool) (a n : ℕ) → ((p : ℕ) → a ≤ p → p < a + n → t p ≡ false) → keep t (upFrom a n) ≡ []
+keep-none t a zero h = refl
+keep-none t a (suc n) h = rw (h a (omega arith) (omega arith)) (keep-none t (suc a) n (λ p l k. h p (omega arith) (omega arith)))
 
 pub keep-keep : (t u : ℕ → Bool) (l : List ℕ) → keep u (keep t l) ≡ keep (λ p. both (t p) (u p)) l
 keep-keep t u [] = refl
@@ -29,6 +40,18 @@ keep-keep t u (x ∷ l) =
 pub keep-alike : (t u : ℕ → Bool) (l : List ℕ) → Every (λ p. t p ≡ u p) l → keep t l ≡ keep u l
 keep-alike t u [] al = refl
 keep-alike t u (x ∷ l) al = rw (al .0, keep-alike t u l (al .1))
+
+-- what is kept of two lists, and of two stretches of numbers
+keep-append : (t : ℕ → Bool) (l k : List ℕ) → keep t (l ++ k) ≡ keep t l ++ keep t k
+keep-append t [] k = refl
+keep-append t (x ∷ l) k = byBool (t x) (λ e. rw (e, keep-append t l k)) (λ e. rw (e, keep-append t l k))
+
+pub keep-add : (t : ℕ → Bool) (a n k : ℕ) → keep t (upFrom a (n + k)) ≡ keep t (upFrom a n) ++ keep t (upFrom (a + n) k)
+keep-add t a n k = ap (keep t) (up-add a n k) ∙ keep-append t (upFrom a n) (upFrom (a + n) k)
+
+pub keep-most : (t : ℕ → Bool) (a n : ℕ) → length (keep t (upFrom a n)) ≤ n
+keep-most t a zero = omega arith
+keep-most t a (suc n) = let h = keep-most t (suc a) n in byBool (t a) (λ e. rw e (omega arith)) (λ e. rw e (omega arith))
 
 -- what passes a test and what does not are all of a list
 pub keep-parts : (t : ℕ → Bool) (l : List ℕ) → length (keep t l) + length (keep (λ p. not (t p)) l) ≡ length l

@@ -1,5 +1,5 @@
 -- Levels: the k of slots that are 2 ^ k.
-use Prim.Native.Nat.{ℕ, suc, zero, _+_, _-_, _*_, _/_, _^_, _≤_, _<_}
+use Prim.Native.Nat.{ℕ, suc, _+_, _-_, _*_, _/_, _^_, _≤_, _<_}
 use mathlib.Core.Path.{_≡_, refl, sym, ap, _∙_}
 use mathlib.Core.Logic.{_≢_}
 use mathlib.Core.Bool.{Bool}
@@ -80,26 +80,3 @@ pub depth-fill : (k t : ℕ) → t ≤ k → 2 ^ t * (2 ^ k / 2 ^ t) ≡ 2 ^ k
 depth-fill k t h =
     let e : k ≡ t + (k - t) = omega arith in
     ap (λ z. 2 ^ t * z) (depth-size k t h) ∙ sym (ap (λ z. 2 ^ z) e ∙ pow-add 2 t (k - t))
-
--- ---- halves
-pub levels-one : levels 1 ≡ 0
-levels-one = levels-of 0 (omega arith)
-
--- slots that are a power of two have two halves, each a power of two with one level less
-pub record Halving (slots : ℕ) : Type 0 where
-  pub twice : slots ≡ 2 * (slots / 2)
-  pub less : slots / 2 < slots
-  pub level : levels slots ≡ suc (levels (slots / 2))
-  pub power : levels (slots / 2) < 11
-
-pub levels-half : (slots : ℕ) → levels slots < 11 → slots ≢ 1 → Halving slots
-levels-half slots h = by-level (levels slots) refl h
-  where
-    by-level : (k : ℕ) → levels slots ≡ k → k < 11 → slots ≢ 1 → Halving slots
-    by-level zero e h n = absurd (n (levels-power slots (omega arith) ∙ ap (λ (j : ℕ). 2 ^ j) e))
-    by-level (suc k) e h n =
-        let p : slots ≡ 2 ^ suc k = levels-power slots (omega arith) ∙ ap (λ (j : ℕ). 2 ^ j) e in
-        let d = two-pow-succ k in
-        let q : slots / 2 ≡ 2 ^ k = omega arith in
-        let l : levels (slots / 2) ≡ k = ap levels q ∙ levels-of k (omega arith) in
-        record { twice = omega arith; less = omega (arith, pow-pos k); level = e ∙ ap suc (sym l); power = omega arith }

@@ -15,14 +15,10 @@ use Rattle.rules.specs.Rules.{odd, oddsAt, Partners, single, singlesOf, 
 use Rattle.rules.specs.Schedule.{partnerIn, partner, outputPartner}
 use Rattle.rules.proofs.Cases.{byBool, byEq}
 use Rattle.rules.proofs.Kept.{keep-none}
-use Rattle.rules.proofs.Lists.{every-map, Apart}
+use Rattle.rules.proofs.Lists.{every-map, Apart, every-append}
 use Rattle.rules.proofs.Partners.{in-every, in-rest, in-twice, partners-every, partners-two, rule-mates, mates-rule, AtPort, odds-apart, odds-every, partner-at, partner-twice, partner-among}
 
 -- ---- two lists end to end
-pub every-append : (P : ℕ → Type 0) (l r : List ℕ) → Every P l → Every P r → Every P (l ++ r)
-every-append P [] r a b = b
-every-append P (x ∷ l) r a b = (a .0, every-append P l r (a .1) b)
-
 apart-append : (l r : List ℕ) → Apart l → Apart r → Every (λ x. Every (λ y. y ≢ x) r) l → Apart (l ++ r)
 apart-append [] r a b d = b
 apart-append (x ∷ l) r a b d = (every-append (λ y. y ≢ x) l r (a .0) (d .0), apart-append l r (a .1) b (d .1))
@@ -140,7 +136,7 @@ module _ (port : ℕ → ℕ) (m : List ℕ) where
   -- ---- where every count of an output is on its first link, no link leaves another a partner
   module _ (o : ℕ) (first-link : (p : ℕ) → p < length m → outputOf (port p) ≡ o → port p % 4 ≡ 0) where
     none-there : (x : ℕ) → outputOf x ≡ o → x % 4 ≢ 0 → oddsAt port m x ≡ []
-    none-there x at n = keep-none (λ p. both (odd m p) (eqb (port p) x)) 0 (length m) (λ p h. off p (omega arith))
+    none-there x at n = keep-none (λ p. both (odd m p) (eqb (port p) x)) 0 (length m) (λ p _ h. off p (omega arith))
       where
         off : (p : ℕ) → p < length m → both (odd m p) (eqb (port p) x) ≡ false
         off p h =

@@ -13,11 +13,10 @@ use Rattle.rules.specs.Schedule.{halfOf}
 use Rattle.rules.specs.OddShares.{oddShares, settled}
 use Rattle.rules.proofs.Cases.{byEq, is-yes, is-no}
 use Rattle.rules.proofs.Sums.{sum-ext, sum-zero}
-use Rattle.rules.proofs.Kept.{kept-length}
+use Rattle.rules.proofs.Kept.{kept-length, keep-most}
 use Rattle.rules.proofs.Splits.{split-is}
 use Rattle.calls.proofs.Work.{settled-halves, settled-room}
 use Rattle.planes.specs.Planes.{countsIn, oddAt, oddsIn}
-use Rattle.planes.proofs.Lists.{keep-most}
 use Rattle.planes.proofs.Counts.{counts-length, odds-are}
 
 -- ---- a block of one slot

@@ -4,6 +4,9 @@ mod slots;
 
 use checks::levels_of;
 use flows::flows_of;
+use planes::PLANE_WORDS;
+use planes::PLANES_WORDS;
+use planes::POSITIONS;
 use planes::halve::halve;
 use planes::mark::others;
 use planes::store::store_list;
@@ -23,17 +26,17 @@ ghost use Rattle.schedule.specs.Steps.{Fillable, Tables};
 // A block of 2^m slots, at least two: its length falls by half with each call, and two slots are written as they are split. The
 // answer is how many odd counts were settled, here and in the blocks within.
 fn block(
-    planes: &[u64; 99],
+    planes: &[u64; PLANES_WORDS],
     m: usize,
     n: usize,
     ports: usize,
-    ins: &[u8; 528],
-    outs: &[u8; 528],
+    ins: &[u8; POSITIONS],
+    outs: &[u8; POSITIONS],
     multi_link: u64,
-    odds: &mut [u16; 528],
-    in_mates: &mut [u16; 528],
-    out_mates: &mut [u16; 528],
-    group: &mut [u16; 528],
+    odds: &mut [u16; POSITIONS],
+    in_mates: &mut [u16; POSITIONS],
+    out_mates: &mut [u16; POSITIONS],
+    group: &mut [u16; POSITIONS],
     frame: &mut [u16],
 ) -> usize
     requires { ⌜ (1 ≤ m) × (m ≤ 10) × Tables ports n «multi_link» (now ins) (now outs) × BlockPlanes m n (now planes)
@@ -42,7 +45,7 @@ fn block(
         × (now (frame .exit) ≡ frameOf ports (tabled (now (ins .entry)) (now (outs .entry))) m (countsIn (suc m) (now (planes .entry)) n))
         × Scratch (now (odds .exit)) (now («in_mates» .exit)) (now («out_mates» .exit)) (now (group .exit)) ⌝ }
 {
-    let mut mask = [0u64; 9];
+    let mut mask = [0u64; PLANE_WORDS];
     let here = split(
         planes,
         n,
@@ -59,7 +62,7 @@ fn block(
         slots::write_two(planes, n, ports, &mut mask, ins, frame);
         here
     } else {
-        let mut half = [0u64; 99];
+        let mut half = [0u64; PLANES_WORDS];
         let mid = frame.len() / 2;
         halve(planes, m, n, &mask, &mut half);
         let front = block(
@@ -104,19 +107,19 @@ pub fn fill(ports: usize, slots: usize, list: &[u16], frame: &mut [u16]) -> usiz
 {
     let m = levels_of(slots);
     let n = flows_of(list);
-    let mut planes = [0u64; 99];
-    let mut ins = [0u8; 528];
-    let mut outs = [0u8; 528];
+    let mut planes = [0u64; PLANES_WORDS];
+    let mut ins = [0u8; POSITIONS];
+    let mut outs = [0u8; POSITIONS];
     store_list(list, &mut planes);
     let multi_link = positions::tabulate(list, &mut ins, &mut outs);
     if m == 0 {
         slots::write(&planes, n, ports, &ins, frame);
         return 0;
     }
-    let mut odds = [0u16; 528];
-    let mut in_mates = [0u16; 528];
-    let mut out_mates = [0u16; 528];
-    let mut group = [0u16; 528];
+    let mut odds = [0u16; POSITIONS];
+    let mut in_mates = [0u16; POSITIONS];
+    let mut out_mates = [0u16; POSITIONS];
+    let mut group = [0u16; POSITIONS];
     block(
         &planes,
         m,

@@ -3,6 +3,7 @@ use bits::put_digit;
 use flows::flows_of;
 use flows::link_of;
 use flows::number_of;
+use planes::POSITIONS;
 ghost use mathlib.Core.Path.{_≡_};
 ghost use Prim.Native.Nat.{_%_, _≤_};
 ghost use lib.Dec.{eqb};
@@ -20,7 +21,7 @@ fn beyond_first_link(link: usize) -> u64
 }
 
 // Read from the list once, for all blocks. The answer has a digit for each output that has flows on others than its first link.
-pub(crate) fn tabulate(list: &[u16], ins: &mut [u8; 528], outs: &mut [u8; 528]) -> u64
+pub(crate) fn tabulate(list: &[u16], ins: &mut [u8; POSITIONS], outs: &mut [u8; POSITIONS]) -> u64
     requires { ⌜ ListFits 16 (now list) × Wide (now ins) × Wide (now outs) ⌝ }
     ensures { λ r. ⌜ Tabled (now (list .entry)) (now (ins .exit)) (now (outs .exit)) × MultiLink (flows (now (list .entry))) r (now (outs .exit)) ⌝ }
 {

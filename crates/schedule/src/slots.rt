@@ -1,5 +1,8 @@
 // Slots: the counts of a block of one slot, or of two, as entries.
 use bits::byte;
+use planes::PLANE_WORDS;
+use planes::PLANES_WORDS;
+use planes::POSITIONS;
 use planes::halve::halve_two;
 use planes::mark::others;
 use planes::words::words_of;
@@ -24,7 +27,7 @@ fn clear(ports: usize, slot: &mut [u16])
 }
 
 // The entry at an input is the number of its flow, from 1.
-fn put_cells(x: u64, base: usize, ins: &[u8; 528], slot: &mut [u16])
+fn put_cells(x: u64, base: usize, ins: &[u8; POSITIONS], slot: &mut [u16])
     requires { ⌜ (base ≤ 512) × AtSlot (now ins) (length (now slot)) (places base 64 x) ⌝ }
     ensures { λ _. ⌜ PutBy (now (ins .entry)) (places base 64 x) (now (slot .entry)) (now (slot .exit)) ⌝ }
 {
@@ -38,7 +41,7 @@ fn put_cells(x: u64, base: usize, ins: &[u8; 528], slot: &mut [u16])
 }
 
 // In a block of one slot the odd counts are the cells.
-pub(crate) fn write(cells: &[u64], n: usize, ports: usize, ins: &[u8; 528], slot: &mut [u16])
+pub(crate) fn write(cells: &[u64], n: usize, ports: usize, ins: &[u8; POSITIONS], slot: &mut [u16])
     requires { ⌜ Table ports n (now ins) × Ends n (now cells) × (9 ≤ length (now cells)) × (length (now slot) ≡ ports) ⌝ }
     ensures { λ _. ⌜ now (slot .exit) ≡ slotOf ports (atInputs (now (ins .entry))) (countsIn 1 (now (cells .entry)) n) ⌝ }
 {
@@ -53,28 +56,28 @@ pub(crate) fn write(cells: &[u64], n: usize, ports: usize, ins: &[u8; 528], slot
 
 // One slot of a block of two; the mask has the odd counts that favour it.
 fn write_half(
-    planes: &[u64; 99],
+    planes: &[u64; PLANES_WORDS],
     n: usize,
     ports: usize,
-    mask: &[u64; 9],
-    ins: &[u8; 528],
+    mask: &[u64; PLANE_WORDS],
+    ins: &[u8; POSITIONS],
     slot: &mut [u16],
 )
     requires { ⌜ Table ports n (now ins) × BlockPlanes 1 n (now planes) × Mask n (now planes) (now mask) × (length (now slot) ≡ ports) ⌝ }
     ensures { λ _. ⌜ now (slot .exit) ≡ slotOf ports (atInputs (now (ins .entry))) (halves 1 (now (planes .entry)) (now (mask .entry)) n) ⌝ }
 {
-    let mut cells = [0u64; 9];
+    let mut cells = [0u64; PLANE_WORDS];
     halve_two(planes, n, mask, &mut cells);
     write(&cells, n, ports, ins, slot);
 }
 
 // A block of two slots; the mask has the odd counts that favour the first, and is left with the others.
 pub(crate) fn write_two(
-    planes: &[u64; 99],
+    planes: &[u64; PLANES_WORDS],
     n: usize,
     ports: usize,
-    mask: &mut [u64; 9],
-    ins: &[u8; 528],
+    mask: &mut [u64; PLANE_WORDS],
+    ins: &[u8; POSITIONS],
     frame: &mut [u16],
 )
     requires { ⌜ Table ports n (now ins) × BlockPlanes 1 n (now planes) × Mask n (now planes) (now mask) × (length (now frame) ≡ 2 ^ 1 * ports) ⌝ }

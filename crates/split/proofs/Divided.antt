@@ -11,13 +11,12 @@ use lib.Seq.{getD-take}
 use Rattle.rules.specs.Words.{bit}
 use Rattle.rules.specs.Schedule.{favours, halfBy, halfOf}
 use Rattle.rules.proofs.Cases.{byEq, is-yes, is-no}
-use Rattle.rules.proofs.Lists.{every-map}
-use Rattle.rules.proofs.Kept.{keep-every, keep-rising}
+use Rattle.rules.proofs.Lists.{every-map, zero-at}
+use Rattle.rules.proofs.Kept.{keep-every, keep-rising, keep-most}
 use Rattle.rules.proofs.Settled.{favours-law}
 use Rattle.rules.proofs.Splits.{half-at, half-length}
 use Rattle.planes.specs.Planes.{digitAt, countAt, each, countsIn, halves, oddAt, oddsIn}
 use Rattle.planes.specs.Steps.{Gathered, Marked, Others}
-use Rattle.planes.proofs.Lists.{keep-most, zeros-at}
 use Rattle.planes.proofs.Counts.{each-is, counts-length, counts-at, digit-le, odd-is, odds-are}
 use Rattle.planes.proofs.Marked.{others-mask}
 use Rattle.split.specs.Steps.{Sides, MultiLink, Odds, MateTable, Scratch, tabled, AllMated, MatedOut, SettledBy, Favours}
@@ -25,7 +24,7 @@ use Rattle.split.proofs.Favoured.{favoured-is}
 
 -- ---- lists that nothing is in yet
 blank-mates : MateTable (replicate 528 0)
-blank-mates = record { len = length-replicate {A = ℕ} 528 0; low = λ p. omega (arith, zeros-at 528 p) }
+blank-mates = record { len = length-replicate {A = ℕ} 528 0; low = λ p. omega (arith, zero-at 528 p) }
 
 pub blank-scratch : Scratch (replicate 528 0) (replicate 528 0) (replicate 528 0) (replicate 528 0)
 blank-scratch = record { listed = length-replicate {A = ℕ} 528 0; at-inputs = blank-mates; at-outputs = blank-mates; grouped = length-replicate {A = ℕ} 528 0 }

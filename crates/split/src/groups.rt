@@ -1,5 +1,6 @@
 // Groups: who is joined by partnership favours the two halves in turn. A count has 0 until it is settled.
 use bits::number;
+use planes::POSITIONS;
 ghost use mathlib.Core.Path.{_≡_};
 ghost use Prim.Native.Nat.{_<_};
 ghost use lib.ListN.{take, replicate};
@@ -16,11 +17,11 @@ fn other_half(half: u8) -> u8
 // count is its own partner, so a walk stops at a settled count and at nothing else.
 fn walk(
     start: usize,
-    near: &[u16; 528],
-    far: &[u16; 528],
+    near: &[u16; POSITIONS],
+    far: &[u16; POSITIONS],
     count: usize,
-    group: &mut [u16; 528],
-    favoured: &mut [u8; 528],
+    group: &mut [u16; POSITIONS],
+    favoured: &mut [u8; POSITIONS],
 ) -> usize
     requires { ⌜ (start < 528) × MateTable (now near) × MateTable (now far) × Listed count (now group) (now favoured) ⌝ }
     ensures { λ r. ⌜ Walks (now (near .entry)) (now (far .entry)) start count (now (group .entry)) (now (favoured .entry)) r (now (group .exit)) (now (favoured .exit)) ⌝ }
@@ -48,7 +49,7 @@ fn walk(
 }
 
 // Flips the counts of a list: each then favours the half that it did not.
-fn flip_group(group: &[u16; 528], n: usize, favoured: &mut [u8; 528])
+fn flip_group(group: &[u16; POSITIONS], n: usize, favoured: &mut [u8; POSITIONS])
     requires { ⌜ Positions (now group) n × Wide (now favoured) ⌝ }
     ensures { λ _. ⌜ Wide (now (favoured .exit)) × (now (favoured .exit) ≡ flipped (take n (now (group .entry))) (now (favoured .entry))) ⌝ }
 {
@@ -73,10 +74,10 @@ fn larger_half(count: usize) -> u8
 fn settle_group(
     p: usize,
     next: u8,
-    in_mates: &[u16; 528],
-    out_mates: &[u16; 528],
-    group: &mut [u16; 528],
-    favoured: &mut [u8; 528],
+    in_mates: &[u16; POSITIONS],
+    out_mates: &[u16; POSITIONS],
+    group: &mut [u16; POSITIONS],
+    favoured: &mut [u8; POSITIONS],
 ) -> u8
     requires { ⌜ (p < 528) × MateTable (now «in_mates») × MateTable (now «out_mates») × Wide (now group) × Wide (now favoured)
         × Next next (now favoured) ⌝ }
@@ -101,12 +102,12 @@ fn settle_group(
 
 // Only the odd counts are scanned; the first larger share goes to the first half.
 pub(crate) fn settle(
-    odds: &[u16; 528],
+    odds: &[u16; POSITIONS],
     k: usize,
-    in_mates: &[u16; 528],
-    out_mates: &[u16; 528],
-    group: &mut [u16; 528],
-    favoured: &mut [u8; 528],
+    in_mates: &[u16; POSITIONS],
+    out_mates: &[u16; POSITIONS],
+    group: &mut [u16; POSITIONS],
+    favoured: &mut [u8; POSITIONS],
 )
     requires { ⌜ Odds (now odds) k × MateTable (now «in_mates») × MateTable (now «out_mates») × Wide (now group)
         × (now favoured ≡ replicate 528 0) ⌝ }

@@ -5,6 +5,9 @@ mod partners;
 use groups::settle;
 use partners::mate_inputs;
 use partners::mate_outputs;
+use planes::PLANE_WORDS;
+use planes::PLANES_WORDS;
+use planes::POSITIONS;
 use planes::gather::gather;
 use planes::mark::mark;
 ghost use mathlib.Core.Path.{_≡_};
@@ -16,16 +19,16 @@ ghost use Rattle.split.specs.Steps.{Sides, MultiLink, Scratch, Favours};
 // how many counts were odd, and so settled; the mask has those that favour the first half. The lists are lent, for clearing them in
 // every block would take longer than filling them.
 pub fn split(
-    planes: &[u64; 99],
+    planes: &[u64; PLANES_WORDS],
     n: usize,
-    ins: &[u8; 528],
-    outs: &[u8; 528],
+    ins: &[u8; POSITIONS],
+    outs: &[u8; POSITIONS],
     multi_link: u64,
-    odds: &mut [u16; 528],
-    in_mates: &mut [u16; 528],
-    out_mates: &mut [u16; 528],
-    group: &mut [u16; 528],
-    mask: &mut [u64; 9],
+    odds: &mut [u16; POSITIONS],
+    in_mates: &mut [u16; POSITIONS],
+    out_mates: &mut [u16; POSITIONS],
+    group: &mut [u16; POSITIONS],
+    mask: &mut [u64; PLANE_WORDS],
 ) -> usize
     requires { ⌜ Ends n (now planes) × Sides n (now ins) (now outs) × MultiLink n «multi_link» (now outs)
         × (length (now mask) ≡ 9) × Scratch (now odds) (now «in_mates») (now «out_mates») (now group) ⌝ }
@@ -33,7 +36,7 @@ pub fn split(
         × Favours 1 n (now (planes .entry)) (now (ins .entry)) (now (outs .entry)) (now (mask .exit))
         × Scratch (now (odds .exit)) (now («in_mates» .exit)) (now («out_mates» .exit)) (now (group .exit)) ⌝ }
 {
-    let mut favoured = [0u8; 528];
+    let mut favoured = [0u8; POSITIONS];
     let k = gather(planes, n, odds);
     mate_inputs(odds, k, ins, in_mates);
     mate_outputs(odds, k, outs, multi_link, out_mates);

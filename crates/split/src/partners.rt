@@ -4,6 +4,7 @@ use bits::byte;
 use bits::flip_digit;
 use bits::has_digit;
 use bits::number;
+use planes::POSITIONS;
 ghost use mathlib.Core.Path.{_≡_};
 ghost use mathlib.Core.Bool.{not};
 ghost use Prim.Native.Nat.{_*_, _%_, _<_};
@@ -27,10 +28,10 @@ fn pending_or_own(pending: bool, latest: u16, own: u16) -> u16
 // Makes each the partner of the one that is pending at its port, both ways. A single one is its own partner. The answer has a digit for
 // each port or link at which one is pending.
 fn mate_all(
-    odds: &[u16; 528],
+    odds: &[u16; POSITIONS],
     k: usize,
-    table: &[u8; 528],
-    mates: &mut [u16; 528],
+    table: &[u8; POSITIONS],
+    mates: &mut [u16; POSITIONS],
     latest: &mut [u16; 64],
 ) -> u64
     requires { ⌜ Odds (now odds) k × MateTable (now mates) × Free (now latest) ⌝ }
@@ -55,7 +56,12 @@ fn mate_all(
 }
 
 // At each input.
-pub(crate) fn mate_inputs(odds: &[u16; 528], k: usize, ins: &[u8; 528], mates: &mut [u16; 528])
+pub(crate) fn mate_inputs(
+    odds: &[u16; POSITIONS],
+    k: usize,
+    ins: &[u8; POSITIONS],
+    mates: &mut [u16; POSITIONS],
+)
     requires { ⌜ Odds (now odds) k × MateTable (now mates) ⌝ }
     ensures { λ _. ⌜ AllMated (now (ins .entry)) (now (odds .entry)) k (now (mates .exit)) ⌝ }
 {
@@ -71,7 +77,7 @@ fn pending_after(pending: bool, comes: bool) -> bool
 }
 
 // Makes two partners of each other, if the one comes.
-fn mate_both(comes: bool, p: u16, q: u16, mates: &mut [u16; 528])
+fn mate_both(comes: bool, p: u16, q: u16, mates: &mut [u16; POSITIONS])
     requires { ⌜ (p < 528) × (q < 528) × MateTable (now mates) ⌝ }
     ensures { λ _. ⌜ MatedBoth comes p q (now (mates .entry)) (now (mates .exit)) ⌝ }
 {
@@ -82,7 +88,7 @@ fn mate_both(comes: bool, p: u16, q: u16, mates: &mut [u16; 528])
 }
 
 // Those that the links of an output leave single, by rising link.
-fn mate_singles(latest: &[u16; 64], pending: u64, output: usize, mates: &mut [u16; 528])
+fn mate_singles(latest: &[u16; 64], pending: u64, output: usize, mates: &mut [u16; POSITIONS])
     requires { ⌜ (output < 16) × Latest (now latest) × MateTable (now mates) ⌝ }
     ensures { λ _. ⌜ Joins (pendingFrom (now (latest .entry)) pending (output * 4) 4) (now (mates .entry)) (now (mates .exit)) ⌝ }
 {
@@ -102,11 +108,11 @@ fn mate_singles(latest: &[u16; 64], pending: u64, output: usize, mates: &mut [u1
 
 // At each link, and then at each output that has others than its first: digit o of the word is 1 for output o.
 pub(crate) fn mate_outputs(
-    odds: &[u16; 528],
+    odds: &[u16; POSITIONS],
     k: usize,
-    outs: &[u8; 528],
+    outs: &[u8; POSITIONS],
     multi_link: u64,
-    mates: &mut [u16; 528],
+    mates: &mut [u16; POSITIONS],
 )
     requires { ⌜ Odds (now odds) k × Outputs «multi_link» × MateTable (now mates) ⌝ }
     ensures { λ _. ⌜ MatedOut «multi_link» (now (outs .entry)) (now (odds .entry)) k (now (mates .exit)) ⌝ }

@@ -7,8 +7,20 @@ ghost use Rattle.rules.specs.Flows.{total};
 ghost use Rattle.rules.specs.Frames.{counts, runOf};
 ghost use Rattle.tally.specs.Tally.{RightFrame, RightAt, Room, Adds, ofEntry, ofSlot, tallyOf};
 
+// Places of a tally: 512 flows, then 16 inputs, 16 outputs, 64 links and the total.
+pub const TALLY_PLACES: usize = 609;
+
+// The place of the first input, of the first output, of the first link, and of the total.
+pub const INPUTS_AT: usize = 512;
+
+pub const OUTPUTS_AT: usize = 528;
+
+pub const LINKS_AT: usize = 544;
+
+pub const TOTAL_AT: usize = 608;
+
 // Counts one more at a place of a tally.
-fn add_one(tally: &mut [u16; 609], x: usize)
+fn add_one(tally: &mut [u16; TALLY_PLACES], x: usize)
     requires { ⌜ (x < 609) × Room 65534 (now tally) ⌝ }
     ensures { λ _. ⌜ now (tally .exit) ≡ set (now (tally .entry)) x (getD (now (tally .entry)) x 0 + 1) ⌝ }
 {
@@ -16,7 +28,13 @@ fn add_one(tally: &mut [u16; 609], x: usize)
 }
 
 // Counts an entry of an input for its flow, its input, its output and its link, if it is not 0, and answers how many cells it is.
-fn add_entry(ports: usize, list: &[u16], input: usize, entry: usize, tally: &mut [u16; 609]) -> u16
+fn add_entry(
+    ports: usize,
+    list: &[u16],
+    input: usize,
+    entry: usize,
+    tally: &mut [u16; TALLY_PLACES],
+) -> u16
     requires { ⌜ RightAt ports (now list) input entry × Room 65531 (now tally) ⌝ }
     ensures { λ r. ⌜ Adds ports (now (list .entry)) 1 (ofEntry (now (list .entry)) input entry) (now (tally .entry)) (now (tally .exit))
         × (r ≡ bit (counts total (now (list .entry)) input entry)) × (r ≤ 1) ⌝ }
@@ -27,14 +45,14 @@ fn add_entry(ports: usize, list: &[u16], input: usize, entry: usize, tally: &mut
     let f = entry - 1;
     let x = flows::link_of(list, f);
     add_one(tally, f);
-    add_one(tally, 512 + input);
-    add_one(tally, 528 + x / 4);
-    add_one(tally, 544 + x);
+    add_one(tally, INPUTS_AT + input);
+    add_one(tally, OUTPUTS_AT + x / 4);
+    add_one(tally, LINKS_AT + x);
     1
 }
 
 // Counts a slot. The total is added once, so that no entry waits for the one before it.
-fn add_slot(ports: usize, list: &[u16], slot: &[u16], tally: &mut [u16; 609])
+fn add_slot(ports: usize, list: &[u16], slot: &[u16], tally: &mut [u16; TALLY_PLACES])
     requires { ⌜ RightFrame ports 1 (now list) (now slot) × Room 65000 (now tally) ⌝ }
     ensures { λ _. ⌜ Adds ports (now (list .entry)) ports (ofSlot ports (now (list .entry)) (now (slot .entry))) (now (tally .entry)) (now (tally .exit)) ⌝ }
 {
@@ -45,7 +63,7 @@ fn add_slot(ports: usize, list: &[u16], slot: &[u16], tally: &mut [u16; 609])
         cells += add_entry(ports, list, i, entry, tally);
         i += 1;
     }
-    tally[608] = tally[608] + cells;
+    tally[TOTAL_AT] = tally[TOTAL_AT] + cells;
 }
 
 // Counts a run of slots inside the frame, from an empty tally.
@@ -56,7 +74,7 @@ pub fn tally_run(
     frame: &[u16],
     start: usize,
     len: usize,
-    tally: &mut [u16; 609],
+    tally: &mut [u16; TALLY_PLACES],
 )
     requires { ⌜ RightFrame ports slots (now list) (now frame) × (start + len ≤ slots) × (now tally ≡ replicate 609 0) ⌝ }
     ensures { λ _. ⌜ now (tally .exit) ≡ tallyOf ports (now (list .entry)) (runOf ports start len (now (frame .entry))) ⌝ }
