@@ -15,8 +15,7 @@ use Rattle.planes.specs.Planes.{digitIn, digitAt, countAt, countsIn, hal
 use Rattle.planes.specs.Steps.{Grown, HalfPlanes}
 use Rattle.planes.proofs.Lists.{at-end}
 use Rattle.bits.proofs.Digits.{digit-most, digit-sum, twice-pow, binary-suc, binary-same, scaled}
-use Rattle.planes.proofs.Counts.{each-same, digit-le, count-parts, count-odd, count-one}
-use Rattle.planes.proofs.Marked.{word-here, word-other}
+use Rattle.planes.proofs.Counts.{each-same, digit-le, count-parts, count-odd}
 
 -- ---- one word
 -- what the planes above the lowest have at a position
@@ -131,41 +130,6 @@ module _ {m n : ℕ} {planes mask : List ℕ} (b : BlockPlanes m n planes) (k : 
           let room = half-room p s in
           let sum = rw f at (r .sum p e) in
           omega (arith, sum room, count-parts m planes p, digit-le planes p)
-
--- ---- the words of a block of two slots
-upper-one : (planes : List ℕ) (p w : ℕ) → p / 64 ≡ w → upper 1 planes p ≡ digit (getD planes (w + 9) 0) (p % 64)
-unfolding binary digitIn
-upper-one planes p w e =
-    let at : 1 * 9 + p / 64 ≡ w + 9 = omega arith in
-    omega (arith, ap (λ (x : ℕ). digit (getD planes x 0) (p % 64)) at)
-
-pub two-on : {n : ℕ} {planes mask cells : List ℕ} {w words : ℕ} → Halving 9 1 n planes mask w cells → BlockPlanes 1 n planes → Mask n planes mask
-    → w < words → words ≤ 9 → Halving 9 1 n planes mask (w + 1) (set cells w (bitXor (getD planes (w + 9) 0) (getD mask w 0)))
-two-on {n} {planes} {mask} {cells} {w} {words} g b k h few =
-    record {
-      len = length-set cells w v ∙ g .len;
-      done = λ p l s.
-          byEq (p / 64) w
-          (λ e. here p e s)
-          (λ z. count-one (set cells w v) p ∙ word-other cells w v (g .len) (omega arith) p z ∙ sym (count-one cells p) ∙ g .done p (omega arith) s);
-    }
-  where
-    v : ℕ
-    v = bitXor (getD planes (w + 9) 0) (getD mask w 0)
-
-    here : (p : ℕ) → p / 64 ≡ w → p < spanOf n → countAt 1 (set cells w v) p ≡ countAt 2 planes p / 2 + digitAt mask p
-    here p e s =
-        let room = half-room b k (omega arith) p s in
-        let mask-is : digitAt mask p ≡ digit (getD mask w 0) (p % 64) = ap (λ (x : ℕ). digit (getD mask x 0) (p % 64)) e in
-        omega (
-          arith,
-          count-one (set cells w v) p,
-          word-here cells w v (g .len) (omega arith) p e,
-          upper-one planes p w e,
-          digit-sum (getD planes (w + 9) 0) (getD mask w 0) (p % 64),
-          count-parts 1 planes p,
-          digit-le planes p,
-        )
 
 -- ---- the half
 pub halved-counts : {m n : ℕ} {planes mask half : List ℕ} → HalfPlanes m n planes mask half → countsIn m half n ≡ halves m planes mask n

@@ -48,21 +48,3 @@ pub fn halve(
         w += 1;
     }
 }
-
-// A block of two slots has two planes, and its halves have one: nothing is carried.
-pub fn halve_two(
-    planes: &[u64; PLANES_WORDS],
-    n: usize,
-    mask: &[u64; PLANE_WORDS],
-    cells: &mut [u64; PLANE_WORDS],
-)
-    requires { ⌜ BlockPlanes 1 n (now planes) × Mask n (now planes) (now mask) × (length (now cells) ≡ 9) ⌝ }
-    ensures { λ _. ⌜ (length (now (cells .exit)) ≡ 9) × HalfPlanes 1 n (now (planes .entry)) (now (mask .entry)) (now (cells .exit)) ⌝ }
-{
-    let words = words_of(n);
-    let mut w: usize = 0;
-    while w < words {
-        cells[w] = planes[w + PLANE_WORDS] ^ mask[w];
-        w += 1;
-    }
-}

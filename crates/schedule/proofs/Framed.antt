@@ -1,6 +1,6 @@
 -- The entries of a block, from those of its halves.
 use Prim.Native.Nat.{ℕ, suc, _-_, _*_, _/_, _^_, _≤_, _<_}
-use mathlib.Core.Path.{_≡_, refl, sym, ap, ap₂, _∙_, subst}
+use mathlib.Core.Path.{_≡_, refl, sym, ap, ap₂, _∙_}
 use mathlib.Core.Logic.{_≢_}
 use mathlib.Core.List.{List, _++_, append-nil}
 use native.Mathlib.Omega.{arith}
@@ -13,16 +13,14 @@ use lib.Seq.{take-at, length-take-le, length-front}
 use Rattle.rules.specs.Flows.{End}
 use Rattle.rules.specs.Schedule.{halfOf, slotOf, frameOf}
 use Rattle.rules.proofs.Levels.{pow-less}
-use Rattle.rules.proofs.Slots.{slot-length}
 use Rattle.rules.proofs.OneFrame.{frame-length}
 use Rattle.rules.proofs.SamePorts.{slot-same}
-use Rattle.planes.specs.Planes.{countsIn, halves, Ends, BlockPlanes, Mask}
-use Rattle.planes.specs.Steps.{HalfPlanes, Others}
-use Rattle.planes.proofs.Counts.{block-ends}
-use Rattle.planes.proofs.Halved.{halved-counts, halved-block}
+use Rattle.planes.specs.Planes.{countsIn}
+use Rattle.planes.specs.Steps.{HalfPlanes}
+use Rattle.planes.proofs.Halved.{halved-counts}
 use Rattle.split.specs.Steps.{tabled, Favours}
-use Rattle.split.proofs.Divided.{half-is, favours-second}
-use Rattle.schedule.specs.Steps.{atInputs, TwoSlots}
+use Rattle.split.proofs.Divided.{half-is}
+use Rattle.schedule.specs.Steps.{atInputs}
 
 -- ---- a block of one slot
 pub one-slot : (ports : ℕ) {m l : ℕ} → m ≡ 0 → l ≡ 2 ^ m * ports → l ≡ ports
@@ -48,20 +46,6 @@ pub half-counts : {h m n : ℕ} {planes ins outs mask half : List ℕ} → Favou
 half-counts {m = m} {n} {half = half} v one w some =
     let up : suc (m - 1) ≡ m = omega arith in
     ap (λ (k : ℕ). countsIn k half n) up ∙ halved-counts w ∙ half-is v one m
-
--- the cells of one slot of a block of two
-pub two-ends : {n : ℕ} {planes mask cells : List ℕ} → HalfPlanes 1 n planes mask cells → BlockPlanes 1 n planes → Mask n planes mask → Ends n cells
-two-ends w b k = block-ends (halved-block w b k (omega arith))
-
-pub two-slot : (ports : ℕ) (port : End → ℕ → ℕ) {n : ℕ} {planes mask cells s : List ℕ} → HalfPlanes 1 n planes mask cells → s ≡ slotOf ports port (countsIn 1 cells n) → s ≡ slotOf ports port (halves 1 planes mask n)
-two-slot ports port w e = e ∙ ap (slotOf ports port) (halved-counts w)
-
--- what is asked of a block, and what it gives, where it has two slots
-pub block-two : {m n : ℕ} {planes : List ℕ} → m ≡ 1 → BlockPlanes m n planes → BlockPlanes 1 n planes
-block-two {n = n} {planes} e b = subst (λ (k : ℕ). BlockPlanes k n planes) e b
-
-pub length-two : (ports : ℕ) {m l : ℕ} → m ≡ 1 → l ≡ 2 ^ m * ports → l ≡ 2 ^ 1 * ports
-length-two ports e f = f ∙ ap (λ (k : ℕ). 2 ^ k * ports) e
 
 frame-more : (ports : ℕ) (port : End → ℕ → ℕ) (k : ℕ) (m : List ℕ)
     → frameOf ports port k (halfOf port 1 m) ++ frameOf ports port k (halfOf port 2 m) ≡ frameOf ports port (suc k) m
@@ -138,32 +122,3 @@ module _ (ports m : ℕ) (f : List ℕ) (some : m ≢ 0) (l : length f ≡ 2 ^ m
     pub written-size : (c a b e g : List ℕ) → a ≡ halfOf port 1 c → b ≡ halfOf port 2 c → e ≡ frameOf ports port (m - 1) a → g ≡ frameOf ports port (m - 1) b
         → length (putMid (length f / 2) (length (e ++ drop (length f / 2) f) - length f / 2) (e ++ drop (length f / 2) f) g) ≡ length f
     written-size c a b e g ha hb ee eg = ap length (written c a b e g ha hb ee eg) ∙ frame-length ports port m c ∙ sym l
-
--- ---- two slots, each written by the cells of its half
-module _ {ports : ℕ} (f : List ℕ) (l : length f ≡ 2 ^ 1 * ports) where
-  pub front-two : length (take (length f / 2) f) ≡ ports
-  front-two = front-is ports 1 f (omega arith) l ∙ omega arith
-
-  pub back-two : (e : List ℕ) → length e ≡ length (take (length f / 2) f)
-      → length (take (length (e ++ drop (length f / 2) f) - length f / 2) (drop (length f / 2) (e ++ drop (length f / 2) f))) ≡ ports
-  back-two e h = back-is ports 1 f (omega arith) l e h ∙ omega arith
-
-  pub written-two : {n : ℕ} {planes ins mask other : List ℕ} (e g : List ℕ) → Others n planes mask other
-      → e ≡ slotOf ports (atInputs ins) (halves 1 planes mask n) → g ≡ slotOf ports (atInputs ins) (halves 1 planes other n)
-      → TwoSlots ports n planes ins mask other (putMid (length f / 2) (length (e ++ drop (length f / 2) f) - length f / 2) (e ++ drop (length f / 2) f) g)
-  written-two {n} {planes} {ins} {mask} e g w ee eg =
-      let size : length e ≡ length (take (length f / 2) f) = ap length ee ∙ slot-length ports (atInputs ins) (halves 1 planes mask n) ∙ sym front-two in
-      record { others = w; same = both-put f e (length f / 2) (omega arith) size g ∙ ap₂ _++_ ee eg }
-
--- they are the block of the rules
-pub frame-two : {ports m n : ℕ} {planes ins outs mask other f : List ℕ} → m ≡ 1 → Favours 1 n planes ins outs mask → TwoSlots ports n planes ins mask other f
-    → f ≡ frameOf ports (tabled ins outs) m (countsIn (suc m) planes n)
-unfolding frameOf
-frame-two {ports} {m} {n} {planes} {ins} {outs} {mask} {other} {f} e v t =
-    t .same
-    ∙ ap₂ _++_ (slot v (omega arith)) (slot (favours-second v (t .others)) (omega arith))
-    ∙ ap (λ (k : ℕ). frameOf ports (tabled ins outs) k (countsIn (suc k) planes n)) (sym e)
-  where
-    slot : {h : ℕ} {mask : List ℕ} → Favours h n planes ins outs mask → h ≢ 0
-        → slotOf ports (atInputs ins) (halves 1 planes mask n) ≡ slotOf ports (tabled ins outs) (halfOf (tabled ins outs) h (countsIn 2 planes n))
-    slot {h} v some = ap (slotOf ports (atInputs ins)) (half-is v some 1) ∙ slot-tabled ports ins outs (halfOf (tabled ins outs) h (countsIn 2 planes n))

@@ -56,11 +56,3 @@ summed port m n planes a b h f g some eh ha hb ef eg =
     let back : g ≡ settled (m - 1) (halfOf port 2 c) = eg ∙ ap (settled (m - 1)) hb in
     let whole = settled-halves port (m - 1) c (halfOf port 1 c) (halfOf port 2 c) (split-is port c) in
     omega (arith, here, front, back, whole, ap (λ (j : ℕ). settled j c) up)
-
--- a block of two slots has none within
-pub settled-two : (m n : ℕ) (planes : List ℕ) (h : ℕ) → m ≡ 1 → h ≡ length (oddsIn n planes) → h ≡ settled m (countsIn (suc m) planes n)
-settled-two m n planes h e eh =
-    let c : List ℕ = countsIn (suc m) planes n in
-    let a : List ℕ = halfOf (λ s p. 0) 1 c in
-    let b : List ℕ = halfOf (λ s p. 0) 2 c in
-    omega (arith, summed (λ s p. 0) m n planes a b h 0 0 (omega arith) eh refl refl (none-settled (m - 1) a (omega arith)) (none-settled (m - 1) b (omega arith)))

@@ -1,14 +1,12 @@
 -- The steps of a frame, as functions of the lists that they are lent.
 use Prim.Native.Nat.{ℕ, _*_, _≤_, _<_}
 use mathlib.Core.Path.{_≡_}
-use mathlib.Core.List.{List, _++_}
+use mathlib.Core.List.{List}
 use lib.ListN.{length}
 use Rattle.rules.specs.Words.{Every}
 use Rattle.rules.specs.Flows.{End, flows, portOf, countsOf, Fits}
-use Rattle.rules.specs.Schedule.{put, slotOf}
+use Rattle.rules.specs.Schedule.{put}
 use Rattle.calls.specs.Demand2.{WellFormed}
-use Rattle.planes.specs.Planes.{halves}
-use Rattle.planes.specs.Steps.{Others}
 use Rattle.split.specs.Steps.{lookup, tabled, MultiLink}
 
 -- ---- what is built
@@ -46,8 +44,3 @@ pub record AtSlot (ins : List ℕ) (ports : ℕ) (list : List ℕ) : Type 0 wher
 pub record PutBy (ins list s t : List ℕ) : Type 0 where
   pub len : length t ≡ length s
   pub same : t ≡ put (atInputs ins) list s
-
--- A block of two slots, of the halves that a mask and then the mask of the other odd counts give.
-pub record TwoSlots (ports n : ℕ) (planes ins mask other entries : List ℕ) : Type 0 where
-  pub others : Others n planes mask other
-  pub same : entries ≡ slotOf ports (atInputs ins) (halves 1 planes mask n) ++ slotOf ports (atInputs ins) (halves 1 planes other n)

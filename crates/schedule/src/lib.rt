@@ -23,8 +23,8 @@ ghost use Rattle.planes.specs.Planes.{countsIn, BlockPlanes};
 ghost use Rattle.split.specs.Steps.{tabled, Scratch};
 ghost use Rattle.schedule.specs.Steps.{Fillable, Tables};
 
-// A block of 2^m slots, at least two: its length falls by half with each call, and two slots are written as they are split. The
-// answer is how many odd counts were settled, here and in the blocks within.
+// A block of 2^m slots: its length falls by half with each call, down to a single slot, which is written. The answer is how many odd
+// counts were settled, here and in the blocks within.
 fn block(
     planes: &[u64; PLANES_WORDS],
     m: usize,
@@ -39,12 +39,16 @@ fn block(
     group: &mut [u16; POSITIONS],
     frame: &mut [u16],
 ) -> usize
-    requires { ⌜ (1 ≤ m) × (m ≤ 10) × Tables ports n «multi_link» (now ins) (now outs) × BlockPlanes m n (now planes)
+    requires { ⌜ (m ≤ 10) × Tables ports n «multi_link» (now ins) (now outs) × BlockPlanes m n (now planes)
         × Scratch (now odds) (now «in_mates») (now «out_mates») (now group) × (length (now frame) ≡ 2 ^ m * ports) ⌝ }
     ensures { λ r. ⌜ (r ≡ settled m (countsIn (suc m) (now (planes .entry)) n))
         × (now (frame .exit) ≡ frameOf ports (tabled (now (ins .entry)) (now (outs .entry))) m (countsIn (suc m) (now (planes .entry)) n))
         × Scratch (now (odds .exit)) (now («in_mates» .exit)) (now («out_mates» .exit)) (now (group .exit)) ⌝ }
 {
+    if m == 0 {
+        slots::write(planes, n, ports, ins, frame);
+        return 0;
+    }
     let mut mask = [0u64; PLANE_WORDS];
     let here = split(
         planes,
@@ -58,45 +62,40 @@ fn block(
         group,
         &mut mask,
     );
-    if m == 1 {
-        slots::write_two(planes, n, ports, &mut mask, ins, frame);
-        here
-    } else {
-        let mut half = [0u64; PLANES_WORDS];
-        let mid = frame.len() / 2;
-        halve(planes, m, n, &mask, &mut half);
-        let front = block(
-            &half,
-            m - 1,
-            n,
-            ports,
-            ins,
-            outs,
-            multi_link,
-            odds,
-            in_mates,
-            out_mates,
-            group,
-            &mut frame[..mid],
-        );
-        others(planes, n, &mut mask);
-        halve(planes, m, n, &mask, &mut half);
-        let back = block(
-            &half,
-            m - 1,
-            n,
-            ports,
-            ins,
-            outs,
-            multi_link,
-            odds,
-            in_mates,
-            out_mates,
-            group,
-            &mut frame[mid..],
-        );
-        here + front + back
-    }
+    let mut half = [0u64; PLANES_WORDS];
+    let mid = frame.len() / 2;
+    halve(planes, m, n, &mask, &mut half);
+    let front = block(
+        &half,
+        m - 1,
+        n,
+        ports,
+        ins,
+        outs,
+        multi_link,
+        odds,
+        in_mates,
+        out_mates,
+        group,
+        &mut frame[..mid],
+    );
+    others(planes, n, &mut mask);
+    halve(planes, m, n, &mask, &mut half);
+    let back = block(
+        &half,
+        m - 1,
+        n,
+        ports,
+        ins,
+        outs,
+        multi_link,
+        odds,
+        in_mates,
+        out_mates,
+        group,
+        &mut frame[mid..],
+    );
+    here + front + back
 }
 
 // A load that fits has room in the planes: no count is above slots.
@@ -112,10 +111,6 @@ pub fn fill(ports: usize, slots: usize, list: &[u16], frame: &mut [u16]) -> usiz
     let mut outs = [0u8; POSITIONS];
     store_list(list, &mut planes);
     let multi_link = positions::tabulate(list, &mut ins, &mut outs);
-    if m == 0 {
-        slots::write(&planes, n, ports, &ins, frame);
-        return 0;
-    }
     let mut odds = [0u16; POSITIONS];
     let mut in_mates = [0u16; POSITIONS];
     let mut out_mates = [0u16; POSITIONS];

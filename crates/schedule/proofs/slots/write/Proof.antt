@@ -6,10 +6,10 @@ use Rattle.schedule.proofs.slots.write.Statement.{statement}
 use Rattle.schedule.proofs.slots.write.Tie as tie
 
 abbrev Inv-loop : tie.InvT-loop
-Inv-loop cells n ports ins slot₀ words w₀ slot w = (w ≤ words) × Writing ins cells ports w slot
+Inv-loop planes n ports ins slot₀ words w₀ slot w = (w ≤ words) × Writing ins planes ports w slot
 
 abbrev μ-loop : tie.MeasureT-loop
-μ-loop cells n ports ins slot₀ words w₀ slot w = words - w
+μ-loop planes n ports ins slot₀ words w₀ slot w = words - w
 
 pub write-spec : {M : Type 1} → statement M
 write-spec =
