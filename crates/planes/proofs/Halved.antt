@@ -27,10 +27,12 @@ pub record Rippling (planes : List ℕ) (w extra b : ℕ) (old half : List ℕ) 
   pub len : length half ≡ 99
   pub sum : (p : ℕ) → p / 64 ≡ w → binary b (digitIn half p) + 2 ^ b * digit carry (p % 64) ≡ upper b planes p + digit extra (p % 64)
   pub rest : (p a : ℕ) → p < 576 → p / 64 ≢ w → digitIn half p a ≡ digitIn old p a
+  pub others : (j : ℕ) → j % 9 ≢ w → getD half j 0 ≡ getD old j 0
+  pub upward : (j : ℕ) → b * 9 ≤ j → getD half j 0 ≡ getD old j 0
 
 pub rippling-start : {planes half : List ℕ} {w extra : ℕ} → length half ≡ 99 → Rippling planes w extra 0 half half extra
 unfolding binary
-rippling-start l = record { len = l; sum = λ p e. omega arith; rest = λ p a h n. refl }
+rippling-start l = record { len = l; sum = λ p e. omega arith; rest = λ p a h n. refl; others = λ j n. refl; upward = λ j h. refl }
 
 module _ (planes half : List ℕ) (w carry b : ℕ) (l : length half ≡ 99) (fits : b * 9 + w < 99) (w-lt : w < 9) where
   abbrev word : ℕ
@@ -75,6 +77,8 @@ rippling-on {planes} {old} {half} {w} {extra} {b} {m} {carry} r h k w-lt =
             scaled (2 ^ b) (digit (bitXor x carry) (p % 64)) (digit (bitAnd x carry) (p % 64)) (digit x (p % 64)) (digit carry (p % 64)) (digit-sum x carry (p % 64)),
           );
       rest = λ p a q n. other planes half w carry b l fits w-lt p a (omega arith) ∙ r .rest p a q n;
+      others = λ j n. getD-set-other half (b * 9 + w) j (bitXor x carry) 0 (λ e. n (ap (λ (z : ℕ). z % 9) e ∙ omega arith)) ∙ r .others j n;
+      upward = λ j q. getD-set-other half (b * 9 + w) j (bitXor x carry) 0 (λ e. absurd (omega arith)) ∙ r .upward j (omega arith);
     })
 
 -- what fits carries nothing out
@@ -92,15 +96,19 @@ rippling-end {planes} {old} {half} {w} {extra} {b} {m} {carry} g a z =
       len = r .len;
       sum = λ p e h. no-carry (binary m (digitIn half p)) (upper m planes p + digit extra (p % 64)) m (digit carry (p % 64)) (r .sum p e) h (digit-most carry (p % 64));
       rest = λ p h n. binary-same m (digitIn half p) (digitIn old p) (λ b l. r .rest p b h n);
+      others = r .others;
+      upward = r .upward;
     }
 
 -- ---- all words
-pub record Halving (size m n : ℕ) (planes mask : List ℕ) (w : ℕ) (half : List ℕ) : Type 0 where
-  pub len : length half ≡ size
+pub record Halving (m n : ℕ) (planes mask old : List ℕ) (w : ℕ) (half : List ℕ) : Type 0 where
+  pub len : length half ≡ 99
   pub done : (p : ℕ) → p < w * 64 → p < spanOf n → countAt m half p ≡ countAt (suc m) planes p / 2 + digitAt mask p
+  pub past : (j : ℕ) → w ≤ j % 9 → getD half j 0 ≡ getD old j 0
+  pub above : (j : ℕ) → m * 9 ≤ j → getD half j 0 ≡ getD old j 0
 
-pub halving-start : {size m n : ℕ} {planes mask half : List ℕ} → length half ≡ size → Halving size m n planes mask 0 half
-halving-start l = record { len = l; done = λ p h. absurd (omega arith) }
+pub halving-start : {m n : ℕ} {planes mask half : List ℕ} → length half ≡ 99 → Halving m n planes mask half 0 half
+halving-start l = record { len = l; done = λ p h. absurd (omega arith); past = λ j h. refl; above = λ j h. refl }
 
 module _ {m n : ℕ} {planes mask : List ℕ} (b : BlockPlanes m n planes) (k : Mask n planes mask) (some : 1 ≤ m) where
   -- a half has room in one plane less
@@ -113,15 +121,17 @@ module _ {m n : ℕ} {planes mask : List ℕ} (b : BlockPlanes m n planes) (k : 
       (λ l. omega (arith, b .most p l, digit-le planes p))
       (λ l. omega (arith, b .past p l h, digit-le planes p))
 
-  pub halving-on : {w words : ℕ} {half next : List ℕ} → Halving 99 m n planes mask w half → w < words → words ≡ wordsOf n → words ≤ 9
-      → Grown planes w (getD mask w 0) m half next → Halving 99 m n planes mask (w + 1) next
-  halving-on {w} {words} {half} {next} g h v few r =
+  pub halving-on : {w words : ℕ} {old half next : List ℕ} → Halving m n planes mask old w half → w < words → words ≡ wordsOf n → words ≤ 9
+      → Grown planes w (getD mask w 0) m half next → Halving m n planes mask old (w + 1) next
+  halving-on {w} {words} {old} {half} {next} g h v few r =
       record {
         len = r .len;
         done = λ p l s.
             byEq (p / 64) w
             (λ e. here p e s)
             (λ z. r .rest p (omega arith) z ∙ g .done p (omega arith) s);
+        past = λ j q. r .others j (omega arith) ∙ g .past j (omega arith);
+        above = λ j q. r .upward j q ∙ g .above j q;
       }
     where
       here : (p : ℕ) → p / 64 ≡ w → p < spanOf n → countAt m next p ≡ countAt (suc m) planes p / 2 + digitAt mask p
@@ -132,13 +142,13 @@ module _ {m n : ℕ} {planes mask : List ℕ} (b : BlockPlanes m n planes) (k : 
           omega (arith, sum room, count-parts m planes p, digit-le planes p)
 
 -- ---- the half
-pub halved-counts : {m n : ℕ} {planes mask half : List ℕ} → HalfPlanes m n planes mask half → countsIn m half n ≡ halves m planes mask n
+pub halved-counts : {m n : ℕ} {planes mask old half : List ℕ} → HalfPlanes m n planes mask old half → countsIn m half n ≡ halves m planes mask n
 unfolding countsIn halves
-halved-counts {m} {n} {planes} {mask} {half} w = each-same (countAt m half) (λ p. countAt (suc m) planes p / 2 + digitAt mask p) 0 n (λ p h. w .each p (omega arith))
+halved-counts {m} {n} {planes} {mask} {half = half} w = each-same (countAt m half) (λ p. countAt (suc m) planes p / 2 + digitAt mask p) 0 n (λ p h. w .each p (omega arith))
 
 -- its counts are those of a block of half as many slots
-pub halved-block : {m n : ℕ} {planes mask half : List ℕ} → HalfPlanes m n planes mask half → BlockPlanes m n planes → Mask n planes mask → 1 ≤ m → BlockPlanes (m - 1) n half
-halved-block {m} {n} {planes} {mask} {half} w b k some =
+pub halved-block : {m n : ℕ} {planes mask old half : List ℕ} → HalfPlanes m n planes mask old half → BlockPlanes m n planes → Mask n planes mask → 1 ≤ m → BlockPlanes (m - 1) n half
+halved-block {m} {n} {planes} {mask} {half = half} w b k some =
     let up : suc (m - 1) ≡ m = omega arith in
     let twice : 2 ^ m ≡ 2 * 2 ^ (m - 1) = ap (λ (x : ℕ). 2 ^ x) (sym up) ∙ pow-suc 2 (m - 1) ∙ mul-comm (2 ^ (m - 1)) 2 in
     record {
@@ -147,6 +157,6 @@ halved-block {m} {n} {planes} {mask} {half} w b k some =
       past = λ p a h. rw up (omega (arith, b .past p a h, w .each p h, k .only p h, count-odd m planes p));
     }
 
-pub halving-end : {size m n : ℕ} {planes mask half : List ℕ} {w words : ℕ} → Halving size m n planes mask w half → words ≡ wordsOf n → w ≤ words → words ≤ w
-    → HalfPlanes m n planes mask half
-halving-end g v a b = record { each = λ p h. g .done p (omega arith) h }
+pub halving-end : {m n : ℕ} {planes mask old half : List ℕ} {w words : ℕ} → Halving m n planes mask old w half → words ≡ wordsOf n → w ≤ words → words ≤ w
+    → HalfPlanes m n planes mask old half
+halving-end g v a b = record { each = λ p h. g .done p (omega arith) h; past = λ j h. g .past j (omega arith); above = g .above }

@@ -1,4 +1,4 @@
--- One more digit picked, one more word marked, and one more turned to the others.
+-- One more digit picked, one more word marked, and one more made that of the others.
 use Prim.Native.Nat.{ℕ, _+_, _-_, _*_, _/_, _%_, _^_, _≤_, _<_}
 use mathlib.Core.Path.{_≡_, refl, ap, _∙_}
 use mathlib.Core.Logic.{_≢_}
@@ -79,13 +79,14 @@ module _ (mask : List ℕ) (w v : ℕ) (l : length mask ≡ 9) (h : w < 9) where
   pub word-other : (p : ℕ) → p / 64 ≢ w → digitAt (set mask w v) p ≡ digitAt mask p
   word-other p n = ap (λ (z : ℕ). digit z (p % 64)) (getD-set-other mask w (p / 64) v 0 n)
 
-pub record Marking (planes favoured : List ℕ) (w : ℕ) (mask : List ℕ) : Type 0 where
+pub record Marking (planes favoured old : List ℕ) (w : ℕ) (mask : List ℕ) : Type 0 where
   pub len : length mask ≡ 9
   pub has : (p : ℕ) → p < w * 64 → digitAt planes p ≡ 1 → digitAt mask p ≡ getD favoured p 0 % 2
   pub none : (p : ℕ) → p < w * 64 → digitAt planes p ≡ 0 → digitAt mask p ≡ 0
+  pub kept : (v : ℕ) → w ≤ v → getD mask v 0 ≡ getD old v 0
 
-pub marking-start : {planes favoured mask : List ℕ} → length mask ≡ 9 → Marking planes favoured 0 mask
-marking-start l = record { len = l; has = λ p h. absurd (omega arith); none = λ p h. absurd (omega arith) }
+pub marking-start : {planes favoured mask : List ℕ} → length mask ≡ 9 → Marking planes favoured mask 0 mask
+marking-start l = record { len = l; has = λ p h. absurd (omega arith); none = λ p h. absurd (omega arith); kept = λ v h. refl }
 
 -- the positions that are looked up are below 528
 pub marking-below : {n : ℕ} {planes : List ℕ} {w words : ℕ} → Ends n planes → words ≡ wordsOf n → w < words → Every (λ p. p < 528) (places (w * 64) 64 (getD planes w 0))
@@ -93,9 +94,9 @@ marking-below {n} {planes} {w} e v h =
     let few = e .few in
     every-map (λ p. p < n) (λ p. p < 528) (λ p l. omega arith) (places (w * 64) 64 (getD planes w 0)) (word-below e w (omega arith))
 
-pub marking-on : {planes favoured mask : List ℕ} {w words v : ℕ} → Marking planes favoured w mask → w < words → words ≤ 9
-    → Picked (getD planes w 0) (w * 64) favoured v → Marking planes favoured (w + 1) (set mask w v)
-marking-on {planes} {favoured} {mask} {w} {words} {v} m h k p =
+pub marking-on : {planes favoured old mask : List ℕ} {w words v : ℕ} → Marking planes favoured old w mask → w < words → words ≤ 9
+    → Picked (getD planes w 0) (w * 64) favoured v → Marking planes favoured old (w + 1) (set mask w v)
+marking-on {planes} {favoured} {old} {mask} {w} {words} {v} m h k p =
     let l = m .len in
     let w-lt : w < 9 = omega arith in
     record {
@@ -108,27 +109,29 @@ marking-on {planes} {favoured} {mask} {w} {words} {v} m h k p =
           byEq (q / 64) w
           (λ e. word-here mask w v l w-lt q e ∙ p .none (q % 64) (rw e at o))
           (λ n. word-other mask w v l w-lt q n ∙ m .none q (omega arith) o);
+      kept = λ u g. getD-set-other mask w u v 0 (λ e. absurd (omega arith)) ∙ m .kept u (omega arith);
     }
 
-pub marking-end : {n : ℕ} {planes favoured mask : List ℕ} {w words : ℕ} → Marking planes favoured w mask → words ≡ wordsOf n → w ≤ words → words ≤ w
-    → Marked n planes favoured mask
-marking-end m v a b = record { len = m .len; has = λ p h. m .has p (omega arith); none = λ p h. m .none p (omega arith) }
+pub marking-end : {n : ℕ} {planes favoured old mask : List ℕ} {w words : ℕ} → Marking planes favoured old w mask → words ≡ wordsOf n → w ≤ words → words ≤ w
+    → Marked n planes favoured old mask
+marking-end m v a b = record { len = m .len; has = λ p h. m .has p (omega arith); none = λ p h. m .none p (omega arith); behind = λ u h. m .kept u (omega arith) }
 
 -- ---- the others
 pub record Complementing (n : ℕ) (planes old : List ℕ) (w : ℕ) (mask : List ℕ) : Type 0 where
   pub len : length mask ≡ 9
   pub done : (p : ℕ) → p < w * 64 → p < spanOf n → digitAt mask p ≡ digitAt planes p - digitAt old p
   pub left : (p : ℕ) → w * 64 ≤ p → digitAt mask p ≡ digitAt old p
+  pub kept : (v : ℕ) → w ≤ v → getD mask v 0 ≡ getD old v 0
 
-pub turning-start : {n : ℕ} {planes mask : List ℕ} → Mask n planes mask → Complementing n planes mask 0 mask
-turning-start m = record { len = m .len; done = λ p h. absurd (omega arith); left = λ p h. refl }
+pub complementing-start : {n : ℕ} {planes mask : List ℕ} → Mask n planes mask → Complementing n planes mask 0 mask
+complementing-start m = record { len = m .len; done = λ p h. absurd (omega arith); left = λ p h. refl; kept = λ v h. refl }
 
 other-digit : (x y i : ℕ) → digit y i ≤ digit x i → digit (bitXor x y) i ≡ digit x i - digit y i
 other-digit x y i h = omega (arith, digit-sum x y i, digit-most (bitXor x y) i, digit-most x i)
 
-pub turning-on : {n : ℕ} {planes old mask : List ℕ} {w words : ℕ} → Complementing n planes old w mask → Mask n planes old → w < words → words ≤ 9
+pub complementing-on : {n : ℕ} {planes old mask : List ℕ} {w words : ℕ} → Complementing n planes old w mask → Mask n planes old → w < words → words ≤ 9
     → Complementing n planes old (w + 1) (set mask w (bitXor (getD planes w 0) (getD mask w 0)))
-turning-on {n} {planes} {old} {mask} {w} {words} t m h k =
+complementing-on {n} {planes} {old} {mask} {w} {words} t m h k =
     let l = t .len in
     let w-lt : w < 9 = omega arith in
     let v = bitXor (getD planes w 0) (getD mask w 0) in
@@ -143,11 +146,12 @@ turning-on {n} {planes} {old} {mask} {w} {words} t m h k =
           here ∙ rw e (omega (arith, other-digit (getD planes w 0) (getD mask w 0) (p % 64) (omega arith))))
           (λ z. word-other mask w v l w-lt p z ∙ t .done p (omega arith) s);
       left = λ p g. word-other mask w v l w-lt p (omega arith) ∙ t .left p (omega arith);
+      kept = λ u g. getD-set-other mask w u v 0 (λ e. absurd (omega arith)) ∙ t .kept u (omega arith);
     }
 
-pub turning-end : {n : ℕ} {planes old mask : List ℕ} {w words : ℕ} → Complementing n planes old w mask → words ≡ wordsOf n → w ≤ words → words ≤ w
+pub complementing-end : {n : ℕ} {planes old mask : List ℕ} {w words : ℕ} → Complementing n planes old w mask → words ≡ wordsOf n → w ≤ words → words ≤ w
     → Others n planes old mask
-turning-end t v a b = record { len = t .len; has = λ p h. t .done p (omega arith) h }
+complementing-end t v a b = record { len = t .len; has = λ p h. t .done p (omega arith) h; kept = λ u h. t .kept u (omega arith) }
 
 pub others-mask : {n : ℕ} {planes old mask : List ℕ} → Others n planes old mask → Mask n planes mask
 others-mask o = record { len = o .len; only = λ p h. omega (arith, o .has p h) }

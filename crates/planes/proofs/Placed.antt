@@ -9,7 +9,7 @@ use native.Mathlib.Numerals.{add-one}
 use lib.Dec.{eqb}
 use lib.Count.{trailingZeros}
 use lib.ListN.{length, getD, set, take, length-set, length-append}
-use lib.Seq.{take-suc-set, append-snoc}
+use lib.Seq.{take-suc-set, append-snoc, getD-set-other}
 use borrow.Author.Tests.{eqb-true}
 use Rattle.rules.specs.Words.{upFrom, keep, Every}
 use Rattle.rules.proofs.Cases.{byLt}
@@ -27,9 +27,10 @@ pub record Placing (base x k : ℕ) (old list : List ℕ) (left r : ℕ) : Type 
   pub fits : left < 2 ^ 64
   pub number : r + length (places base 64 left) ≡ k + length (places base 64 x)
   pub same : take r list ++ places base 64 left ≡ take k old ++ places base 64 x
+  pub kept : (j : ℕ) → r ≤ j → getD list j 0 ≡ getD old j 0
 
 pub placing-start : {base x k : ℕ} {old : List ℕ} → length old ≡ 528 → x < 2 ^ 64 → Placing base x k old old x k
-placing-start l f = record { len = l; fits = f; number = refl; same = refl }
+placing-start l f = record { len = l; fits = f; number = refl; same = refl; kept = λ j h. refl }
 
 module _ {base x k : ℕ} {old list : List ℕ} {left r : ℕ} (p : Placing base x k old list left r) (some : left ≢ 0) where
   pub placing-zeros : trailingZeros 64 left < 64
@@ -48,6 +49,7 @@ module _ {base x k : ℕ} {old list : List ℕ} {left r : ℕ} (p : Placing base
         fits = next-fits (p .fits) some;
         number = omega (arith, p .number, ap length first);
         same = rw (add-one, take-suc-set list r at (omega (arith, p .len, placing-room h))) (append-snoc (take r list) at (places base 64 (rest left)) ∙ rw (← first) (p .same));
+        kept = λ j l. getD-set-other list r j at 0 (λ e. absurd (omega arith)) ∙ p .kept j (omega arith);
       }
 
 pub placing-end : {base x k : ℕ} {old list : List ℕ} {left r : ℕ} → Placing base x k old list left r → left ≡ 0 → PlacesListed base x k old list r
@@ -57,6 +59,7 @@ placing-end {base} {x} {k} {old} {list} {left} {r} p e =
       len = p .len;
       number = omega (arith, p .number, ap length none);
       same = sym (append-nil (take r list)) ∙ ap (λ (l : List ℕ). take r list ++ l) (sym none) ∙ p .same;
+      kept = p .kept;
     }
 
 -- ---- the digits of a word of the lowest plane
@@ -104,15 +107,16 @@ module _ {n : ℕ} {planes : List ℕ} (e : Ends n planes) where
       (keep (oddAt planes) (upFrom (w * 64) 64)) (keep-every (oddAt planes) (w * 64 + 64) (w * 64) 64 (omega arith)))
 
 -- ---- one more word
-pub record Gathering (planes : List ℕ) (w : ℕ) (list : List ℕ) (r : ℕ) : Type 0 where
+pub record Gathering (planes old : List ℕ) (w : ℕ) (list : List ℕ) (r : ℕ) : Type 0 where
   pub len : length list ≡ 528
   pub number : r ≡ length (oddsIn (w * 64) planes)
   pub same : take r list ≡ oddsIn (w * 64) planes
+  pub kept : (j : ℕ) → r ≤ j → getD list j 0 ≡ getD old j 0
 
-pub gathering-start : {planes list : List ℕ} → length list ≡ 528 → Gathering planes 0 list 0
-gathering-start l = record { len = l; number = refl; same = refl }
+pub gathering-start : {planes list : List ℕ} → length list ≡ 528 → Gathering planes list 0 list 0
+gathering-start l = record { len = l; number = refl; same = refl; kept = λ j h. refl }
 
-module _ {n : ℕ} {planes list : List ℕ} {w words k : ℕ} (g : Gathering planes w list k) (e : Ends n planes) (v : words ≡ wordsOf n) (h : w < words) where
+module _ {n : ℕ} {planes old list : List ℕ} {w words k : ℕ} (g : Gathering planes old w list k) (e : Ends n planes) (v : words ≡ wordsOf n) (h : w < words) where
   pub gathering-room : k + length (places (w * 64) 64 (getD planes w 0)) ≤ 528
   gathering-room =
       omega (
@@ -123,17 +127,18 @@ module _ {n : ℕ} {planes list : List ℕ} {w words k : ℕ} (g : Gathering pla
         length-append (oddsIn (w * 64) planes) (places (w * 64) 64 (getD planes w 0)),
       )
 
-  pub gathering-on : {next : List ℕ} {r : ℕ} → PlacesListed (w * 64) (getD planes w 0) k list next r → Gathering planes (w + 1) next r
+  pub gathering-on : {next : List ℕ} {r : ℕ} → PlacesListed (w * 64) (getD planes w 0) k list next r → Gathering planes old (w + 1) next r
   gathering-on p =
       let l = length-append (oddsIn (w * 64) planes) (places (w * 64) 64 (getD planes w 0)) in
       record {
         len = p .len;
         number = omega (arith, p .number, g .number, ap length (words-odds planes w));
         same = p .same ∙ ap (λ (l : List ℕ). l ++ places (w * 64) 64 (getD planes w 0)) (g .same) ∙ sym (words-odds planes w);
+        kept = λ j h. p .kept j h ∙ g .kept j (omega (arith, p .number));
       }
 
-pub gathering-end : {n : ℕ} {planes list : List ℕ} {w words r : ℕ} → Gathering planes w list r → Ends n planes → words ≡ wordsOf n → w ≤ words → words ≤ w
-    → Gathered n planes list r
-gathering-end {n} {planes} {list} {w} {words} {r} g e v a b =
+pub gathering-end : {n : ℕ} {planes old list : List ℕ} {w words r : ℕ} → Gathering planes old w list r → Ends n planes → words ≡ wordsOf n → w ≤ words → words ≤ w
+    → Gathered n planes old list r
+gathering-end {n} {planes} {old} {list} {w} {words} {r} g e v a b =
     let all = odds-past e (w * 64) (omega arith) (omega arith) in
-    record { len = g .len; number = g .number ∙ ap length all; same = g .same ∙ all }
+    record { len = g .len; number = g .number ∙ ap length all; same = g .same ∙ all; behind = g .kept }

@@ -28,7 +28,7 @@ fn place(x: u64, base: usize, k: usize, list: &mut [u16; POSITIONS]) -> usize
 // The answer is how many there are.
 pub fn gather(planes: &[u64; PLANES_WORDS], n: usize, list: &mut [u16; POSITIONS]) -> usize
     requires { ⌜ Ends n (now planes) × (length (now list) ≡ 528) ⌝ }
-    ensures { λ r. ⌜ Gathered n (now (planes .entry)) (now (list .exit)) r ⌝ }
+    ensures { λ r. ⌜ Gathered n (now (planes .entry)) (now (list .entry)) (now (list .exit)) r ⌝ }
 {
     let words = words_of(n);
     let mut k: usize = 0;

@@ -39,7 +39,7 @@ pub fn halve(
     half: &mut [u64; PLANES_WORDS],
 )
     requires { ⌜ (1 ≤ m) × (m ≤ 10) × BlockPlanes m n (now planes) × Mask n (now planes) (now mask) × (length (now half) ≡ 99) ⌝ }
-    ensures { λ _. ⌜ (length (now (half .exit)) ≡ 99) × HalfPlanes m n (now (planes .entry)) (now (mask .entry)) (now (half .exit)) ⌝ }
+    ensures { λ _. ⌜ (length (now (half .exit)) ≡ 99) × HalfPlanes m n (now (planes .entry)) (now (mask .entry)) (now (half .entry)) (now (half .exit)) ⌝ }
 {
     let words = words_of(n);
     let mut w: usize = 0;

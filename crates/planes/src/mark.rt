@@ -42,7 +42,7 @@ pub fn mark(
     mask: &mut [u64; PLANE_WORDS],
 )
     requires { ⌜ Ends n (now planes) × (length (now favoured) ≡ 528) × (length (now mask) ≡ 9) ⌝ }
-    ensures { λ _. ⌜ Marked n (now (planes .entry)) (now (favoured .entry)) (now (mask .exit)) ⌝ }
+    ensures { λ _. ⌜ Marked n (now (planes .entry)) (now (favoured .entry)) (now (mask .entry)) (now (mask .exit)) ⌝ }
 {
     let words = words_of(n);
     let mut w: usize = 0;

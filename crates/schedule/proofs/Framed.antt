@@ -41,8 +41,8 @@ pub shorter : (m t : ℕ) → 1 ≤ m → 2 ^ m ≡ t → 2 ^ (m - 1) < t
 shorter m t some e = omega (arith, pow-less (m - 1) m (omega arith))
 
 -- and whose halves are written into the halves of its entries
-pub half-counts : {h m n : ℕ} {planes ins outs mask half : List ℕ} → Favours h n planes ins outs mask → h ≢ 0
-    → HalfPlanes m n planes mask half → m ≢ 0 → countsIn (suc (m - 1)) half n ≡ halfOf (tabled ins outs) h (countsIn (suc m) planes n)
+pub half-counts : {h m n : ℕ} {planes ins outs mask old half : List ℕ} → Favours h n planes ins outs mask → h ≢ 0
+    → HalfPlanes m n planes mask old half → m ≢ 0 → countsIn (suc (m - 1)) half n ≡ halfOf (tabled ins outs) h (countsIn (suc m) planes n)
 half-counts {m = m} {n} {half = half} v one w some =
     let up : suc (m - 1) ≡ m = omega arith in
     ap (λ (k : ℕ). countsIn k half n) up ∙ halved-counts w ∙ half-is v one m

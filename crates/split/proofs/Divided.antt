@@ -30,8 +30,8 @@ pub blank-scratch : Scratch (replicate 528 0) (replicate 528 0) (replicate 528 0
 blank-scratch = record { listed = length-replicate {A = ℕ} 528 0; at-inputs = blank-mates; at-outputs = blank-mates; grouped = length-replicate {A = ℕ} 528 0 }
 
 -- ---- the list of odd counts
-pub odds-listed : {n k : ℕ} {planes odds : List ℕ} → Gathered n planes odds k → n ≤ 528 → Odds odds k
-odds-listed {n} {k} {planes} {odds} g few =
+pub odds-listed : {n k : ℕ} {planes old odds : List ℕ} → Gathered n planes old odds k → n ≤ 528 → Odds odds k
+odds-listed {n} {k} {planes} {odds = odds} g few =
     record {
       positions = record {
         len = g .len;
@@ -57,8 +57,8 @@ either f m n planes ins outs p h e =
       off = λ d. e ∙ law .evens p (sym o ∙ ap (λ (x : ℕ). eqb x 1) d);
     }
 
-module _ {n k multi : ℕ} {planes ins outs odds i o c mask : List ℕ} (s : Sides n ins outs) (sh : MultiLink n multi outs) (g : Gathered n planes odds k)
-    (li : AllMated ins odds k i) (lo : MatedOut multi outs odds k o) (st : SettledBy i o odds k (replicate 528 0) c) (mk : Marked n planes c mask) where
+module _ {n k multi : ℕ} {planes ins outs listed odds i o c old mask : List ℕ} (s : Sides n ins outs) (sh : MultiLink n multi outs) (g : Gathered n planes listed odds k)
+    (li : AllMated ins odds k i) (lo : MatedOut multi outs odds k o) (st : SettledBy i o odds k (replicate 528 0) c) (mk : Marked n planes c old mask) where
   favoured-at : (m p : ℕ) → p < n → getD c p 0 ≡ getD (favours (tabled ins outs) (countsIn (suc m) planes n)) p 0
   favoured-at m p h =
       sym (getD-take n c p 0 h)

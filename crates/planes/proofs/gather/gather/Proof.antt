@@ -6,7 +6,7 @@ use Rattle.planes.proofs.gather.gather.Statement.{statement}
 use Rattle.planes.proofs.gather.gather.Tie as tie
 
 abbrev Inv-loop : tie.InvT-loop
-Inv-loop planes n list₀ words k₀ w₀ list k w = (w ≤ words) × Gathering planes w list k
+Inv-loop planes n list₀ words k₀ w₀ list k w = (w ≤ words) × Gathering planes list₀ w list k
 
 abbrev μ-loop : tie.MeasureT-loop
 μ-loop planes n list₀ words k₀ w₀ list k w = words - w

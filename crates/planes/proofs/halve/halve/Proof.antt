@@ -6,7 +6,7 @@ use Rattle.planes.proofs.halve.halve.Statement.{statement}
 use Rattle.planes.proofs.halve.halve.Tie as tie
 
 abbrev Inv-loop : tie.InvT-loop
-Inv-loop planes m n mask half₀ words w₀ half w = (w ≤ words) × Halving 99 m n planes mask w half
+Inv-loop planes m n mask half₀ words w₀ half w = (w ≤ words) × Halving m n planes mask half₀ w half
 
 abbrev μ-loop : tie.MeasureT-loop
 μ-loop planes m n mask half₀ words w₀ half w = words - w

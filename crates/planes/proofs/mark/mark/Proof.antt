@@ -6,7 +6,7 @@ use Rattle.planes.proofs.mark.mark.Statement.{statement}
 use Rattle.planes.proofs.mark.mark.Tie as tie
 
 abbrev Inv-loop : tie.InvT-loop
-Inv-loop planes n favoured mask₀ words w₀ mask w = (w ≤ words) × Marking planes favoured w mask
+Inv-loop planes n favoured mask₀ words w₀ mask w = (w ≤ words) × Marking planes favoured mask₀ w mask
 
 abbrev μ-loop : tie.MeasureT-loop
 μ-loop planes n favoured mask₀ words w₀ mask w = words - w

@@ -1,7 +1,7 @@
 use Prim.Native.Nat.{_≤_, _-_}
 use borrow.Author.Needs.{needs}
 use native.Mathlib.Omega.{arith}
-use Rattle.planes.proofs.Marked.{Complementing, turning-start, turning-on, turning-end}
+use Rattle.planes.proofs.Marked.{Complementing, complementing-start, complementing-on, complementing-end}
 use Rattle.planes.proofs.mark.others.Statement.{statement}
 use Rattle.planes.proofs.mark.others.Tie as tie
 
@@ -18,7 +18,7 @@ others-spec =
     Inv-loop
     μ-loop
     (λ c κs. search needs)
-    (λ c. (omega arith, search (needs, turning-start)))
+    (λ c. (omega arith, search (needs, complementing-start)))
     (λ c. search needs)
     (λ c. search needs)
     (λ c. search needs)
@@ -27,5 +27,5 @@ others-spec =
     (λ c. search needs)
     (λ c. search needs)
     (λ c. search needs)
-    (λ c. (omega arith, search (needs, turning-on)))
-    (λ c. search (needs, turning-end)))
+    (λ c. (omega arith, search (needs, complementing-on)))
+    (λ c. search (needs, complementing-end)))
