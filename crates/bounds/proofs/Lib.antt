@@ -12,3 +12,4 @@ pub mod Latest
 pub mod Leads
 pub mod Budget
 pub mod CleanChains
+pub mod Cases
