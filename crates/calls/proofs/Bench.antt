@@ -113,21 +113,25 @@ unfolding cases frame turnedAwayBy turnedAway counting sumTo portOf countsOf loa
 bench = refl
 
 -- ---- an answer of each kind that the nine loads do not reach
--- A view of a frame: the number, where the part begins, its size and its bytes.
-views : ℕ → List ℕ → Case
-views slot says =
-    record {
-      gives = viewNumber 2 2 crossed slot ∷ viewStart 2 2 crossed slot ∷ viewSize 2 2 crossed slot ∷ viewed 2 2 crossed slot;
-      says = says;
-    }
-
--- A flow of two cells from input 1 to output 2, and one of one cell from input 2 to output 1.
+-- A flow of two cells from input 1 to output 2, and one of one cell from input 2 to output 1, and a frame of four slots with those cells:
+-- the first flow in slots 1 and 3, the second in slot 2.
 abbrev there : List ℕ
 there = 1 ∷ 2 ∷ 2 ∷ 1 ∷ 2 ∷ 1 ∷ 1 ∷ 1 ∷ []
 
--- A count in a frame of two slots with those cells, and in one whose first slot has the second flow at input 1 and no flow at input 2.
+abbrev inFour : List ℕ
+inFour = 1 ∷ 0 ∷ 0 ∷ 2 ∷ 1 ∷ 0 ∷ 0 ∷ 0 ∷ []
+
+-- A view of that frame: the number, where the part begins, its size and its bytes.
+views : ℕ → List ℕ → Case
+views slot says =
+    record {
+      gives = viewNumber 2 4 inFour slot ∷ viewStart 2 4 inFour slot ∷ viewSize 2 4 inFour slot ∷ viewed 2 4 inFour slot;
+      says = says;
+    }
+
+-- A count in it, and in one of two slots, the first of which has the second flow at input 1 and no flow at input 2.
 counts : Who → ℕ → ℕ → ℕ → ℕ → ℕ → Case
-counts who start len had ahead behind = counting (service 2 2 there (1 ∷ 0 ∷ 1 ∷ 2 ∷ []) who start len) (0 ∷ had ∷ []) ahead behind
+counts who start len had ahead behind = counting (service 2 4 there inFour who start len) (0 ∷ had ∷ []) ahead behind
 
 countsAny : Who → ℕ → Case
 countsAny who had = counting (service 2 2 there (2 ∷ 9 ∷ 1 ∷ 2 ∷ []) who 1 2) (0 ∷ had ∷ []) 0 0
@@ -148,19 +152,19 @@ inspects entries says = record { gives = inspected 2 2 (1 ∷ 1 ∷ 1 ∷ 1 ∷ 
 
 pub others : List Case
 others =
-    -- slot 2 of a frame, and slots outside it
-    views 2 (0 ∷ 2 ∷ 2 ∷ 2 ∷ 3 ∷ [])
+    -- slot 3 of a frame, and slots outside it
+    views 3 (0 ∷ 4 ∷ 2 ∷ 1 ∷ 0 ∷ [])
     ∷ views 0 (11 ∷ 0 ∷ 0 ∷ [])
-    ∷ views 3 (11 ∷ 0 ∷ 0 ∷ [])
+    ∷ views 5 (11 ∷ 0 ∷ 0 ∷ [])
     -- each flow, an input, an output, over the whole frame
-    ∷ counts (Flow 1) 1 2 2 0 0
-    ∷ counts (Flow 2) 1 2 1 0 0
-    ∷ counts (Input 1) 1 2 2 0 0
-    ∷ counts (Output 1) 1 2 1 0 0
-    -- one behind after the first slot, one ahead after the second, two turns on too, and a run of no slots
+    ∷ counts (Flow 1) 1 4 2 0 0
+    ∷ counts (Flow 2) 1 4 1 0 0
+    ∷ counts (Input 1) 1 4 2 0 0
+    ∷ counts (Output 1) 1 4 1 0 0
+    -- one part of four behind after slot 1, three ahead after slot 2, after the next turn's too, and a run of no slots
     ∷ counts (Flow 2) 1 1 0 0 1
-    ∷ counts (Input 2) 2 1 1 1 0
-    ∷ counts (Output 1) 2 5 3 1 0
+    ∷ counts (Input 2) 2 1 1 3 0
+    ∷ counts (Output 1) 2 5 2 3 0
     ∷ counts (Output 2) 2 0 0 0 0
     -- a flow counts for itself and its output wherever it stands, and what is no flow for its input only
     ∷ countsAny (Flow 2) 2
@@ -168,7 +172,7 @@ others =
     ∷ countsAny (Output 2) 1
     ∷ countsAny (Input 2) 2
     -- a flow that is not in the list
-    ∷ counting (service 2 2 there (1 ∷ 0 ∷ 1 ∷ 2 ∷ []) (Flow 3) 1 1) (12 ∷ []) 0 0
+    ∷ counting (service 2 4 there inFour (Flow 3) 1 1) (12 ∷ []) 0 0
     -- lists: not of whole flows, 513 flows, whose ports are outside too, a port outside, whose link is outside too, a link outside, none
     ∷ turnedAway 2 2 (1 ∷ 1 ∷ 1 ∷ []) (3 ∷ [])
     ∷ turnedAway 2 2 (replicate 2052 9) (21 ∷ [])

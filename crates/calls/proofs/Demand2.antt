@@ -1,7 +1,7 @@
 -- Demand 2: a well-formed load is refused as overloaded exactly where it does not fit or the limits do not allow it, with the lowest such
 -- port or link and its load; every other one is accepted, and Build leaves the rules' only frame.
 use Prim.Native.Nat.{ℕ, _*_, _^_}
-use mathlib.Core.Path.{_≡_, sym, _∙_, subst}
+use mathlib.Core.Path.{_≡_, sym, _∙_, subst, ap}
 use mathlib.Core.List.{List, [], _∷_, _++_}
 use mathlib.Core.Bool.{true, false, not}
 use native.Mathlib.Omega.{arith}
@@ -13,7 +13,7 @@ use Rattle.calls.specs.Demand2.{WellFormed, OverloadAnswers, Accepts, Li
 use Rattle.calls.specs.Refusals.{Check, report, none-holds, accepted, bad-ports, bad-slots, bad-list, too-many-flows, port-outside, link-outside, listChecks, bad-frame, overload, portOverloads, linkOverload, overloads, admitted}
 use Rattle.rules.specs.Rules.{Scheduled}
 use Rattle.rules.specs.Schedule.{frameOf}
-use Rattle.calls.specs.Build.{buildChecks, acceptance, built, buildAccepts, frameAfter}
+use Rattle.calls.specs.Build.{buildChecks, acceptance, built, buildAccepts, frameAfter, AcceptedWith0}
 use Rattle.rules.proofs.Cases.{both-true}
 use Rattle.rules.proofs.Levels.{levels-power, power-known}
 use Rattle.rules.proofs.Flows.{counts-length}
@@ -193,6 +193,16 @@ build-sound ports slots list limits buffer e =
 pub build-keeps : (ports slots : ℕ) (list limits buffer : List ℕ) → buildAccepts ports slots list limits buffer ≡ false
     → frameAfter ports slots list limits buffer ≡ buffer
 build-keeps ports slots list limits buffer e = rw e
+
+pub accepted-with-0 : AcceptedWith0
+unfolding buildChecks
+accepted-with-0 ports slots list limits buffer =
+    let checks = buildChecks ports slots list limits buffer in
+    let taken = acceptance ports slots list limits buffer in (
+      λ a. ap (λ (l : List ℕ). getD l 0 0) (report-clear checks taken a),
+      λ e. clear-none checks taken
+          (omega arith, (omega arith, (omega arith, (omega arith, (omega arith, (omega arith, (omega arith, (omega arith, (omega arith, (omega arith, tt)))))))))) e,
+    )
 
 -- All of demand 2.
 pub demand2 : Demand2

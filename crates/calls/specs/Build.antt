@@ -1,7 +1,9 @@
 -- Build: its answer, and the entries that it leaves.
 use Prim.Native.Nat.{ℕ}
+use mathlib.Core.Path.{_≡_}
 use mathlib.Core.List.{List, [], _∷_, _++_}
-use mathlib.Core.Bool.{Bool}
+use mathlib.Core.Bool.{Bool, true}
+use lib.ListN.{getD}
 use Rattle.rules.specs.Words.{if}
 use Rattle.rules.specs.Flows.{portOf, countsOf}
 use Rattle.calls.specs.Refusals.{Check, report, none-holds, refusal, listChecks, bad-frame, overloads}
@@ -37,3 +39,10 @@ acceptance ports slots list limits buffer = 0 ∷ work ports slots list (frameAf
 
 abbrev pub built : ℕ → ℕ → List ℕ → List ℕ → List ℕ → List ℕ
 built ports slots list limits buffer = report (buildChecks ports slots list limits buffer) (acceptance ports slots list limits buffer)
+
+-- A call is accepted exactly where the number of its answer is 0.
+abbrev pub AcceptedWith0 : Type 0
+AcceptedWith0 =
+    (ports slots : ℕ) (list limits buffer : List ℕ)
+    → (buildAccepts ports slots list limits buffer ≡ true → getD (built ports slots list limits buffer) 0 0 ≡ 0)
+    × (getD (built ports slots list limits buffer) 0 0 ≡ 0 → buildAccepts ports slots list limits buffer ≡ true)

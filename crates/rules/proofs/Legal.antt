@@ -1,4 +1,4 @@
--- Legal frames: what is exact for each flow is exact for each input and output and for the total.
+-- Legal frames: what is exact for each flow is exact for each input, output and link and for the total.
 use Prim.Native.Nat.{ℕ}
 use mathlib.Core.Path.{_≡_, _∙_}
 use mathlib.Core.List.{List}

@@ -37,7 +37,8 @@ abbrev pub placeOf : End → ℕ
 placeOf inputs = 0
 placeOf links = 1
 
--- A flow's input, and its link; the list numbers ports from 1, and links from 1 at each output.
+-- A flow's input, and its link; the list numbers ports from 1, and links from 1 at each output. A 0 is taken for a 1, and a link above 4
+-- for one of the next output, but only in lists that every call refuses: with 22 or 23.
 unfoldable pub portOf : List ℕ → End → ℕ → ℕ
 portOf list inputs f = numberOf (placeOf inputs) list f - 1
 portOf list links f = (numberOf (placeOf links) list f - 1) * 4 + (numberOf 3 list f - 1)

@@ -48,7 +48,8 @@ pub data Joined (port : End → ℕ → ℕ) (m : List ℕ) (p : ℕ) : ℕ → 
   onward : (c : Class) {q r : ℕ} → Joined port m p q → Partners (partnered c port m) q r → Joined port m p r
   backward : (c : Class) {q r : ℕ} → Joined port m p q → Partners (partnered c port m) r q → Joined port m p r
 
--- The list has the numbers below n of which P holds, rising, and no others.
+-- The list has the numbers below n of which P holds, rising, and no others. The test by which they are kept decides P of every number, of
+-- those from n on too.
 pub record Lists (n : ℕ) (P : ℕ → Type 0) (l : List ℕ) : Type 0 where
   pub test : ℕ → Bool
   pub yes : (q : ℕ) → test q ≡ true → P q
@@ -92,7 +93,8 @@ pub record Split (port : End → ℕ → ℕ) (m a b : List ℕ) : Type 0 where
   pub odd-group : (p : ℕ) (group before : List ℕ) → Group port m p group → length group % 2 ≡ 1 → Lists p (OddGroup port m) before
       → LargerShare (suc (length before)) (length group) (length (keep (favoursFirst a b) group))
 
--- Rule 6: the counts of a block of one slot are the slot's cells. An entry that is not 0 is the number of a flow of its input.
+-- Rule 6: the counts of a block of one slot are the slot's cells. An entry that is not 0 is the number of a flow of its input, so that an
+-- input has one cell at most. That an output has one at most is `once` of `Legal`, and follows from the load, which fits the slots.
 pub record Slot (ports : ℕ) (port : End → ℕ → ℕ) (m entries : List ℕ) : Type 0 where
   pub size : length entries ≡ ports
   pub own : (i f : ℕ) → i < ports → getD entries i 0 ≡ suc f → (f < length m) × (port inputs f ≡ i)

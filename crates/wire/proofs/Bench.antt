@@ -1,9 +1,9 @@
 -- The ninth bench load that is marked P, on the wire: its cells, its share and its bound. The seam load is in Tight.
 use mathlib.Core.Path.{_≡_, refl}
-use mathlib.Core.List.{List, [], _∷_}
+use mathlib.Core.List.{List, [], _∷_, map}
 use native.Mathlib.Omega.{arith}
 use lib.ListN.{replicate}
-use Rattle.rules.specs.Words.{Near, sumTo}
+use Rattle.rules.specs.Words.{Near, sumTo, upFrom}
 use Rattle.rules.specs.Flows.{portOf, countsOf, flow, loadIn}
 use Rattle.rules.specs.Frames.{cells, runOf}
 use Rattle.rules.specs.Schedule.{walk, settleAt, favours, slotOf, frameOf}
@@ -25,3 +25,16 @@ ninth = (refl, refl)
 pub ninth-bound : Accurate 4 2 twice → Near 20 24 12
 unfolding chain cellsAt cellsIn share cells runOf buildChecks sumTo portOf countsOf loadIn walk settleAt favours slotOf frameOf
 ninth-bound a = a 3 2 (omega arith) (flow 4) tt
+
+-- a switch of two ports, so that ports are not slots: a flow of 2 cells from input 1 to output 1 and one of 3 from 2 to 2, in a frame of
+-- four slots that is carried twice
+abbrev twoPorts : List Carried
+twoPorts =
+    chain none (replicate 8 77)
+    (record { ports = 2; slots = 4; list = 1 ∷ 1 ∷ 2 ∷ 1 ∷ 2 ∷ 2 ∷ 3 ∷ 1 ∷ []; limits = slotsEach 4; times = 2 } ∷ [])
+
+-- the cells of the second slot by slot, and in the run of three slots over the seam, of which 3 × 3 / 4 are its share
+pub two-ports : (map (cellsAt (flow 1) twoPorts) (upFrom 0 9) ≡ 1 ∷ 1 ∷ 0 ∷ 1 ∷ 1 ∷ 1 ∷ 0 ∷ 1 ∷ 0 ∷ [])
+    × (cellsIn (flow 1) twoPorts 3 3 ≡ 3) × (share (flow 1) 0 twoPorts 3 3 ≡ 9)
+unfolding chain cellsAt cellsIn share cells runOf buildChecks sumTo portOf countsOf loadIn walk settleAt favours slotOf frameOf
+two-ports = (refl, refl, refl)

@@ -33,7 +33,8 @@ abbrev pub carry : Last → List ℕ → ℕ → List Carried
 carry none buffer times = []
 carry (last call) buffer times = replicate times (record { call = call; entries = buffer })
 
--- The last accepted call after one more, by whether that is accepted.
+-- The last accepted call after one more, by whether that is accepted, which is to say that its answer's number is 0: `AcceptedWith0`
+-- of `calls/specs/Build`.
 abbrev pub next : Bool → Call → Last → Last
 next true call before = last call
 next false call before = before
