@@ -7,7 +7,7 @@ use mathlib.Core.List.{List, [], _∷_, _++_, map}
 use Rattle.rules.specs.Words.{sumTo}
 use Rattle.rules.specs.Flows.{portOf, countsOf, loadIn}
 use Rattle.sheets.specs.Text.{text, digits, lines, numbersFrom}
-use Rattle.sheets.specs.Sheet.{portsLine, slotsLine, pairLine, readPairs, loads, readSheet, printSlots, response}
+use Rattle.sheets.specs.Sheet.{portsLine, slotsLine, pairLine, readPairs, loads, readSheet, printSlots, printRefusal, response}
 use Rattle.rules.specs.Schedule.{walk, settleAt, favours, slotOf, frameOf}
 use Rattle.calls.proofs.Bench.{Case, table7, table7-framed}
 use Rattle.calls.proofs.Bench as called
@@ -49,7 +49,7 @@ others =
     ∷ answers (text "(ports 2)\n(slots 1)\n(pair (in 1) (out 1) (cells 01))\n") "(refused 7 (line 3))\n"
     ∷ answers (text "(ports 2)\n(slots 1)\n(pair (in 1) (out 3) (cells 0))\n") "(refused 8 (line 3))\n"
     -- a pair named twice is two flows
-    ∷ answers (text "(ports 2)\n(slots 2)\n(pair (in 1) (out 2) (cells 1))\n(pair (in 1) (out 2) (cells 1))\n") "(frame (ports 2) (slots 2))\n(slot 1 1)\n(slot 2 2)\n"
+    ∷ answers (text "(ports 1)\n(slots 2)\n(pair (in 1) (out 1) (cells 1))\n(pair (in 1) (out 1) (cells 1))\n") "(frame (ports 1) (slots 2))\n(slot 1 1)\n(slot 2 2)\n"
     -- lines that break the form: a number above 65535, byte 13 before byte 10, no byte 10 at the end, an empty line, none
     ∷ answers (text "(ports 65536)\n") "(refused 7 (line 1))\n"
     ∷ answers (text "(ports 2)" ++ (13 ∷ 10 ∷ text "(slots 1)\n")) "(refused 7 (line 1))\n"
@@ -58,7 +58,9 @@ others =
     ∷ answers [] "(refused 7 (line 1))\n"
     ∷ answers (text "(ports 2)\n") "(refused 7 (line 2))\n"
     -- an idle slot
-    ∷ answers (text "(ports 1)\n(slots 1)\n") "(frame (ports 1) (slots 1))\n(slot 1)\n"
+    ∷ answers (text "(ports 2)\n(slots 1)\n") "(frame (ports 2) (slots 1))\n(slot 1)\n"
+    -- three values, which are refusal 24's: no sheet is refused with it
+    ∷ record { gives = printRefusal (24 ∷ 2 ∷ 3 ∷ 15 ∷ []); says = text "(refused 24 (output 2) (link 3) (cells 15))\n" }
     ∷ []
 
 pub others-answered : map (λ c. c .gives) others ≡ map (λ c. c .says) others
