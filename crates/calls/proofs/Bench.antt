@@ -156,6 +156,8 @@ others =
     views 3 (0 ∷ 4 ∷ 2 ∷ 1 ∷ 0 ∷ [])
     ∷ views 0 (11 ∷ 0 ∷ 0 ∷ [])
     ∷ views 5 (11 ∷ 0 ∷ 0 ∷ [])
+    -- a frame of another length, and a slot outside
+    ∷ record { gives = viewNumber 2 4 (0 ∷ []) 0 ∷ []; says = 4 ∷ [] }
     -- each flow, an input, an output, over the whole frame
     ∷ counts (Flow 1) 1 4 2 0 0
     ∷ counts (Flow 2) 1 4 1 0 0
@@ -171,8 +173,8 @@ others =
     ∷ countsAny (Output 1) 2
     ∷ countsAny (Output 2) 1
     ∷ countsAny (Input 2) 2
-    -- a flow that is not in the list
-    ∷ counting (service 2 4 there inFour (Flow 3) 1 1) (12 ∷ []) 0 0
+    -- a flow that is not in the list, and a run that is too long
+    ∷ counting (service 2 4 there inFour (Flow 3) 1 1000001) (12 ∷ []) 0 0
     -- lists: not of whole flows, 513 flows, whose ports are outside too, a port outside, whose link is outside too, a link outside, none
     ∷ turnedAway 2 2 (1 ∷ 1 ∷ 1 ∷ []) (3 ∷ [])
     ∷ turnedAway 2 2 (replicate 2052 9) (21 ∷ [])
@@ -180,12 +182,15 @@ others =
     ∷ turnedAway 2 2 (1 ∷ 2 ∷ 9 ∷ 5 ∷ []) (23 ∷ [])
     ∷ turnedAway 2 2 (1 ∷ 2 ∷ 9 ∷ 0 ∷ []) (23 ∷ [])
     ∷ frame 1 2 [] 0 (0 ∷ 0 ∷ [])
+    -- the second port is the lowest that is asked for too much
+    ∷ turnedAway 2 4 (1 ∷ 1 ∷ 1 ∷ 1 ∷ 2 ∷ 2 ∷ 5 ∷ 1 ∷ []) (5 ∷ 2 ∷ 5 ∷ [])
     -- two cells on link 2 of output 2, where each link may have one, where each may have two, and where an input has too many
     ∷ turnedAwayBy (slotsEach 1) 2 2 (1 ∷ 2 ∷ 2 ∷ 2 ∷ []) (24 ∷ 2 ∷ 2 ∷ 2 ∷ [])
     ∷ record { gives = admitted 2 4 (1 ∷ 2 ∷ 2 ∷ 2 ∷ []) (slotsEach 2); says = 0 ∷ [] }
     ∷ turnedAwayBy (slotsEach 1) 2 2 (1 ∷ 2 ∷ 3 ∷ 2 ∷ []) (5 ∷ 1 ∷ 3 ∷ [])
     -- the limits stand output by output: those of output 1 and of the first two links of output 2 are six
     ∷ turnedAwayBy (replicate 6 2) 2 2 (1 ∷ 2 ∷ 2 ∷ 3 ∷ []) (24 ∷ 2 ∷ 3 ∷ 2 ∷ [])
+    ∷ turnedAwayBy (replicate 4 1 ++ replicate 60 9) 2 2 (1 ∷ 1 ∷ 2 ∷ 1 ∷ []) (24 ∷ 1 ∷ 1 ∷ 2 ∷ [])
     -- partners on one link first, then the single ones by rising link
     ∷ frame 4 4 twoLinks 8 (1 ∷ 0 ∷ 0 ∷ 0 ∷ 0 ∷ 2 ∷ 0 ∷ 0 ∷ 0 ∷ 0 ∷ 3 ∷ 0 ∷ 0 ∷ 0 ∷ 0 ∷ 4 ∷ [])
     ∷ frame 3 4 threeLinks 6 (1 ∷ 0 ∷ 0 ∷ 0 ∷ 2 ∷ 0 ∷ 0 ∷ 0 ∷ 3 ∷ 0 ∷ 0 ∷ 0 ∷ [])
@@ -196,6 +201,9 @@ others =
     ∷ inspects (1 ∷ 0 ∷ 0 ∷ 3 ∷ []) (101 ∷ 2 ∷ 2 ∷ [])
     ∷ inspects (2 ∷ 0 ∷ 0 ∷ 1 ∷ []) (101 ∷ 1 ∷ 1 ∷ [])
     ∷ inspects (1 ∷ 0 ∷ 0 ∷ 0 ∷ []) (103 ∷ 2 ∷ [])
+    -- an output twice in a slot; and a list that is not of whole flows, with a frame of another length
+    ∷ record { gives = inspected 2 2 (1 ∷ 1 ∷ 1 ∷ 1 ∷ 2 ∷ 1 ∷ 1 ∷ 1 ∷ []) (1 ∷ 2 ∷ 0 ∷ 0 ∷ []); says = 102 ∷ 1 ∷ 1 ∷ [] }
+    ∷ record { gives = inspected 2 2 (1 ∷ 1 ∷ 1 ∷ []) (0 ∷ []); says = 3 ∷ [] }
     -- one cell in each of four slots to output 1, the first two on link 1: a link is unbalanced, and nothing else is
     ∷ record {
       gives = inspected 2 4 (1 ∷ 1 ∷ 1 ∷ 1 ∷ 2 ∷ 1 ∷ 1 ∷ 1 ∷ 1 ∷ 1 ∷ 1 ∷ 2 ∷ 2 ∷ 1 ∷ 1 ∷ 2 ∷ []) (1 ∷ 0 ∷ 0 ∷ 2 ∷ 3 ∷ 0 ∷ 0 ∷ 4 ∷ []);
