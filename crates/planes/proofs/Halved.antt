@@ -159,4 +159,4 @@ halved-block {m} {n} {planes} {mask} {half = half} w b k some =
 
 pub halving-end : {m n : ℕ} {planes mask old half : List ℕ} {w words : ℕ} → Halving m n planes mask old w half → words ≡ wordsOf n → w ≤ words → words ≤ w
     → HalfPlanes m n planes mask old half
-halving-end g v a b = record { each = λ p h. g .done p (omega arith) h; past = λ j h. g .past j (omega arith); above = g .above }
+halving-end g v a b = record { each = λ p h. g .done p (omega arith) h; past = λ j h. g .past j (omega arith); above = λ j h. g .above j (omega arith) }

@@ -141,4 +141,4 @@ pub gathering-end : {n : ℕ} {planes old list : List ℕ} {w words r : ℕ} →
     → Gathered n planes old list r
 gathering-end {n} {planes} {old} {list} {w} {words} {r} g e v a b =
     let all = odds-past e (w * 64) (omega arith) (omega arith) in
-    record { len = g .len; number = g .number ∙ ap length all; same = g .same ∙ all; behind = g .kept }
+    record { len = g .len; number = g .number ∙ ap length all; same = g .same ∙ all; behind = λ j h. g .kept j (omega arith) }

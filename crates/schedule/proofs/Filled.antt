@@ -3,7 +3,7 @@ use Prim.Native.Nat.{ℕ, suc, _*_, _^_, _≤_, _<_}
 use mathlib.Core.Path.{_≡_, refl, sym, ap, ap₂, _∙_}
 use mathlib.Core.List.{List}
 use native.Mathlib.Omega.{arith}
-use lib.ListN.{length, getD}
+use lib.ListN.{length, getD, replicate}
 use borrow.Author.Tests.{eq-eqb}
 use Rattle.rules.specs.Flows.{flows, numberOf, inputs, portOf, countsOf, portOn, input}
 use Rattle.rules.specs.Frames.{levels}
@@ -59,8 +59,8 @@ module _ {ports slots : ℕ} {list buffer : List ℕ} (f : Fillable ports slots 
         past = λ p a h. g .past (suc m) p (omega (arith, levels-low)) (omega arith) (omega arith);
       }
 
-  pub frame-size : {m : ℕ} → m ≡ levels slots → length buffer ≡ 2 ^ m * ports
-  frame-size e = f .size ∙ ap (λ (x : ℕ). x * ports) (power ∙ ap (λ (k : ℕ). 2 ^ k) (sym e))
+  pub frame-blank : {m : ℕ} {entries : List ℕ} → m ≡ levels slots → entries ≡ replicate (length buffer) 0 → entries ≡ replicate (2 ^ m * ports) 0
+  frame-blank e d = d ∙ ap (λ (n : ℕ). replicate n 0) (f .size ∙ ap (λ (x : ℕ). x * ports) (power ∙ ap (λ (k : ℕ). 2 ^ k) (sym e)))
 
   -- what the planes and the tables give is what the list gives
   module _ {m n : ℕ} {planes : List ℕ} (e : m ≡ levels slots) (d : n ≡ flows list) (g : Loaded list planes) where
@@ -70,8 +70,8 @@ module _ {ports slots : ℕ} {list buffer : List ℕ} (f : Fillable ports slots 
     pub all-settled : {r : ℕ} → r ≡ settled m (countsIn (suc m) planes n) → r ≡ settled (levels slots) (countsOf list)
     all-settled f = f ∙ ap₂ settled e same-counts
 
-    pub all-filled : {ins outs entries : List ℕ} → Tabled list ins outs → entries ≡ frameOf ports (tabled ins outs) m (countsIn (suc m) planes n) → entries ≡ frameFor ports slots list
-    all-filled {ins} {outs} t f =
+    pub all-filled : {ends entries : List ℕ} → Tabled list ends → entries ≡ frameOf ports (tabled ends) m (countsIn (suc m) planes n) → entries ≡ frameFor ports slots list
+    all-filled {ends} t f =
         f
-        ∙ ap₂ (frameOf ports (tabled ins outs)) e same-counts
-        ∙ frame-same ports (tabled ins outs) (portOf list) (levels slots) (countsOf list) (λ s p h. t .has s p (omega (arith, counts-length list)))
+        ∙ ap₂ (frameOf ports (tabled ends)) e same-counts
+        ∙ frame-same ports (tabled ends) (portOf list) (levels slots) (countsOf list) (λ s p h. t .has s p (omega (arith, counts-length list)))

@@ -1,48 +1,57 @@
 -- The entries of a block, from those of its halves.
-use Prim.Native.Nat.{ℕ, suc, _-_, _*_, _/_, _^_, _≤_, _<_}
+use Prim.Native.Nat.{ℕ, suc, _+_, _-_, _*_, _/_, _^_, _≤_, _<_}
 use mathlib.Core.Path.{_≡_, refl, sym, ap, ap₂, _∙_}
 use mathlib.Core.Logic.{_≢_}
 use mathlib.Core.List.{List, _++_, append-nil}
 use native.Mathlib.Omega.{arith}
-use native.Mathlib.Nat.{pow-suc, pow-le-pow-right, mul-le-mul, mul-assoc, mul-comm}
+use native.Mathlib.Nat.{le-refl, pow-suc, pow-le-pow-right, mul-le-mul, mul-assoc, mul-comm}
 use mir.Syntax.{w64}
 use mir.Val.{Fits}
 use borrow.Rule.Slice.PartMut.{putMid}
-use lib.ListN.{length, take, drop, length-append, length-drop, drop-of-length-le}
-use lib.Seq.{take-at, length-take-le, length-front}
+use lib.ListN.{length, take, drop, replicate, length-append, length-replicate, replicate-append-replicate}
+use lib.Pow.{pow-pos}
+use lib.Seq.{length-take-le, take-length, drop-length, take-at, drop-at}
 use Rattle.rules.specs.Flows.{End}
 use Rattle.rules.specs.Schedule.{halfOf, slotOf, frameOf}
 use Rattle.rules.proofs.Levels.{pow-less}
 use Rattle.rules.proofs.OneFrame.{frame-length}
-use Rattle.rules.proofs.SamePorts.{slot-same}
 use Rattle.planes.specs.Planes.{countsIn}
 use Rattle.planes.specs.Steps.{HalfPlanes}
 use Rattle.planes.proofs.Halved.{halved-counts}
 use Rattle.split.specs.Steps.{tabled, Favours}
 use Rattle.split.proofs.Divided.{half-is}
-use Rattle.schedule.specs.Steps.{atInputs}
+use Rattle.schedule.specs.Steps.{InputsBelow}
+
+-- ---- the entries of a block, all idle
+pub blank-length : (ports m : ℕ) (f : List ℕ) → f ≡ replicate (2 ^ m * ports) 0 → length f ≡ 2 ^ m * ports
+blank-length ports m f e = ap length e ∙ length-replicate {A = ℕ} (2 ^ m * ports) 0
+
+-- they have room for the inputs of a slot
+pub inputs-in : (ports m n : ℕ) (ends f : List ℕ) → f ≡ replicate (2 ^ m * ports) 0 → InputsBelow ports n ends → InputsBelow (length f) n ends
+inputs-in ports m n ends f b h p l = omega (arith, h p l, blank-length ports m f b, mul-le-mul (pow-pos m) (le-refl ports))
+
+pub all-blank : (ports m : ℕ) (f : List ℕ) → f ≡ replicate (2 ^ m * ports) 0 → f ≡ replicate (length f) 0
+all-blank ports m f b = b ∙ ap (λ (n : ℕ). replicate n 0) (sym (blank-length ports m f b))
 
 -- ---- a block of one slot
-pub one-slot : (ports : ℕ) {m l : ℕ} → m ≡ 0 → l ≡ 2 ^ m * ports → l ≡ ports
-one-slot ports e f = f ∙ ap (λ (k : ℕ). 2 ^ k * ports) e ∙ omega arith
+one-slot : (ports m : ℕ) (f : List ℕ) → m ≡ 0 → f ≡ replicate (2 ^ m * ports) 0 → length f ≡ ports
+one-slot ports m f e b = blank-length ports m f b ∙ ap (λ (k : ℕ). 2 ^ k * ports) e ∙ omega arith
 
--- what is written by the inputs alone is the slot of the rules, over the tables of both sides
-slot-tabled : (ports : ℕ) (ins outs m : List ℕ) → slotOf ports (atInputs ins) m ≡ slotOf ports (tabled ins outs) m
-slot-tabled ports ins outs m = slot-same ports (atInputs ins) (tabled ins outs) m (λ p l. refl)
-
-pub frame-one : (ports m n : ℕ) (planes ins outs f : List ℕ) → m ≡ 0 → f ≡ slotOf ports (atInputs ins) (countsIn 1 planes n)
-    → f ≡ frameOf ports (tabled ins outs) m (countsIn (suc m) planes n)
+pub frame-one : (ports m n : ℕ) (planes ends f g : List ℕ) → m ≡ 0 → f ≡ replicate (2 ^ m * ports) 0 → g ≡ slotOf (length f) (tabled ends) (countsIn 1 planes n)
+    → g ≡ frameOf ports (tabled ends) m (countsIn (suc m) planes n)
 unfolding frameOf
-frame-one ports m n planes ins outs f e g =
-    g ∙ slot-tabled ports ins outs (countsIn 1 planes n) ∙ ap (λ (k : ℕ). frameOf ports (tabled ins outs) k (countsIn (suc k) planes n)) (sym e)
+frame-one ports m n planes ends f g e b h =
+    h
+    ∙ ap (λ (l : ℕ). slotOf l (tabled ends) (countsIn 1 planes n)) (one-slot ports m f e b)
+    ∙ ap (λ (k : ℕ). frameOf ports (tabled ends) k (countsIn (suc k) planes n)) (sym e)
 
 -- ---- a block of more, which is longer than its halves,
 pub shorter : (m t : ℕ) → 1 ≤ m → 2 ^ m ≡ t → 2 ^ (m - 1) < t
 shorter m t some e = omega (arith, pow-less (m - 1) m (omega arith))
 
 -- and whose halves are written into the halves of its entries
-pub half-counts : {h m n : ℕ} {planes ins outs mask old half : List ℕ} → Favours h n planes ins outs mask → h ≢ 0
-    → HalfPlanes m n planes mask old half → m ≢ 0 → countsIn (suc (m - 1)) half n ≡ halfOf (tabled ins outs) h (countsIn (suc m) planes n)
+pub half-counts : {h m n : ℕ} {planes ends mask old half : List ℕ} → Favours h n planes ends mask → h ≢ 0
+    → HalfPlanes m n planes mask old half → 1 ≤ m → countsIn (suc (m - 1)) half n ≡ halfOf (tabled ends) h (countsIn (suc m) planes n)
 half-counts {m = m} {n} {half = half} v one w some =
     let up : suc (m - 1) ≡ m = omega arith in
     ap (λ (k : ℕ). countsIn k half n) up ∙ halved-counts w ∙ half-is v one m
@@ -52,73 +61,76 @@ frame-more : (ports : ℕ) (port : End → ℕ → ℕ) (k : ℕ) (m : List ℕ)
 unfolding frameOf
 frame-more ports port k m = refl
 
--- a list whose front was written, e, and then its back, g
-module _ (f e : List ℕ) (d : ℕ) (h : d ≤ length f) (l : length e ≡ length (take d f)) where
-  front-length : length e ≡ d
-  front-length = l ∙ length-take-le d f h
-
-  back-length : length (take (length (e ++ drop d f) - d) (drop d (e ++ drop d f))) ≡ length f - d
-  back-length =
-      let a = length-append e (drop d f) in
-      let b = length-drop d f in
-      length-take-le (length (e ++ drop d f) - d) (drop d (e ++ drop d f)) (omega (arith, length-drop d (e ++ drop d f))) ∙ omega (arith, front-length)
-
-  both-put : (g : List ℕ) → putMid d (length (e ++ drop d f) - d) (e ++ drop d f) g ≡ e ++ g
-  both-put g =
-      let w : length (drop d (e ++ drop d f)) ≤ length (e ++ drop d f) - d = omega (arith, length-drop d (e ++ drop d f)) in
-      ap (λ (t : List ℕ). t ++ (g ++ drop (length (e ++ drop d f) - d) (drop d (e ++ drop d f)))) (take-at e (drop d f) d front-length)
-      ∙ ap (λ (t : List ℕ). e ++ (g ++ t)) (drop-of-length-le (drop d (e ++ drop d f)) w)
-      ∙ ap (λ (t : List ℕ). e ++ t) (append-nil g)
-
 pub mid-length : (f : List ℕ) → length f / 2 ≡ length (take (length f / 2) f)
 mid-length f = sym (length-take-le (length f / 2) f (omega arith))
 
--- an entry is two bytes
-pub mid-fits : (m ports : ℕ) (f : List ℕ) → length f ≡ 2 ^ m * ports → m ≤ 10 → ports ≤ 16 → Fits w64 (length f / 2 * 2)
-mid-fits m ports f l h k =
-    let size : 2 ^ m ≤ 2 ^ 10 = pow-le-pow-right (omega arith) {j = 10} h in
-    omega (arith, mul-le-mul size k)
+-- the first d entries of a list were written, e, and then the others, g
+module _ (f e : List ℕ) (d : ℕ) (l : length e ≡ d) where
+  back-length : length (e ++ drop d f) - d ≡ length (drop d f)
+  back-length = omega (arith, length-append e (drop d f))
 
-pub still-le : (f e : List ℕ) → length e ≡ length (take (length f / 2) f) → length f / 2 ≤ length (e ++ drop (length f / 2) f)
-still-le f e h = omega (arith, length-front f e (length f / 2) h)
+  back-is : take (length (e ++ drop d f) - d) (drop d (e ++ drop d f)) ≡ drop d f
+  back-is = ap₂ (λ (n : ℕ) (t : List ℕ). take n t) back-length (drop-at e (drop d f) d l) ∙ take-length (drop d f)
 
-module _ (ports m : ℕ) (f : List ℕ) (some : m ≢ 0) (l : length f ≡ 2 ^ m * ports) where
-  up : suc (m - 1) ≡ m
-  up = omega arith
+  both-put : (g : List ℕ) → putMid d (length (e ++ drop d f) - d) (e ++ drop d f) g ≡ e ++ g
+  both-put g =
+      ap₂ (λ (n : ℕ) (t : List ℕ). take d (e ++ drop d f) ++ (g ++ drop n t)) back-length (drop-at e (drop d f) d l)
+      ∙ ap₂ (λ (t u : List ℕ). t ++ (g ++ u)) (take-at e (drop d f) d l) (drop-length (drop d f))
+      ∙ ap (λ (t : List ℕ). e ++ t) (append-nil g)
 
-  two-parts : length f ≡ 2 * (2 ^ (m - 1) * ports)
-  two-parts =
-      l ∙ ap (λ (x : ℕ). x * ports) (ap (λ (k : ℕ). 2 ^ k) (sym up) ∙ pow-suc 2 (m - 1) ∙ mul-comm (2 ^ (m - 1)) 2) ∙ mul-assoc 2 (2 ^ (m - 1)) ports
+module _ (ports m : ℕ) (f : List ℕ) (blank : f ≡ replicate (2 ^ m * ports) 0) where
+  -- an entry is two bytes
+  pub mid-fits : m ≤ 10 → ports ≤ 16 → Fits w64 (length f / 2 * 2)
+  mid-fits h k =
+      let size : 2 ^ m ≤ 2 ^ 10 = pow-le-pow-right (omega arith) {j = 10} h in
+      omega (arith, mul-le-mul size k, blank-length ports m f blank)
 
-  pub front-is : length (take (length f / 2) f) ≡ 2 ^ (m - 1) * ports
-  front-is = length-take-le (length f / 2) f (omega arith) ∙ omega (arith, two-parts)
+  -- as many entries as there were
+  pub framed-size : (port : End → ℕ → ℕ) (c e : List ℕ) → e ≡ frameOf ports port m c → length e ≡ length f
+  framed-size port c e h = ap length h ∙ frame-length ports port m c ∙ sym (blank-length ports m f blank)
 
-  pub back-is : (e : List ℕ) → length e ≡ length (take (length f / 2) f)
-      → length (take (length (e ++ drop (length f / 2) f) - length f / 2) (drop (length f / 2) (e ++ drop (length f / 2) f))) ≡ 2 ^ (m - 1) * ports
-  back-is e h = back-length f e (length f / 2) (omega arith) h ∙ omega (arith, two-parts)
+  module _ (some : 1 ≤ m) where
+    abbrev part : List ℕ
+    part = replicate (2 ^ (m - 1) * ports) 0
 
-  module _ (port : End → ℕ → ℕ) where
-    -- the rules' entries of the first half are as many as it has room for
-    front-size : (c e : List ℕ) → e ≡ frameOf ports port (m - 1) c → length e ≡ length (take (length f / 2) f)
-    front-size c e d = ap length d ∙ frame-length ports port (m - 1) c ∙ sym front-is
+    up : suc (m - 1) ≡ m
+    up = omega arith
 
-    -- the same, where the rules' entries are written
-    pub still-room : (c e : List ℕ) → e ≡ frameOf ports port (m - 1) c → length f / 2 ≤ length (e ++ drop (length f / 2) f)
-    still-room c e d = still-le f e (front-size c e d)
+    two-parts : f ≡ part ++ part
+    two-parts =
+        let half = 2 ^ (m - 1) * ports in
+        let twice : 2 ^ m * ports ≡ 2 * half =
+        ap (λ (x : ℕ). x * ports) (ap (λ (k : ℕ). 2 ^ k) (sym up) ∙ pow-suc 2 (m - 1) ∙ mul-comm (2 ^ (m - 1)) 2) ∙ mul-assoc 2 (2 ^ (m - 1)) ports in
+        let sum : 2 ^ m * ports ≡ half + half = omega arith in
+        blank ∙ ap (λ (n : ℕ). replicate n 0) sum ∙ sym (replicate-append-replicate half half 0)
 
-    pub back-room : (c e : List ℕ) → e ≡ frameOf ports port (m - 1) c
-        → length (take (length (e ++ drop (length f / 2) f) - length f / 2) (drop (length f / 2) (e ++ drop (length f / 2) f))) ≡ 2 ^ (m - 1) * ports
-    back-room c e d = back-is e (front-size c e d)
+    part-length : length part ≡ 2 ^ (m - 1) * ports
+    part-length = length-replicate {A = ℕ} (2 ^ (m - 1) * ports) 0
 
-    pub written : (c a b e g : List ℕ) → a ≡ halfOf port 1 c → b ≡ halfOf port 2 c → e ≡ frameOf ports port (m - 1) a → g ≡ frameOf ports port (m - 1) b
-        → putMid (length f / 2) (length (e ++ drop (length f / 2) f) - length f / 2) (e ++ drop (length f / 2) f) g ≡ frameOf ports port m c
-    written c a b e g ha hb ee eg =
-        both-put f e (length f / 2) (omega arith) (front-size a e ee) g
-        ∙ ap₂ _++_ (ee ∙ ap (frameOf ports port (m - 1)) ha) (eg ∙ ap (frameOf ports port (m - 1)) hb)
-        ∙ frame-more ports port (m - 1) c
-        ∙ ap (λ (k : ℕ). frameOf ports port k c) up
+    mid-is : length f / 2 ≡ 2 ^ (m - 1) * ports
+    mid-is = omega (arith, ap length two-parts, length-append part part, part-length)
 
-    -- as many entries as there were
-    pub written-size : (c a b e g : List ℕ) → a ≡ halfOf port 1 c → b ≡ halfOf port 2 c → e ≡ frameOf ports port (m - 1) a → g ≡ frameOf ports port (m - 1) b
-        → length (putMid (length f / 2) (length (e ++ drop (length f / 2) f) - length f / 2) (e ++ drop (length f / 2) f) g) ≡ length f
-    written-size c a b e g ha hb ee eg = ap length (written c a b e g ha hb ee eg) ∙ frame-length ports port m c ∙ sym l
+    pub front-blank : take (length f / 2) f ≡ part
+    front-blank = ap₂ (λ (n : ℕ) (t : List ℕ). take n t) mid-is two-parts ∙ take-at part part (2 ^ (m - 1) * ports) part-length
+
+    rest-blank : drop (length f / 2) f ≡ part
+    rest-blank = ap₂ (λ (n : ℕ) (t : List ℕ). drop n t) mid-is two-parts ∙ drop-at part part (2 ^ (m - 1) * ports) part-length
+
+    -- where the rules' entries of the first half are written
+    module _ (port : End → ℕ → ℕ) (a e : List ℕ) (ee : e ≡ frameOf ports port (m - 1) a) where
+      front-length : length e ≡ length f / 2
+      front-length = ap length ee ∙ frame-length ports port (m - 1) a ∙ sym mid-is
+
+      pub still-room : length f / 2 ≤ length (e ++ drop (length f / 2) f)
+      still-room = omega (arith, front-length, length-append e (drop (length f / 2) f))
+
+      pub back-blank : take (length (e ++ drop (length f / 2) f) - length f / 2) (drop (length f / 2) (e ++ drop (length f / 2) f)) ≡ part
+      back-blank = back-is f e (length f / 2) front-length ∙ rest-blank
+
+      pub written : (c b g : List ℕ) → a ≡ halfOf port 1 c → b ≡ halfOf port 2 c → g ≡ frameOf ports port (m - 1) b
+          → putMid (length f / 2) (length (e ++ drop (length f / 2) f) - length f / 2) (e ++ drop (length f / 2) f) g ≡ frameOf ports port m c
+      written c b g ha hb eg =
+          both-put f e (length f / 2) front-length g
+          ∙ ap₂ _++_ (ee ∙ ap (frameOf ports port (m - 1)) ha) (eg ∙ ap (frameOf ports port (m - 1)) hb)
+          ∙ frame-more ports port (m - 1) c
+          ∙ ap (λ (k : ℕ). frameOf ports port k c) up

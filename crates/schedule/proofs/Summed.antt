@@ -1,7 +1,6 @@
 -- The odd counts settled in a block, from those of its halves.
 use Prim.Native.Nat.{ℕ, suc, _+_, _-_, _*_, _%_, _^_, _≤_}
 use mathlib.Core.Path.{_≡_, refl, sym, ap, _∙_}
-use mathlib.Core.Logic.{_≢_}
 use mathlib.Core.List.{List}
 use native.Mathlib.Omega.{arith}
 use native.Mathlib.Nat.{mul-le-mul, pow-le-pow-right}
@@ -34,17 +33,18 @@ odds-number m n planes =
     let x = getD (countsIn (suc m) planes n) p 0 in
     byEq (x % 2) 1 (λ e. is-yes (x % 2) 1 e ∙ sym e) (λ e. is-no (x % 2) 1 e ∙ omega arith))
 
--- they have room in a number of 64 bits, and so has what is settled in a half
-pub here-low : (n h : ℕ) (planes : List ℕ) → n ≤ 528 → h ≡ length (oddsIn n planes) → h ≤ 528
-here-low n h planes t e = omega (arith, keep-most (oddAt planes) 0 n)
-
-pub half-low : (m k n : ℕ) (planes : List ℕ) (f : ℕ) → m ≤ 10 → n ≤ 528 → f ≡ settled (m - 1) (countsIn k planes n) → f ≤ 528 * 1024
+-- what is settled in a half is small, and so is the sum of both and of these
+half-low : (m k n : ℕ) (planes : List ℕ) (f : ℕ) → m ≤ 10 → n ≤ 528 → f ≡ settled (m - 1) (countsIn k planes n) → f ≤ 528 * 1024
 half-low m k n planes f v t e =
     let size : 2 ^ (m - 1) ≤ 2 ^ 10 = pow-le-pow-right (omega arith) {j = 10} (omega arith) in
     let number : length (countsIn k planes n) ≤ 528 = omega (arith, counts-length k planes n) in
     omega (arith, settled-room (m - 1) (countsIn k planes n), mul-le-mul number size)
 
-pub summed : (port : End → ℕ → ℕ) (m n : ℕ) (planes a b : List ℕ) (h f g : ℕ) → m ≢ 0 → h ≡ length (oddsIn n planes)
+pub sum-low : (m k n : ℕ) (planes a b : List ℕ) (h f g : ℕ) → m ≤ 10 → n ≤ 528 → h ≡ length (oddsIn n planes)
+    → f ≡ settled (m - 1) (countsIn k a n) → g ≡ settled (m - 1) (countsIn k b n) → h + f + g ≤ 528 * 2049
+sum-low m k n planes a b h f g v t eh ef eg = omega (arith, keep-most (oddAt planes) 0 n, half-low m k n a f v t ef, half-low m k n b g v t eg)
+
+pub summed : (port : End → ℕ → ℕ) (m n : ℕ) (planes a b : List ℕ) (h f g : ℕ) → 1 ≤ m → h ≡ length (oddsIn n planes)
     → a ≡ halfOf port 1 (countsIn (suc m) planes n) → b ≡ halfOf port 2 (countsIn (suc m) planes n)
     → f ≡ settled (m - 1) a → g ≡ settled (m - 1) b → h + f + g ≡ settled m (countsIn (suc m) planes n)
 summed port m n planes a b h f g some eh ha hb ef eg =

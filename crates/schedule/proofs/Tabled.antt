@@ -1,10 +1,10 @@
--- The input and the link of one more flow in the tables, and what the tables of a list have.
+-- The input and the link of one more flow in the table, and what the table of a list has.
 use Prim.Native.Nat.{ℕ, _+_, _-_, _%_, _≤_, _<_}
 use mathlib.Core.Path.{_≡_, refl, sym, _∙_}
 use mathlib.Core.List.{List}
 use native.Mathlib.Omega.{arith}
 use lib.Dec.{eqb}
-use lib.ListN.{set, length, length-set}
+use lib.ListN.{set, length-set}
 use lib.Seq.{getD-set-same, getD-set-other}
 use borrow.Author.Tests.{ne-eqb}
 use Rattle.rules.specs.Words.{if, Within}
@@ -14,67 +14,40 @@ use Rattle.calls.specs.Demand2.{Ported, Linked}
 use Rattle.checks.specs.Lists.{ListFits}
 use Rattle.bits.specs.Digits.{digit, PutAt}
 use Rattle.bits.proofs.Digits.{digit-none, if-same, if-other}
-use Rattle.split.specs.Steps.{Wide, lookup, tabled, Sides, Outputs, MultiLink}
+use Rattle.split.specs.Steps.{WideEnds, tabled, Outputs, Sides}
 use Rattle.schedule.specs.Steps.{Tables, Tabled}
 
 -- ---- one more flow
-pub record Tabling (list : List ℕ) (n f multi : ℕ) (ins outs : List ℕ) : Type 0 where
+pub record Tabling (list : List ℕ) (n f multi : ℕ) (ends : List ℕ) : Type 0 where
   pub all : n ≡ flows list
   pub few : flows list ≤ 512
   pub ported : Ported 16 list
   pub linked : Linked list
   pub most : f ≤ n
-  pub in-len : Wide ins
-  pub out-len : Wide outs
-  pub has : (s : End) (q : ℕ) → q < f → tabled ins outs s q ≡ portOf list s q
-  pub outputs : MultiLink f multi outs
+  pub len : WideEnds ends
+  pub has : (s : End) (q : ℕ) → q < f → tabled ends s q ≡ portOf list s q
+  pub outputs : Outputs multi
+  pub firsts : (q : ℕ) → q < f → digit multi (outputOf (portOf list links q)) ≡ 0 → portOf list links q % 4 ≡ 0
 
-pub tabling-start : {list ins outs : List ℕ} {n : ℕ} → n ≡ flows list → ListFits 16 list → Wide ins → Wide outs → Tabling list n 0 0 ins outs
-tabling-start e t a b =
+pub tabling-start : {list ends : List ℕ} {n : ℕ} → n ≡ flows list → ListFits 16 list → WideEnds ends → Tabling list n 0 0 ends
+tabling-start e t l =
     record {
       all = e;
       few = t .few;
       ported = t .ported;
       linked = t .linked;
       most = omega arith;
-      in-len = a;
-      out-len = b;
+      len = l;
       has = λ s q h. absurd (omega arith);
-      outputs = record { few = λ o a. absurd (omega (arith, digit-none o)); low = λ p h. absurd (omega arith); others = λ p h. absurd (omega arith) };
+      outputs = λ o a. absurd (omega (arith, digit-none o));
+      firsts = λ q h. absurd (omega arith);
     }
 
-one-more : (f : ℕ → ℕ) (l : List ℕ) (p x : ℕ) → p < length l → x ≡ f p → ((q : ℕ) → q < p → lookup l q ≡ f q) → (q : ℕ) → q < p + 1
-    → lookup (set l p x) q ≡ f q
-one-more f l p x h e g q k = byEq q p (λ d. rw d (getD-set-same l p x 0 h ∙ e)) (λ d. getD-set-other l p q x 0 d ∙ g q (omega arith))
-
--- the digit of the output of one link more, unless it is the first
-multi-more : (n multi x d r : ℕ) (outs : List ℕ) → n < length outs → x < 64 → d ≡ if (eqb (x % 4) 0) 0 1 → PutAt multi (outputOf x) d r → MultiLink n multi outs
-    → MultiLink (n + 1) r (set outs n x)
-multi-more n multi x d r outs h low ed u s = record { few = few; low = each; others = others }
-  where
-    few : Outputs r
-    few o a = byEq o (outputOf x) (λ e. omega arith) (λ e. s .few o (omega (arith, u .put o, if-other o (outputOf x) d e)))
-
-    each : (p : ℕ) → p < n + 1 → lookup (set outs n x) p < 64
-    each p k =
-        byEq p n (λ e. rw e (omega (arith, getD-set-same outs n x 0 h)))
-        (λ e. omega (arith, getD-set-other outs n p x 0 e, s .low p (omega arith)))
-
-    others : (p : ℕ) → p < n + 1 → digit r (outputOf (lookup (set outs n x) p)) ≡ 0 → lookup (set outs n x) p % 4 ≡ 0
-    others p k =
-        byEq p n (λ e. rw (e, getD-set-same outs n x 0 h) own)
-        (λ e. rw (getD-set-other outs n p x 0 e) (λ l. s .others p (omega arith) (omega (arith, u .put (outputOf (lookup outs p))))))
-      where
-        own : digit r (outputOf x) ≡ 0 → x % 4 ≡ 0
-        own l =
-            byEq (x % 4) 0 (λ e. e)
-            (λ e. let one : d ≡ 1 = rw (ne-eqb (x % 4) 0 e) at ed in absurd (omega (arith, u .put (outputOf x), if-same (outputOf x) (outputOf x) d refl)))
-
-module _ {list ins outs : List ℕ} {n f multi : ℕ} (t : Tabling list n f multi ins outs) (h : f < n) where
+module _ {list ends : List ℕ} {n f multi : ℕ} (t : Tabling list n f multi ends) (h : f < n) where
   pub tabling-in : f < flows list
   tabling-in = omega (arith, t .all)
 
-  pub tabling-low : f < 528
+  pub tabling-low : f < 512
   tabling-low = omega (arith, t .all, t .few)
 
   -- the number of an input, from 1
@@ -88,7 +61,7 @@ module _ {list ins outs : List ℕ} {n f multi : ℕ} (t : Tabling list n f mult
   link-in = t .linked f tabling-in
 
   pub tabling-on : {x y d r : ℕ} → x ≡ numberOf 0 list f → y ≡ portOf list links f → y < 64 → d ≡ if (eqb (y % 4) 0) 0 1 → PutAt multi (outputOf y) d r
-      → Tabling list n (f + 1) r (set ins f (x - 1)) (set outs f y)
+      → Tabling list n (f + 1) r (set (set ends (0 + f) (x - 1)) (528 + f) y)
   unfolding portOf
   tabling-on {x} {y} {d} {r} ex ey low ed put =
       record {
@@ -97,39 +70,59 @@ module _ {list ins outs : List ℕ} {n f multi : ℕ} (t : Tabling list n f mult
         ported = t .ported;
         linked = t .linked;
         most = omega arith;
-        in-len = length-set ins f (x - 1) ∙ t .in-len;
-        out-len = length-set outs f y ∙ t .out-len;
+        len = length-set half (528 + f) y ∙ length-set ends (0 + f) (x - 1) ∙ t .len;
         has = has;
-        outputs = multi-more f multi y d r outs (omega (arith, t .out-len, tabling-low)) low ed put (t .outputs);
+        outputs = λ o a. byEq o (outputOf y) (λ e. omega arith) (λ e. t .outputs o (omega (arith, put .put o, if-other o (outputOf y) d e)));
+        firsts = λ q k. byEq q f (λ e. rw (e, sym ey) own) (λ e l. t .firsts q (omega arith) (omega (arith, put .put (outputOf (portOf list links q)))));
       }
     where
-      has : (s : End) (q : ℕ) → q < f + 1 → tabled (set ins f (x - 1)) (set outs f y) s q ≡ portOf list s q
-      has inputs = one-more (portOf list inputs) ins f (x - 1) (omega (arith, t .in-len, tabling-low)) (omega arith) (t .has inputs)
-      has links = one-more (portOf list links) outs f y (omega (arith, t .out-len, tabling-low)) ey (t .has links)
+      half : List ℕ
+      half = set ends (0 + f) (x - 1)
 
-module _ {list ins outs : List ℕ} {n f multi : ℕ} (t : Tabling list n f multi ins outs) (h : n ≤ f) where
+      has : (s : End) (q : ℕ) → q < f + 1 → tabled (set (set ends (0 + f) (x - 1)) (528 + f) y) s q ≡ portOf list s q
+      has inputs q k =
+          getD-set-other (set ends (0 + f) (x - 1)) (528 + f) (0 + q) y 0 (omega (arith, tabling-low))
+          ∙ byEq q f
+          (λ e. rw e (getD-set-same ends (0 + f) (x - 1) 0 (omega (arith, t .len, tabling-low)) ∙ omega arith))
+          (λ e. getD-set-other ends (0 + f) (0 + q) (x - 1) 0 (omega arith) ∙ t .has inputs q (omega arith))
+      has links q k =
+          byEq q f
+          (λ e. rw e (getD-set-same (set ends (0 + f) (x - 1)) (528 + f) y 0 (omega (arith, length-set ends (0 + f) (x - 1), t .len, tabling-low)) ∙ ey))
+          (λ e.
+          getD-set-other (set ends (0 + f) (x - 1)) (528 + f) (528 + q) y 0 (omega arith)
+          ∙ getD-set-other ends (0 + f) (528 + q) (x - 1) 0 (omega (arith, tabling-low))
+          ∙ t .has links q (omega arith))
+
+      -- the digit of the output of its link, unless that is the first
+      own : digit r (outputOf y) ≡ 0 → y % 4 ≡ 0
+      own l =
+          byEq (y % 4) 0 (λ e. e)
+          (λ e. let one : d ≡ 1 = rw (ne-eqb (y % 4) 0 e) at ed in absurd (omega (arith, put .put (outputOf y), if-same (outputOf y) (outputOf y) d refl)))
+
+module _ {list ends : List ℕ} {n f multi : ℕ} (t : Tabling list n f multi ends) (h : n ≤ f) where
   all-tabled : f ≡ flows list
   all-tabled = omega (arith, t .all, t .most)
 
-  pub tabling-end : Tabled list ins outs
+  pub tabling-end : Tabled list ends
   tabling-end = record { has = λ s q k. t .has s q (omega (arith, all-tabled)) }
 
-  pub multi-end : MultiLink (flows list) multi outs
-  multi-end = rw (sym all-tabled) (t .outputs)
-
--- ---- the tables of a list
-module _ {ports : ℕ} {list ins outs : List ℕ} (t : ListFits ports list) (h : Tabled list ins outs) where
-  low : (f : ℕ) → f < flows list → lookup ins f < ports
+  pub sides-end : Sides (flows list) multi ends
   unfolding portOf
-  low f l = let p = t .ported inputs f l in omega (arith, h .has inputs f l)
+  sides-end = record { low = low; few = t .outputs; others = λ p k. rw (tabling-end .has links p k) (t .firsts p (omega (arith, all-tabled))) }
+    where
+      low : (s : End) (p : ℕ) → p < flows list → tabled ends s p < 64
+      low inputs p k = let a = t .ported inputs p k in omega (arith, tabling-end .has inputs p k)
+      low links p k = let a = t .ported links p k in let b = t .linked p k in omega (arith, tabling-end .has links p k)
 
-  pub tables-of : {n multi : ℕ} → MultiLink (flows list) multi outs → n ≡ flows list → Tables ports n multi ins outs
-  tables-of s e =
-      record {
-        few = t .most;
-        at-inputs = record { most = omega (arith, t .few); low = λ p l. low p (omega arith) };
-        at-outputs = rw e s;
-      }
+-- ---- the table of a list
+pub tables-of : {ports n multi : ℕ} {list ends : List ℕ} → ListFits ports list → Tabled list ends → Sides (flows list) multi ends → n ≡ flows list → Tables ports n multi ends
+unfolding portOf
+tables-of t h s e =
+    record {
+      few = t .most;
+      at-inputs = λ p l. let a = t .ported inputs p (omega arith) in omega (arith, h .has inputs p (omega arith));
+      sides = rw e s;
+    }
 
 -- a list's ports are among 16
 pub taken-most : {ports : ℕ} {list : List ℕ} → ListFits ports list → ListFits 16 list
@@ -140,10 +133,3 @@ taken-most t =
       ported = λ s f h. let p = t .ported s f h in let m = t .most in (omega arith, omega arith);
       linked = t .linked;
     }
-
-pub sides-of : {ports n multi : ℕ} {ins outs : List ℕ} → Tables ports n multi ins outs → Sides n ins outs
-sides-of {ports} {n} {multi} {ins} {outs} t = record { most = t .at-inputs .most; low = low64 }
-  where
-    low64 : (s : End) (p : ℕ) → p < n → tabled ins outs s p < 64
-    low64 inputs p h = omega (arith, t .at-inputs .low p h, t .few)
-    low64 links p h = t .at-outputs .low p h

@@ -4,10 +4,10 @@ use mathlib.Core.Path.{_≡_}
 use mathlib.Core.List.{List}
 use lib.ListN.{length}
 use Rattle.rules.specs.Words.{Every}
-use Rattle.rules.specs.Flows.{End, flows, portOf, countsOf, Fits}
+use Rattle.rules.specs.Flows.{End, inputs, flows, portOf, countsOf, Fits}
 use Rattle.rules.specs.Schedule.{put}
 use Rattle.calls.specs.Demand2.{WellFormed}
-use Rattle.split.specs.Steps.{lookup, tabled, MultiLink}
+use Rattle.split.specs.Steps.{tabled, Sides}
 
 -- ---- what is built
 -- A well-formed load that fits, and a frame of the right size.
@@ -17,30 +17,25 @@ pub record Fillable (ports slots : ℕ) (list buffer : List ℕ) : Type 0 where
   pub fits : Fits ports slots (portOf list) (countsOf list)
 
 -- ---- ports
--- A table has ports of a switch of so many for the first n positions.
-pub record Table (ports n : ℕ) (table : List ℕ) : Type 0 where
-  pub most : n ≤ 528
-  pub low : (p : ℕ) → p < n → lookup table p < ports
+-- A table has inputs of a switch of so many ports for the first n positions; and what a split is told of the ends of these.
+abbrev pub InputsBelow : ℕ → ℕ → List ℕ → Type 0
+InputsBelow ports n ends = (p : ℕ) → p < n → tabled ends inputs p < ports
 
-pub record Tables (ports n multi : ℕ) (ins outs : List ℕ) : Type 0 where
+pub record Tables (ports n multi : ℕ) (ends : List ℕ) : Type 0 where
   pub few : ports ≤ 16
-  pub at-inputs : Table ports n ins
-  pub at-outputs : MultiLink n multi outs
+  pub at-inputs : InputsBelow ports n ends
+  pub sides : Sides n multi ends
 
--- Two tables have the input and the link of every flow of a list.
-pub record Tabled (list ins outs : List ℕ) : Type 0 where
-  pub has : (s : End) (f : ℕ) → f < flows list → tabled ins outs s f ≡ portOf list s f
+-- A table has the input and the link of every flow of a list.
+pub record Tabled (list ends : List ℕ) : Type 0 where
+  pub has : (s : End) (f : ℕ) → f < flows list → tabled ends s f ≡ portOf list s f
 
 -- ---- slots
--- A slot is written by the inputs alone: the ports of one table stand for both sides.
-abbrev pub atInputs : List ℕ → End → ℕ → ℕ
-atInputs ins s = lookup ins
-
 -- A list has positions at the inputs of a slot.
-pub record AtSlot (ins : List ℕ) (ports : ℕ) (list : List ℕ) : Type 0 where
-  pub each : Every (λ p. (p < 528) × (lookup ins p < ports)) list
+pub record AtSlot (ends : List ℕ) (ports : ℕ) (list : List ℕ) : Type 0 where
+  pub each : Every (λ p. (p < 528) × (tabled ends inputs p < ports)) list
 
 -- The slot was s, and with the numbers of a list written it is t.
-pub record PutBy (ins list s t : List ℕ) : Type 0 where
+pub record PutBy (ends list s t : List ℕ) : Type 0 where
   pub len : length t ≡ length s
-  pub same : t ≡ put (atInputs ins) list s
+  pub same : t ≡ put (tabled ends) list s

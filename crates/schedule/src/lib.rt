@@ -10,58 +10,45 @@ use planes::POSITIONS;
 use planes::halve::halve;
 use planes::mark::others;
 use planes::store::store_list;
+use split::ENDS;
 use split::split;
 ghost use mathlib.Core.Path.{_≡_};
 ghost use Prim.Native.Nat.{suc, _*_, _^_, _≤_};
-ghost use lib.ListN.{length};
+ghost use lib.ListN.{replicate};
 ghost use Rattle.rules.specs.Flows.{countsOf};
 ghost use Rattle.rules.specs.Frames.{levels};
 ghost use Rattle.rules.specs.Schedule.{frameOf};
 ghost use Rattle.rules.specs.OddShares.{settled};
 ghost use Rattle.calls.specs.Build.{frameFor};
 ghost use Rattle.planes.specs.Planes.{countsIn, BlockPlanes};
-ghost use Rattle.split.specs.Steps.{tabled, Scratch};
+ghost use Rattle.split.specs.Steps.{Wide, WideEnds, tabled};
 ghost use Rattle.schedule.specs.Steps.{Fillable, Tables};
 
-// A block of 2^m slots: its length falls by half with each call, down to a single slot, which is written. The answer is how many odd
-// counts were settled, here and in the blocks within.
+// A block of 2^m slots, which are idle before: its length falls by half with each call, down to a single slot, which is written. The
+// answer is how many odd counts were settled, here and in the blocks within.
 fn block(
     planes: &[u64; PLANES_WORDS],
     m: usize,
     n: usize,
     ports: usize,
-    ins: &[u8; POSITIONS],
-    outs: &[u8; POSITIONS],
-    multi_link: u64,
+    ends: &[u8; ENDS],
     odds: &mut [u16; POSITIONS],
-    in_mates: &mut [u16; POSITIONS],
-    out_mates: &mut [u16; POSITIONS],
-    group: &mut [u16; POSITIONS],
+    mates: &mut [u16; ENDS],
+    multi_link: u64,
     frame: &mut [u16],
 ) -> usize
-    requires { ⌜ (m ≤ 10) × Tables ports n «multi_link» (now ins) (now outs) × BlockPlanes m n (now planes)
-        × Scratch (now odds) (now «in_mates») (now «out_mates») (now group) × (length (now frame) ≡ 2 ^ m * ports) ⌝ }
+    requires { ⌜ (m ≤ 10) × Tables ports n «multi_link» (now ends) × BlockPlanes m n (now planes)
+        × Wide (now odds) × WideEnds (now mates) × (now frame ≡ replicate (2 ^ m * ports) 0) ⌝ }
     ensures { λ r. ⌜ (r ≡ settled m (countsIn (suc m) (now (planes .entry)) n))
-        × (now (frame .exit) ≡ frameOf ports (tabled (now (ins .entry)) (now (outs .entry))) m (countsIn (suc m) (now (planes .entry)) n))
-        × Scratch (now (odds .exit)) (now («in_mates» .exit)) (now («out_mates» .exit)) (now (group .exit)) ⌝ }
+        × (now (frame .exit) ≡ frameOf ports (tabled (now (ends .entry))) m (countsIn (suc m) (now (planes .entry)) n))
+        × Wide (now (odds .exit)) × WideEnds (now (mates .exit)) ⌝ }
 {
     if m == 0 {
-        slots::write(planes, n, ports, ins, frame);
+        slots::write(planes, n, ends, frame);
         return 0;
     }
     let mut mask = [0u64; PLANE_WORDS];
-    let here = split(
-        planes,
-        n,
-        ins,
-        outs,
-        multi_link,
-        odds,
-        in_mates,
-        out_mates,
-        group,
-        &mut mask,
-    );
+    let here = split(planes, n, ends, multi_link, odds, mates, &mut mask);
     let mut half = [0u64; PLANES_WORDS];
     let mid = frame.len() / 2;
     halve(planes, m, n, &mask, &mut half);
@@ -70,13 +57,10 @@ fn block(
         m - 1,
         n,
         ports,
-        ins,
-        outs,
-        multi_link,
+        ends,
         odds,
-        in_mates,
-        out_mates,
-        group,
+        mates,
+        multi_link,
         &mut frame[..mid],
     );
     others(planes, n, &mut mask);
@@ -86,13 +70,10 @@ fn block(
         m - 1,
         n,
         ports,
-        ins,
-        outs,
-        multi_link,
+        ends,
         odds,
-        in_mates,
-        out_mates,
-        group,
+        mates,
+        multi_link,
         &mut frame[mid..],
     );
     here + front + back
@@ -107,26 +88,21 @@ pub fn fill(ports: usize, slots: usize, list: &[u16], frame: &mut [u16]) -> usiz
     let m = levels_of(slots);
     let n = flows_of(list);
     let mut planes = [0u64; PLANES_WORDS];
-    let mut ins = [0u8; POSITIONS];
-    let mut outs = [0u8; POSITIONS];
+    let mut ends = [0u8; ENDS];
     store_list(list, &mut planes);
-    let multi_link = positions::tabulate(list, &mut ins, &mut outs);
+    let multi_link = positions::tabulate(list, &mut ends);
     let mut odds = [0u16; POSITIONS];
-    let mut in_mates = [0u16; POSITIONS];
-    let mut out_mates = [0u16; POSITIONS];
-    let mut group = [0u16; POSITIONS];
+    let mut mates = [0u16; ENDS];
+    slots::clear(frame);
     block(
         &planes,
         m,
         n,
         ports,
-        &ins,
-        &outs,
-        multi_link,
+        &ends,
         &mut odds,
-        &mut in_mates,
-        &mut out_mates,
-        &mut group,
+        &mut mates,
+        multi_link,
         frame,
     )
 }

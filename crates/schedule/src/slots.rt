@@ -1,58 +1,52 @@
 // Slots: the counts of a block of one slot as entries.
 use bits::byte;
 use planes::PLANES_WORDS;
-use planes::POSITIONS;
 use planes::words::words_of;
+use split::ENDS;
+use split::INPUTS;
 ghost use mathlib.Core.Path.{_≡_};
 ghost use Prim.Native.Nat.{_*_, _≤_};
 ghost use lib.ListN.{length, replicate};
 ghost use Rattle.rules.specs.Schedule.{slotOf};
 ghost use Rattle.bits.specs.Digits.{places};
 ghost use Rattle.planes.specs.Planes.{countsIn, Ends};
-ghost use Rattle.schedule.specs.Steps.{Table, atInputs, AtSlot, PutBy};
+ghost use Rattle.split.specs.Steps.{tabled};
+ghost use Rattle.schedule.specs.Steps.{InputsBelow, AtSlot, PutBy};
 
-// Every input is idle until a cell is written.
-fn clear(ports: usize, slot: &mut [u16])
-    requires { ⌜ length (now slot) ≡ ports ⌝ }
-    ensures { λ _. ⌜ now (slot .exit) ≡ replicate ports 0 ⌝ }
+// Every entry is idle until a cell is written.
+pub(crate) fn clear(frame: &mut [u16])
+    ensures { λ _. ⌜ now (frame .exit) ≡ replicate (length (now (frame .entry))) 0 ⌝ }
 {
     let mut i: usize = 0;
-    while i < ports {
-        slot[i] = 0;
+    while i < frame.len() {
+        frame[i] = 0;
         i += 1;
     }
 }
 
 // The entry at an input is the number of its flow, from 1.
-fn put_cells(x: u64, base: usize, ins: &[u8; POSITIONS], slot: &mut [u16])
-    requires { ⌜ (base ≤ 512) × AtSlot (now ins) (length (now slot)) (places base 64 x) ⌝ }
-    ensures { λ _. ⌜ PutBy (now (ins .entry)) (places base 64 x) (now (slot .entry)) (now (slot .exit)) ⌝ }
+fn put_cells(x: u64, base: usize, ends: &[u8; ENDS], slot: &mut [u16])
+    requires { ⌜ (base ≤ 512) × AtSlot (now ends) (length (now slot)) (places base 64 x) ⌝ }
+    ensures { λ _. ⌜ PutBy (now (ends .entry)) (places base 64 x) (now (slot .entry)) (now (slot .exit)) ⌝ }
 {
     let mut rest = x;
     while rest != 0 {
         let p = base + u64::trailing_zeros(rest) as usize;
-        let input = byte(ins[p]);
+        let input = byte(ends[INPUTS + p]);
         slot[input] = (p + 1) as u16;
         rest = rest & (rest - 1);
     }
 }
 
-// In a block of one slot the odd counts are the cells.
-pub(crate) fn write(
-    planes: &[u64; PLANES_WORDS],
-    n: usize,
-    ports: usize,
-    ins: &[u8; POSITIONS],
-    slot: &mut [u16],
-)
-    requires { ⌜ Table ports n (now ins) × Ends n (now planes) × (length (now slot) ≡ ports) ⌝ }
-    ensures { λ _. ⌜ now (slot .exit) ≡ slotOf ports (atInputs (now (ins .entry))) (countsIn 1 (now (planes .entry)) n) ⌝ }
+// In a block of one slot the odd counts are the cells of the slot, which is idle before.
+pub(crate) fn write(planes: &[u64; PLANES_WORDS], n: usize, ends: &[u8; ENDS], slot: &mut [u16])
+    requires { ⌜ InputsBelow (length (now slot)) n (now ends) × Ends n (now planes) × (now slot ≡ replicate (length (now slot)) 0) ⌝ }
+    ensures { λ _. ⌜ now (slot .exit) ≡ slotOf (length (now (slot .entry))) (tabled (now (ends .entry))) (countsIn 1 (now (planes .entry)) n) ⌝ }
 {
-    clear(ports, slot);
     let words = words_of(n);
     let mut w: usize = 0;
     while w < words {
-        put_cells(planes[w], w * 64, ins, slot);
+        put_cells(planes[w], w * 64, ends, slot);
         w += 1;
     }
 }

@@ -1,6 +1,6 @@
 -- What the steps settle is what the definitions settle.
-use Prim.Native.Nat.{ℕ, suc, zero, _+_, _-_, _≤_, _<_}
-use mathlib.Core.Path.{_≡_, refl, sym, ap, ap₂, _∙_, subst}
+use Prim.Native.Nat.{ℕ, suc, zero, _+_, _-_, _%_, _≤_, _<_}
+use mathlib.Core.Path.{_≡_, refl, sym, ap, _∙_}
 use mathlib.Core.Logic.{_≢_}
 use mathlib.Core.List.{List, [], _∷_}
 use mathlib.Core.Bool.{Bool, true, false}
@@ -9,21 +9,19 @@ use lib.Dec.{eqb}
 use lib.ListN.{length, getD, set, take, drop, replicate, length-set, length-replicate}
 use lib.Seq.{length-take-le, getD-take, take-set-lt, drop-set-lt}
 use borrow.Author.Tests.{eq-eqb, ne-eqb}
-use Rattle.rules.specs.Words.{both, upFrom, keep, Every}
-use Rattle.rules.specs.Flows.{inputs, links}
+use Rattle.rules.specs.Words.{upFrom, keep, Every}
+use Rattle.rules.specs.Flows.{End, inputs, links}
 use Rattle.rules.specs.Rules.{odd}
-use Rattle.rules.specs.Schedule.{partnerIn, partner, outputPartner, walk, groupOf, favouring, level, settleAt, settle, favours}
+use Rattle.rules.specs.Schedule.{walk, groupOf, favouring, level, settleAt, settle, favours}
 use Rattle.rules.proofs.Cases.{byBool, byEq}
+use Rattle.rules.proofs.Lists.{every-map}
 use Rattle.rules.proofs.Partners.{odd-lt, partner-at}
-use Rattle.rules.proofs.Singles.{output-odd}
-use Rattle.rules.proofs.SamePorts.{output-same}
-use Rattle.rules.proofs.Kept.{keep-same, keep-keep}
+use Rattle.rules.proofs.Singles.{output-odd, mate}
+use Rattle.rules.proofs.Kept.{keep-every}
 use Rattle.rules.proofs.Favouring.{none-favour, settled-less, unsettled-most}
 use Rattle.rules.proofs.Walks.{walk-on, walk-off, walk-length}
-use Rattle.split.specs.Steps.{lookup, tabled, Sides, MultiLink, portIn, thoseAt, mateAmong, AllMated, MatedOut, walked, bothWays, groupSettled, allSettled, SettledBy}
-use Rattle.split.proofs.Lists.{every-kept}
+use Rattle.split.specs.Steps.{tabled, Sides, OddsOf, MatedBy, reached, ReachesBoth, walked, bothWays, groupSettled, allSettled, SettledBy}
 use Rattle.split.proofs.Walked.{walk-end}
-use Rattle.split.proofs.Mated.{Mated}
 
 -- ---- walks
 none-zero : (c : List ℕ) (q : ℕ) → favouring 0 c ≤ 0 → q < length c → getD c q 0 ≢ 0
@@ -70,11 +68,11 @@ module _ (n : ℕ) (od : ℕ → Bool) (od-lt : (p : ℕ) → od p ≡ true → 
       let e′ : getD c (go p) 0 ≢ 0 = rw f e in
       ap (take n) (walk-off j go back p h c e′) ∙ sym (walk-off k go′ back′ p h (take n c) (omega arith)))
 
-  walked-take : (go back : List ℕ) (go′ back′ : ℕ → ℕ) → Does (lookup go) go′ → Does (lookup back) back′
+  walked-take : (go back go′ back′ : ℕ → ℕ) → Does go go′ → Does back back′
       → (p h : ℕ) (c : List ℕ) → n ≤ length c → od p ≡ true → 1 ≤ h → h ≤ 2
       → take n (walked go back p h c) ≡ walk n go′ back′ p h (take n c)
   walked-take go back go′ back′ dg db p h c l o low high =
-      walk-take (lookup go) (lookup back) go′ back′ dg db (length c) n p h c l o low high (unsettled-most c) (omega (arith, unsettled-most (take n c), length-take-le n c l))
+      walk-take go back go′ back′ dg db (length c) n p h c l o low high (unsettled-most c) (omega (arith, unsettled-most (take n c), length-take-le n c l))
 
   -- and nothing behind them is touched
   walk-drop : (go back go′ back′ : ℕ → ℕ) → Does go go′ → Does back back′ → (j p h : ℕ) (c : List ℕ) → od p ≡ true → drop n (walk j go back p h c) ≡ drop n c
@@ -105,26 +103,25 @@ zeros-blank (suc n) zero h m = refl
 zeros-blank (suc n) (suc k) h m = zeros-blank n k h m
 
 -- ---- groups
-module _ (m i o : List ℕ) (i′ o′ : ℕ → ℕ) (di : Does (length m) (odd m) (odd-lt m) (lookup i) i′)
-    (do′ : Does (length m) (odd m) (odd-lt m) (lookup o) o′) where
+module _ (m : List ℕ) (i o i′ o′ : ℕ → ℕ) (di : Does (length m) (odd m) (odd-lt m) i i′) (do′ : Does (length m) (odd m) (odd-lt m) o o′) where
   module _ (h : ℕ) (low : 1 ≤ h) (high : h ≤ 2) (p : ℕ) (c : List ℕ) (l : length m ≤ length c) (e : odd m p ≡ true) where
     both-length : length (bothWays i o h p c) ≡ length c
     both-length =
-        walk-length (length (walked i o p h (set c p h))) (lookup o) (lookup i) p h (walked i o p h (set c p h))
-        ∙ walk-length (length (set c p h)) (lookup i) (lookup o) p h (set c p h) ∙ length-set c p h
+        walk-length (length (walked i o p h (set c p h))) o i p h (walked i o p h (set c p h))
+        ∙ walk-length (length (set c p h)) i o p h (set c p h) ∙ length-set c p h
 
     both-take : take (length m) (bothWays i o h p c) ≡ groupOf i′ o′ m h p (take (length m) c)
     both-take =
         let c1 : length m ≤ length (set c p h) = rw (length-set c p h) l in
-        let c2 : length m ≤ length (walked i o p h (set c p h)) = rw (walk-length (length (set c p h)) (lookup i) (lookup o) p h (set c p h)) c1 in
+        let c2 : length m ≤ length (walked i o p h (set c p h)) = rw (walk-length (length (set c p h)) i o p h (set c p h)) c1 in
         walked-take (length m) (odd m) (odd-lt m) o i o′ i′ do′ di p h (walked i o p h (set c p h)) c2 e low high
         ∙ ap (λ (d : List ℕ). walk (length m) o′ i′ p h d) (walked-take (length m) (odd m) (odd-lt m) i o i′ o′ di do′ p h (set c p h) c1 e low high
         ∙ ap (λ (d : List ℕ). walk (length m) i′ o′ p h d) (take-set-lt (length m) c p h (odd-lt m p e)))
 
     both-drop : drop (length m) (bothWays i o h p c) ≡ drop (length m) c
     both-drop =
-        walk-drop (length m) (odd m) (odd-lt m) (lookup o) (lookup i) o′ i′ do′ di (length (walked i o p h (set c p h))) p h (walked i o p h (set c p h)) e
-        ∙ walk-drop (length m) (odd m) (odd-lt m) (lookup i) (lookup o) i′ o′ di do′ (length (set c p h)) p h (set c p h) e
+        walk-drop (length m) (odd m) (odd-lt m) o i o′ i′ do′ di (length (walked i o p h (set c p h))) p h (walked i o p h (set c p h)) e
+        ∙ walk-drop (length m) (odd m) (odd-lt m) i o i′ o′ di do′ (length (set c p h)) p h (set c p h) e
         ∙ drop-set-lt (length m) c p h (odd-lt m p e)
 
     both-blank : Blank (length m) c → Blank (length m) (bothWays i o h p c)
@@ -171,60 +168,51 @@ module _ (m i o : List ℕ) (i′ o′ : ℕ → ℕ) (di : Does (length m) (odd
       off : (p : ℕ) (c : List ℕ) → odd m p ≡ false → settleAt i′ o′ m p (take (length m) c) ≡ take (length m) c
       off p c e = rw (e, settleAt)
 
--- ---- partners
--- the positions of the odd counts of a list
-abbrev odds-of : List ℕ → List ℕ
-odds-of m = keep (odd m) (upFrom 0 (length m))
-
--- the port that a table has, as one of 64, is that which it has
-port-is : (m table : List ℕ) → ((p : ℕ) → p < length m → lookup table p < 64) → (q : ℕ) → q < length m → portIn table q ≡ lookup table q
-port-is m table low q g = let l = low q g in omega arith
-
--- the partner in the list is the partner of the definitions
-mate-is : (m table : List ℕ) → ((p : ℕ) → p < length m → lookup table p < 64) → (p : ℕ) → p < length m
-    → mateAmong table (odds-of m) p ≡ partner (lookup table) m p
-mate-is m table low p h =
-    ap (λ (x : ℕ). partnerIn (thoseAt table x (odds-of m)) p) (port-is m table low p h)
-    ∙ ap (λ (l : List ℕ). partnerIn l p)
-    (keep-keep (odd m) (λ q. eqb (portIn table q) (lookup table p)) (upFrom 0 (length m))
-    ∙ keep-same (λ q. both (odd m q) (eqb (portIn table q) (lookup table p))) (λ q. both (odd m q) (eqb (lookup table q) (lookup table p))) 0 (length m)
-    (λ q g. ap (λ (x : ℕ). both (odd m q) (eqb x (lookup table p))) (port-is m table low q (omega arith))))
-
-does-inputs : (m table mates : List ℕ) → ((p : ℕ) → p < length m → lookup table p < 64) → Every (Mated table mates (odds-of m)) (odds-of m)
-    → Does (length m) (odd m) (odd-lt m) (lookup mates) (partner (lookup table) m)
-does-inputs m table mates low al p o =
-    let p-lt = odd-lt m p o in (
-      every-kept (Mated table mates (odds-of m)) (odd m) 0 (length m) al p (omega arith) (omega arith) o ∙ mate-is m table low p p-lt,
-      partner-at (lookup table) m p o .0,
-    )
-
-does-outputs : (m table mates : List ℕ) → ((p : ℕ) → p < length m → lookup table p < 64)
-    → ((p : ℕ) → odd m p ≡ true → lookup mates p ≡ outputPartner (portIn table) m p)
-    → Does (length m) (odd m) (odd-lt m) (lookup mates) (outputPartner (lookup table) m)
-does-outputs m table mates low same p o = (
-  same p o ∙ output-same (portIn table) (lookup table) m (port-is m table low) p,
-  output-odd (lookup table) m p o,
-)
-
 take-zeros : (n k : ℕ) → n ≤ k → take {A = ℕ} n (replicate k 0) ≡ replicate n 0
 take-zeros zero k h = refl
 take-zeros (suc n) zero h = absurd (omega arith)
 take-zeros (suc n) (suc k) h = ap (λ (l : List ℕ). 0 ∷ l) (take-zeros n k (omega arith))
 
--- ---- the half that each count favours
--- the steps over a list of the odd counts of m settle what the definitions settle
-pub favoured-is : {n k multi : ℕ} {ins outs odds i o c : List ℕ} (m : List ℕ) → Sides n ins outs → MultiLink n multi outs → length m ≡ n
-    → take k odds ≡ keep (odd m) (upFrom 0 n) → AllMated ins odds k i → MatedOut multi outs odds k o → SettledBy i o odds k (replicate 528 0) c → take n c ≡ favours (tabled ins outs) m
-unfolding favours
-favoured-is {n} {k} {multi} {ins} {outs} {odds} {i} {o} {c} m t sh len g li lo s =
-    let z : List ℕ = replicate 528 0 in
-    let i′ = partner (lookup ins) m in
-    let o′ = outputPartner (lookup outs) m in
-    let g′ : take k odds ≡ odds-of m = g ∙ ap (λ (j : ℕ). keep (odd m) (upFrom 0 j)) (sym len) in
-    let di = does-inputs m ins i (λ p h. t .low inputs p (omega arith)) (subst (λ (l : List ℕ). Every (Mated ins i l) l) g′ (li .same)) in
-    let sh′ : MultiLink (length m) multi outs = subst (λ (j : ℕ). MultiLink j multi outs) (sym len) sh in
-    let do′ = does-outputs m outs o (λ p h. t .low links p (omega arith)) (lo .same m g′ sh′) in
-    let wz : length m ≤ length z = omega (arith, t .most, length-replicate {A = ℕ} 528 0) in
-    ap₂ (λ (j : ℕ) (d : List ℕ). take j d) (sym len) (s .same ∙ ap (λ (l : List ℕ). allSettled i o l z) g′)
-    ∙ all-take m i o i′ o′ di do′ (length m) 0 z wz (zeros-blank (length m) 528)
-    ∙ ap (settle i′ o′ m (upFrom 0 (length m))) (take-zeros (length m) 528 (omega (arith, t .most)))
+-- ---- partners
+-- the mates of odd counts are their partners, and odd too
+module _ {multi : ℕ} {ends odds before mates : List ℕ} {k : ℕ} (m : List ℕ) (is : OddsOf odds k m) (sides : Sides (length m) multi ends) (b : MatedBy multi ends odds k before mates) where
+  does : (s : End) → Does (length m) (odd m) (odd-lt m) (tabled mates s) (mate (tabled ends) m s)
+  does inputs p o = (b .same m is sides inputs p o, partner-at (tabled ends inputs) m p o .0)
+  does links p o = (b .same m is sides links p o, output-odd (tabled ends links) m p o)
+
+  -- so walks by them lead to odd counts alone
+  leads : (s t : End) (p n : ℕ) → odd m p ≡ true → odd m (reached (tabled mates s) (tabled mates t) p n) ≡ true
+  leads s t p zero o = o
+  leads s t p (suc n) o =
+      let q = reached (tabled mates s) (tabled mates t) p n in
+      byBool (eqb (n % 2) 0) (λ e. rw e (next s q (leads s t p n o))) (λ e. rw e (next t q (leads s t p n o)))
+    where
+      next : (s : End) (q : ℕ) → odd m q ≡ true → odd m (tabled mates s q) ≡ true
+      next s q e = rw (does s q e .0) (does s q e .1)
+
+  pub reaches-all : length m ≤ 528 → Every (ReachesBoth mates) (take k odds)
+  reaches-all few =
+      rw is (every-map (λ p. (odd m p ≡ true) × (p < length m)) (ReachesBoth mates) (λ p a. both-ways p (a .0))
+      (keep (odd m) (upFrom 0 (length m))) (keep-every (odd m) (length m) 0 (length m) (omega arith)))
+    where
+      both-ways : (p : ℕ) → odd m p ≡ true → ReachesBoth mates p
+      both-ways p o =
+          record {
+            by-inputs = record { low = λ n. omega (arith, odd-lt m (reached (tabled mates inputs) (tabled mates links) p n) (leads inputs links p n o)) };
+            by-links = record { low = λ n. omega (arith, odd-lt m (reached (tabled mates links) (tabled mates inputs) p n) (leads links inputs p n o)) };
+          }
+
+  -- the steps over a list of the odd counts of m settle what the definitions settle
+  pub favoured-is : {c : List ℕ} → length m ≤ 528 → SettledBy (tabled mates inputs) (tabled mates links) odds k (replicate 528 0) c
+      → take (length m) c ≡ favours (tabled ends) m
+  unfolding favours
+  favoured-is {c} few s =
+      let z : List ℕ = replicate 528 0 in
+      let i = tabled mates inputs in
+      let o = tabled mates links in
+      let i′ = mate (tabled ends) m inputs in
+      let o′ = mate (tabled ends) m links in
+      let wide : length m ≤ length z = omega (arith, length-replicate {A = ℕ} 528 0) in
+      ap (take (length m)) (s .same ∙ ap (λ (l : List ℕ). allSettled i o l z) is)
+      ∙ all-take m i o i′ o′ (does inputs) (does links) (length m) 0 z wide (zeros-blank (length m) 528)
+      ∙ ap (settle i′ o′ m (upFrom 0 (length m))) (take-zeros (length m) 528 few)

@@ -2,7 +2,7 @@
 pub mod Lists
 pub mod Mated
 pub mod Joined
-pub mod Flipped
+pub mod Stepped
 pub mod Walked
 pub mod Settled
 pub mod Favoured

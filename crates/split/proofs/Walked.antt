@@ -4,12 +4,14 @@ use mathlib.Core.Path.{_≡_, refl, sym, ap, _∙_}
 use mathlib.Core.Logic.{_≢_}
 use mathlib.Core.List.{List}
 use native.Mathlib.Omega.{arith}
-use lib.ListN.{length, getD, set, take, length-set}
+use lib.ListN.{length, getD, set, length-set}
 use Rattle.rules.specs.Schedule.{walk, favouring}
 use Rattle.rules.proofs.Favouring.{settled-less, unsettled-most, favouring-more, favouring-same}
+use Rattle.rules.proofs.Shares.{Alike}
 use Rattle.rules.proofs.Walks.{walk-on, walk-off}
-use Rattle.split.specs.Steps.{Wide, MateTable, lookup, walked, WalkedBy, flipped, Listed, Walks}
-use Rattle.split.proofs.Flipped.{flipped-length, listed-not, listed-zero, listed-room, listed-on, listed-turned}
+use Rattle.planes.proofs.Lists.{at-end}
+use Rattle.split.specs.Steps.{Wide, reached, Reaches, stepped, walked, WalkedBy, Walks}
+use Rattle.split.proofs.Stepped.{reached-near, reached-far, stepped-near, stepped-far, stepped-alike}
 
 walk-one : (go back : ℕ → ℕ) (p h q d : ℕ) (c : List ℕ) → q ≡ go p → q < length c → getD c q 0 ≡ 0 → h < 3
     → walk (favouring 0 c + d) go back p h c ≡ walk (favouring 0 (set c q (3 - h)) + d) back go q (3 - h) (set c q (3 - h))
@@ -24,172 +26,230 @@ unfolding walk
 walk-end zero go back p h q c e z = refl
 walk-end (suc k) go back p h q c e z = walk-off k go back p h c (rw e at z)
 
--- the walk in c₀, whose start favours half, goes on from p in c
-pub record Goes (near far : List ℕ) (start half : ℕ) (c₀ : List ℕ) (p : ℕ) (c : List ℕ) : Type 0 where
-  pub len : Wide c
-  pub place : p < 528
-  pub same : walked near far start half c₀ ≡ walk (favouring 0 c + (length c₀ - favouring 0 c₀)) (lookup near) (lookup far) p half c
-
-pub goes-start : (near far : List ℕ) (start half : ℕ) (c : List ℕ) → Wide c → start < 528 → Goes near far start half c start c
-goes-start near far start half c l h =
-    let e : favouring 0 c + (length c - favouring 0 c) ≡ length c = omega (arith, unsettled-most c) in
-    record { len = l; place = h; same = rw e }
-
-module _ {near far : List ℕ} {start half : ℕ} {c₀ : List ℕ} {p : ℕ} {c : List ℕ} (g : Goes near far start half c₀ p c)
-    (low : 1 ≤ half) (high : half ≤ 2)
-    {q : ℕ} (e : q ≡ lookup near p) (q-lt : q < 528) where
-  -- to q, which is settled
-  pub goes-stop : getD c q 0 ≢ 0 → c ≡ walked near far start half c₀
-  goes-stop z = sym (g .same ∙ walk-end (favouring 0 c + (length c₀ - favouring 0 c₀)) (lookup near) (lookup far) p half q c e z)
-
-  module _ (z : getD c q 0 ≡ 0) {r : ℕ} (f : r ≡ lookup far q) (r-lt : r < 528) where
-    once : walked near far start half c₀ ≡ walk (favouring 0 (set c q (3 - half)) + (length c₀ - favouring 0 c₀)) (lookup far) (lookup near) q (3 - half) (set c q (3 - half))
-    once = g .same ∙ walk-one (lookup near) (lookup far) p half q (length c₀ - favouring 0 c₀) c e (omega (arith, g .len)) z (omega arith)
-
-    len-once : Wide (set c q (3 - half))
-    len-once = length-set c q (3 - half) ∙ g .len
-
-    back-to : 3 - (3 - half) ≡ half
-    back-to = omega arith
-
-    -- to r, which is settled
-    pub goes-stop-2 : getD (set c q (3 - half)) r 0 ≢ 0 → set c q (3 - half) ≡ walked near far start half c₀
-    goes-stop-2 y = sym (once ∙ walk-end (favouring 0 (set c q (3 - half)) + (length c₀ - favouring 0 c₀)) (lookup far) (lookup near) q (3 - half) r (set c q (3 - half)) f y)
-
-    pub goes-on : getD (set c q (3 - half)) r 0 ≡ 0 → Goes near far start half c₀ r (set (set c q (3 - half)) r half)
-    goes-on y =
-        record {
-          len = length-set (set c q (3 - half)) r half ∙ len-once;
-          place = r-lt;
-          same = once
-              ∙ walk-one (lookup far) (lookup near) q (3 - half) r (length c₀ - favouring 0 c₀) (set c q (3 - half)) f (omega (arith, len-once)) y (omega arith)
-              ∙ ap (λ (h : ℕ). walk (favouring 0 (set (set c q (3 - half)) r h) + (length c₀ - favouring 0 c₀)) (lookup near) (lookup far) r h (set (set c q (3 - half)) r h)) back-to;
-        }
-
-    pub goes-less : getD (set c q (3 - half)) r 0 ≡ 0 → favouring 0 (set (set c q (3 - half)) r half) < favouring 0 c
-    goes-less y =
-        let a = settled-less c q (3 - half) (omega (arith, g .len)) z (omega arith) in
-        let b = settled-less (set c q (3 - half)) r half (omega (arith, len-once)) y (omega arith) in
-        omega arith
-
--- ---- with what either half has got: the same number of counts each, where the walk stands at one that favours half
-pub record Along (near far : List ℕ) (start half : ℕ) (c₀ : List ℕ) (p : ℕ) (c : List ℕ) (steps : ℕ) : Type 0 where
-  pub goes : Goes near far start half c₀ p c
-  pub even : steps % 2 ≡ 0
+-- the walk in c₀, whose start favours half, goes on from p in c, with the same number of counts for either half by now
+pub record Along (near far : ℕ → ℕ) (start half : ℕ) (c₀ : List ℕ) (p : ℕ) (c : List ℕ) (steps : ℕ) : Type 0 where
+  pub same : walked near far start half c₀ ≡ walk (favouring 0 c + (length c₀ - favouring 0 c₀)) near far p half c
   pub own : favouring half c ≡ favouring half c₀ + steps / 2
   pub other : favouring (3 - half) c ≡ favouring (3 - half) c₀ + steps / 2
 
-along-start : (near far : List ℕ) (start half : ℕ) (c : List ℕ) (steps : ℕ) → steps ≡ 0 → Wide c → start < 528 → Along near far start half c start c steps
-along-start near far start half c steps e l h =
-    record { goes = goes-start near far start half c l h; even = omega arith; own = omega arith; other = omega arith }
+along-start : (near far : ℕ → ℕ) (start half : ℕ) (c : List ℕ) → Along near far start half c start c 0
+along-start near far start half c =
+    let e : favouring 0 c + (length c - favouring 0 c) ≡ length c = omega (arith, unsettled-most c) in
+    record { same = rw e; own = omega arith; other = omega arith }
 
-module _ {near far : List ℕ} {start half : ℕ} {c₀ : List ℕ} {p : ℕ} {c : List ℕ} {steps : ℕ} (g : Along near far start half c₀ p c steps)
-    (low : 1 ≤ half) (high : half ≤ 2)
-    {q : ℕ} (e : q ≡ lookup near p) (q-lt : q < 528) where
-  along-stop : getD c q 0 ≢ 0 → WalkedBy near far start half c₀ steps c
+module _ (near far : ℕ → ℕ) (start half : ℕ) (c₀ : List ℕ) (p : ℕ) (c : List ℕ) (steps : ℕ) (g : Along near far start half c₀ p c steps)
+    (low : 1 ≤ half) (high : half ≤ 2) (even : steps % 2 ≡ 0) (len : Wide c) where
+  abbrev fuel : ℕ
+  fuel = length c₀ - favouring 0 c₀
+
+  -- to the next, which is settled
+  along-stop : getD c (near p) 0 ≢ 0 → WalkedBy near far start half c₀ steps c
   along-stop z =
-      record { same = goes-stop (g .goes) low high e q-lt z; own = g .own; other = omega (arith, g .other, g .even) }
+      record {
+        same = sym (g .same ∙ walk-end (favouring 0 c + fuel) near far p half (near p) c refl z);
+        own = g .own;
+        other = omega (arith, g .other);
+      }
 
-  module _ (z : getD c q 0 ≡ 0) {r : ℕ} (f : r ≡ lookup far q) (r-lt : r < 528) where
-    q-in : q < length c
-    q-in = omega (arith, g .goes .len)
+  module _ (q-lt : near p < 528) (z : getD c (near p) 0 ≡ 0) where
+    abbrev once : List ℕ
+    once = set c (near p) (3 - half)
 
-    along-stop-2 : (more : ℕ) → more ≡ steps + 1 → getD (set c q (3 - half)) r 0 ≢ 0 → WalkedBy near far start half c₀ more (set c q (3 - half))
-    along-stop-2 more k y =
+    q-in : near p < length c
+    q-in = omega arith
+
+    same-once : walked near far start half c₀ ≡ walk (favouring 0 once + fuel) far near (near p) (3 - half) once
+    same-once = g .same ∙ walk-one near far p half (near p) fuel c refl q-in z (omega arith)
+
+    own-once : favouring half once ≡ favouring half c₀ + steps / 2
+    own-once = omega (arith, g .own, favouring-same half c (near p) (3 - half) q-in z (omega arith) (omega arith))
+
+    other-once : favouring (3 - half) once ≡ favouring (3 - half) c₀ + steps / 2 + 1
+    other-once = omega (arith, g .other, favouring-more (3 - half) c (near p) (3 - half) q-in z (omega arith) refl)
+
+    -- to the one after it, which is settled
+    along-stop-2 : getD once (far (near p)) 0 ≢ 0 → WalkedBy near far start half c₀ (steps + 1) once
+    along-stop-2 y =
         record {
-          same = goes-stop-2 (g .goes) low high e q-lt z f r-lt y;
-          own = omega (arith, g .own, g .even, favouring-same half c q (3 - half) q-in z (omega arith) (omega arith));
-          other = omega (arith, g .other, g .even, favouring-more (3 - half) c q (3 - half) q-in z (omega arith) refl);
+          same = sym (same-once ∙ walk-end (favouring 0 once + fuel) far near (near p) (3 - half) (far (near p)) once refl y);
+          own = omega (arith, own-once);
+          other = omega (arith, other-once);
         }
 
-    along-on : (more : ℕ) → more ≡ steps + 2 → getD (set c q (3 - half)) r 0 ≡ 0 → Along near far start half c₀ r (set (set c q (3 - half)) r half) more
-    along-on more k y =
-        let r-in : r < length (set c q (3 - half)) = omega (arith, length-set c q (3 - half), g .goes .len) in
+    along-on : far (near p) < 528 → getD once (far (near p)) 0 ≡ 0 → Along near far start half c₀ (far (near p)) (set once (far (near p)) half) (steps + 1 + 1)
+    along-on r-lt y =
+        let r = far (near p) in
+        let back-to : 3 - (3 - half) ≡ half = omega arith in
+        let r-in : r < length once = omega (arith, length-set c (near p) (3 - half)) in
         record {
-          goes = goes-on (g .goes) low high e q-lt z f r-lt y;
-          even = omega (arith, g .even);
-          own = omega (arith, g .own, g .even, favouring-same half c q (3 - half) q-in z (omega arith) (omega arith), favouring-more half (set c q (3 - half)) r half r-in y (omega arith) refl);
-          other = omega (arith, g .other, g .even, favouring-more (3 - half) c q (3 - half) q-in z (omega arith) refl, favouring-same (3 - half) (set c q (3 - half)) r half r-in y (omega arith) (omega arith));
+          same = same-once
+              ∙ walk-one far near (near p) (3 - half) r fuel once refl r-in y (omega arith)
+              ∙ ap (λ (h : ℕ). walk (favouring 0 (set once r h) + fuel) near far r h (set once r h)) back-to;
+          own = omega (arith, own-once, favouring-more half once r half r-in y (omega arith) refl);
+          other = omega (arith, other-once, favouring-same (3 - half) once r half r-in y (omega arith) (omega arith));
         }
 
--- ---- the walk from a count that favours the first half, with its counts listed, and from one that favours the second
-pub record Walking (near far : List ℕ) (start count : ℕ) (listed favoured : List ℕ) (p n : ℕ) (group c : List ℕ) : Type 0 where
-  pub nears : MateTable near
-  pub fars : MateTable far
-  pub list : Listed n group c
-  pub more : count ≤ n
-  pub first : Along near far start 1 favoured p c (n - count)
-  pub second : Along near far start 2 (flipped (take count listed) favoured) p (flipped (take n group) c) (n - count)
+-- ---- the walk from a count that favours the first half, and that from a start which favours either, where the same counts were settled
+pub record Walking (near far : ℕ → ℕ) (start : ℕ) (c₀ : List ℕ) (p steps : ℕ) (c : List ℕ) : Type 0 where
+  pub low : p < 528
+  pub place : p ≡ reached near far start steps
+  pub even : steps % 2 ≡ 0
+  pub len : Wide c
+  pub left : favouring 0 c + steps ≤ 528
+  pub same : c ≡ stepped near far start 1 steps c₀
+  pub along : (h : ℕ) → 1 ≤ h → h ≤ 2 → (d : List ℕ) → Alike c₀ d → Along near far start h d p (stepped near far start h steps d) steps
 
-pub walking-start : (near far : List ℕ) {start count : ℕ} {group c : List ℕ} → start < 528 → MateTable near → MateTable far → Listed count group c
-    → Walking near far start count group c start count group c
-walking-start near far {start} {count} {group} {c} h a b g =
+pub walking-start : (near far : ℕ → ℕ) {start : ℕ} {c : List ℕ} → Reaches near far start → Wide c → Walking near far start c start 0 c
+walking-start near far {start} {c} within len =
     record {
-      nears = a;
-      fars = b;
-      list = g;
-      more = omega arith;
-      first = along-start near far start 1 c (count - count) (omega arith) (g .len) h;
-      second = along-start near far start 2 (flipped (take count group) c) (count - count) (omega arith) (flipped-length (take count group) c ∙ g .len) h;
+      low = within .low 0;
+      place = refl;
+      even = refl;
+      len = len;
+      left = omega (arith, unsettled-most c);
+      same = refl;
+      along = λ h low high d a. along-start near far start h d;
     }
 
-module _ {near far : List ℕ} {start count : ℕ} {listed favoured : List ℕ} {p n : ℕ} {group c : List ℕ}
-    (w : Walking near far start count listed favoured p n group c) {q : ℕ} (e : q ≡ lookup near p) where
-  pub walking-at : q < 528
-  walking-at = rw e (w .nears .low p)
+module _ {near far : ℕ → ℕ} {start : ℕ} {c₀ : List ℕ} {p steps : ℕ} {c : List ℕ} (w : Walking near far start c₀ p steps c)
+    (within : Reaches near far start) (len₀ : Wide c₀) {q : ℕ} (e : q ≡ near p) where
+  next-near : reached near far start (steps + 1) ≡ q
+  next-near = reached-near near far start steps (w .even) ∙ ap near (sym (w .place)) ∙ sym e
 
-  pub walking-stop : getD c q 0 ≢ 0 → Walks near far start count listed favoured n group c
+  pub walking-at : q < 528
+  walking-at = rw (sym next-near) (within .low (steps + 1))
+
+  -- the same walk from another start, as far as it has come
+  module _ (h : ℕ) (low : 1 ≤ h) (high : h ≤ 2) (d : List ℕ) (a : Alike c₀ d) where
+    abbrev other : List ℕ
+    other = stepped near far start h steps d
+
+    other-alike : Alike c other
+    other-alike = rw (w .same) (stepped-alike near far start within 1 h steps c₀ d len₀ (omega arith) (omega arith) low high a)
+
+    other-len : Wide other
+    other-len = omega (arith, other-alike .len, w .len)
+
+  pub walking-stop : getD c q 0 ≢ 0 → Walks near far start c₀ steps c
   walking-stop z =
       record {
-        list = w .list;
-        more = w .more;
-        first = along-stop (w .first) (omega arith) (omega arith) e walking-at z;
-        second = along-stop (w .second) (omega arith) (omega arith) e walking-at (listed-not (w .list) q z);
+        len = w .len;
+        few = omega (arith, w .left);
+        same = w .same;
+        whole = λ h low high d a.
+            along-stop near far start h d p (other h low high d a) steps (w .along h low high d a) low high (w .even) (other-len h low high d a)
+            (rw (sym e) (λ y. z (other-alike h low high d a .back q y)));
       }
 
   module _ (z : getD c q 0 ≡ 0) where
-    pub walking-room : n < 528
-    walking-room = listed-room (w .list) q z walking-at
+    other-zero : (h : ℕ) (low : 1 ≤ h) (high : h ≤ 2) (d : List ℕ) (a : Alike c₀ d) → getD (other h low high d a) (near p) 0 ≡ 0
+    other-zero h low high d a = rw (sym e) (other-alike h low high d a .there q z)
 
-    first-listed : Listed (n + 1) (set group n q) (set c q 2)
-    first-listed = listed-on (w .list) q z walking-at 2 (omega arith)
+    once-is : (h : ℕ) (d : List ℕ) → stepped near far start h (steps + 1) d ≡ set (stepped near far start h steps d) (near p) (3 - h)
+    once-is h d = stepped-near near far start steps h d (w .even) ∙ ap (λ (x : ℕ). set (stepped near far start h steps d) (near x) (3 - h)) (sym (w .place))
 
-    first-turned : flipped (take (n + 1) (set group n q)) (set c q 2) ≡ set (flipped (take n group) c) q 1
-    first-turned = listed-turned (w .list) q z walking-at 2 1 refl
+    less : suc (favouring 0 (set c q 2)) ≡ favouring 0 c
+    less = settled-less c q 2 (omega (arith, walking-at, w .len)) z (omega arith)
 
-    module _ {r : ℕ} (f : r ≡ lookup far q) where
+    pub walking-room : steps < 528
+    walking-room = omega (arith, w .left, less)
+
+    settled-once : set c q 2 ≡ stepped near far start 1 (steps + 1) c₀
+    settled-once = rw (once-is 1 c₀, sym (w .same), e)
+
+    module _ {r : ℕ} (f : r ≡ far q) where
+      next-far : reached near far start (steps + 1 + 1) ≡ r
+      next-far = reached-far near far start (steps + 1) (omega (arith, w .even)) ∙ ap far next-near ∙ sym f
+
       pub walking-at-2 : r < 528
-      walking-at-2 = rw f (w .fars .low q)
+      walking-at-2 = rw (sym next-far) (within .low (steps + 1 + 1))
 
-      pub walking-stop-2 : getD (set c q 2) r 0 ≢ 0 → Walks near far start count listed favoured (n + 1) (set group n (lookup near p)) (set c q 2)
+      r-is : far (near p) ≡ r
+      r-is = ap far (sym e) ∙ sym f
+
+      once-alike : (h : ℕ) → 1 ≤ h → h ≤ 2 → (d : List ℕ) → Alike c₀ d → Alike (set c q 2) (set (stepped near far start h steps d) (near p) (3 - h))
+      once-alike h low high d a =
+          rw (settled-once, sym (once-is h d)) (stepped-alike near far start within 1 h (steps + 1) c₀ d len₀ (omega arith) (omega arith) low high a)
+
+      pub walking-stop-2 : getD (set c q 2) r 0 ≢ 0 → Walks near far start c₀ (steps + 1) (set c q 2)
       walking-stop-2 y =
-          let s : n + 1 - count ≡ n - count + 1 = omega (arith, w .more) in
-          let y′ = listed-not first-listed r y in
-          rw (sym e) (record {
-            list = first-listed;
-            more = omega (arith, w .more);
-            first = along-stop-2 (w .first) (omega arith) (omega arith) e walking-at z f walking-at-2 (n + 1 - count) s y;
-            second = rw first-turned (along-stop-2 (w .second) (omega arith) (omega arith) e walking-at (listed-zero (w .list) q z) f walking-at-2 (n + 1 - count) s (rw first-turned at y′));
-          })
+          record {
+            len = length-set c q 2 ∙ w .len;
+            few = omega (arith, walking-room);
+            same = settled-once;
+            whole = λ h low high d a.
+                rw (once-is h d) (along-stop-2 near far start h d p (other h low high d a) steps (w .along h low high d a) low high (w .even) (other-len h low high d a)
+                (rw (sym e) walking-at) (other-zero h low high d a) (rw r-is (λ x. y (once-alike h low high d a .back r x))));
+          }
 
       module _ (y : getD (set c q 2) r 0 ≡ 0) where
-        pub walking-room-2 : n + 1 < 528
-        walking-room-2 = listed-room first-listed r y walking-at-2
+        less-2 : suc (favouring 0 (set (set c q 2) r 1)) ≡ favouring 0 (set c q 2)
+        less-2 = settled-less (set c q 2) r 1 (omega (arith, walking-at-2, length-set c q 2, w .len)) y (omega arith)
 
-        pub walking-on : Walking near far start count listed favoured r (n + 1 + 1) (set (set group n (lookup near p)) (n + 1) (lookup far q)) (set (set c q 2) r 1)
+        pub walking-room-2 : steps + 1 < 528
+        walking-room-2 = omega (arith, w .left, less, less-2)
+
+        twice-is : (h : ℕ) (d : List ℕ) → stepped near far start h (steps + 1 + 1) d ≡ set (set (stepped near far start h steps d) (near p) (3 - h)) (far (near p)) h
+        twice-is h d =
+            stepped-far near far start (steps + 1) h d (omega (arith, w .even))
+            ∙ ap (λ (x : ℕ). set (stepped near far start h (steps + 1) d) (far x) h) (next-near ∙ e)
+            ∙ ap (λ (l : List ℕ). set l (far (near p)) h) (once-is h d)
+
+        pub walking-on : Walking near far start c₀ r (steps + 1 + 1) (set (set c q 2) r 1)
         walking-on =
-            let s : n + 1 + 1 - count ≡ n - count + 2 = omega (arith, w .more) in
-            let y′ = listed-zero first-listed r y in
-            let t : flipped (take (n + 1 + 1) (set (set group n q) (n + 1) r)) (set (set c q 2) r 1) ≡ set (set (flipped (take n group) c) q 1) r 2 =
-            listed-turned first-listed r y walking-at-2 1 2 refl ∙ ap (λ (d : List ℕ). set d r 2) first-turned in
-            rw (sym e, sym f) (record {
-              nears = w .nears;
-              fars = w .fars;
-              list = listed-on first-listed r y walking-at-2 1 (omega arith);
-              more = omega (arith, w .more);
-              first = along-on (w .first) (omega arith) (omega arith) e walking-at z f walking-at-2 (n + 1 + 1 - count) s y;
-              second = rw t (along-on (w .second) (omega arith) (omega arith) e walking-at (listed-zero (w .list) q z) f walking-at-2 (n + 1 + 1 - count) s (rw first-turned at y′));
-            })
+            record {
+              low = walking-at-2;
+              place = sym next-far;
+              even = omega (arith, w .even);
+              len = length-set (set c q 2) r 1 ∙ length-set c q 2 ∙ w .len;
+              left = omega (arith, w .left, less, less-2);
+              same = rw (twice-is 1 c₀, sym (w .same), r-is, e);
+              along = λ h low high d a.
+                  rw (twice-is h d, sym r-is) (along-on near far start h d p (other h low high d a) steps (w .along h low high d a) low high (w .even) (other-len h low high d a)
+                  (rw (sym e) walking-at) (other-zero h low high d a) (rw r-is walking-at-2) (rw r-is (once-alike h low high d a .there r y)));
+            }
 
         pub walking-less : favouring 0 (set (set c q 2) r 1) < favouring 0 c
-        walking-less = goes-less (w .first .goes) (omega arith) (omega arith) e walking-at z f walking-at-2 y
+        walking-less = omega (arith, less, less-2)
+
+-- ---- the steps gone again
+pub record Flipping (near far : ℕ → ℕ) (start i : ℕ) (c d : List ℕ) (p : ℕ) : Type 0 where
+  pub low : p < 528
+  pub place : p ≡ reached near far start i
+  pub even : i % 2 ≡ 0
+  pub same : d ≡ stepped near far start 2 i c
+
+pub flipping-start : (near far : ℕ → ℕ) {start : ℕ} {c : List ℕ} → Reaches near far start → Flipping near far start 0 c c start
+flipping-start near far within = record { low = within .low 0; place = refl; even = refl; same = refl }
+
+module _ {near far : ℕ → ℕ} {start i : ℕ} {c d : List ℕ} {p : ℕ} (t : Flipping near far start i c d p) (within : Reaches near far start) {q : ℕ} (e : q ≡ near p) where
+  flip-near : reached near far start (i + 1) ≡ q
+  flip-near = reached-near near far start i (t .even) ∙ ap near (sym (t .place)) ∙ sym e
+
+  pub flipping-at : q < 528
+  flipping-at = rw (sym flip-near) (within .low (i + 1))
+
+  flipping-once : set d q 1 ≡ stepped near far start 2 (i + 1) c
+  flipping-once = rw (stepped-near near far start i 2 c (t .even), sym (t .same), sym (t .place), e)
+
+  pub flipping-stop : {steps : ℕ} → i + 1 ≡ steps → set d q 1 ≡ stepped near far start 2 steps c
+  flipping-stop f = rw (sym f) flipping-once
+
+  module _ {r : ℕ} (f : r ≡ far q) where
+    flip-far : reached near far start (i + 1 + 1) ≡ r
+    flip-far = reached-far near far start (i + 1) (omega (arith, t .even)) ∙ ap far flip-near ∙ sym f
+
+    pub flipping-at-2 : r < 528
+    flipping-at-2 = rw (sym flip-far) (within .low (i + 1 + 1))
+
+    pub flipping-on : Flipping near far start (i + 1 + 1) c (set (set d q 1) r 2) r
+    flipping-on =
+        record {
+          low = flipping-at-2;
+          place = sym flip-far;
+          even = omega (arith, t .even);
+          same = rw (stepped-far near far start (i + 1) 2 c (omega (arith, t .even)), flip-near, sym flipping-once, f);
+        }
+
+pub flipping-end : {near far : ℕ → ℕ} {start i steps : ℕ} {c d : List ℕ} {p : ℕ} → Flipping near far start i c d p → i ≤ steps → steps ≤ i → d ≡ stepped near far start 2 steps c
+flipping-end {near} {far} {start} {c = c} {d} t a b = at-end (λ n. d ≡ stepped near far start 2 n c) (t .same) a b

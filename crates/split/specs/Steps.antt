@@ -9,67 +9,68 @@ use lib.ListN.{length, getD, set, take}
 use Rattle.rules.specs.Words.{if, bit, upFrom, keep, Every}
 use Rattle.rules.specs.Flows.{End, inputs, links, outputOf}
 use Rattle.rules.specs.Rules.{odd, single}
-use Rattle.rules.specs.Schedule.{partnerIn, outputPartner, walk, favouring, level, favours}
-use Rattle.rules.proofs.Lists.{Rising, Apart}
-use Rattle.bits.specs.Digits.{digit}
-use Rattle.planes.specs.Planes.{digitAt, countsIn, Mask}
+use Rattle.rules.specs.Schedule.{partnerIn, walk, favouring, level, favours}
+use Rattle.rules.proofs.Lists.{Apart}
+use Rattle.rules.proofs.Singles.{mate}
+use Rattle.rules.proofs.Shares.{Alike}
+use Rattle.bits.specs.Digits.{digit, FlippedAt}
+use Rattle.planes.specs.Planes.{digitAt, countsIn, oddsIn, wordsOf, Mask}
+use Rattle.planes.specs.Steps.{Gathered}
 
--- ---- positions
--- A list has room for all positions.
+-- ---- positions and their ends
+-- A list has room for all positions; and one for both ends of each.
 abbrev pub Wide : List ℕ → Type 0
 Wide l = length l ≡ 528
 
--- What a table has for a position.
-abbrev pub lookup : List ℕ → ℕ → ℕ
-lookup table p = getD table p 0
+abbrev pub WideEnds : List ℕ → Type 0
+WideEnds l = length l ≡ 1056
 
--- The input and the link of a position, by two tables.
-abbrev pub tabled : List ℕ → List ℕ → End → ℕ → ℕ
-tabled ins outs inputs = lookup ins
-tabled ins outs links = lookup outs
+-- What a table of both ends has for a position, at the end whose places begin at `first`.
+abbrev pub lookup : List ℕ → ℕ → ℕ → ℕ
+lookup table first p = getD table (first + p) 0
 
--- Two tables have inputs and links below 64 for the first n positions.
-pub record Sides (n : ℕ) (ins outs : List ℕ) : Type 0 where
-  pub most : n ≤ 528
-  pub low : (s : End) (p : ℕ) → p < n → tabled ins outs s p < 64
+-- The inputs of all positions come first, and then their links.
+abbrev pub firstPlace : End → ℕ
+firstPlace inputs = 0
+firstPlace links = 528
+
+abbrev pub tabled : List ℕ → End → ℕ → ℕ
+tabled table s = lookup table (firstPlace s)
 
 -- The digits of a word that are 1 are those of outputs, of which there are 16.
 abbrev pub Outputs : ℕ → Type 0
 Outputs multi = (o : ℕ) → digit multi o ≡ 1 → o < 16
 
--- An output without its digit in the word has positions on its first link alone.
-pub record MultiLink (n multi : ℕ) (outs : List ℕ) : Type 0 where
+-- A table has inputs and links below 64 for the first n positions, and an output without its digit in a word has positions on its first
+-- link alone.
+pub record Sides (n multi : ℕ) (ends : List ℕ) : Type 0 where
+  pub low : (s : End) (p : ℕ) → p < n → tabled ends s p < 64
   pub few : Outputs multi
-  pub low : (p : ℕ) → p < n → lookup outs p < 64
-  pub others : (p : ℕ) → p < n → digit multi (outputOf (lookup outs p)) ≡ 0 → lookup outs p % 4 ≡ 0
+  pub others : (p : ℕ) → p < n → digit multi (outputOf (tabled ends links p)) ≡ 0 → tabled ends links p % 4 ≡ 0
 
--- The first k of a list are positions; and they rise.
-pub record Positions (list : List ℕ) (k : ℕ) : Type 0 where
-  pub len : Wide list
-  pub most : k ≤ 528
-  pub below : Every (λ p. p < 528) (take k list)
-
+-- The first k of a list are positions, none of them twice; and a table has inputs and links below 64 for them.
 pub record Odds (odds : List ℕ) (k : ℕ) : Type 0 where
-  pub positions : Positions odds k
-  pub rising : Rising 0 (take k odds)
+  pub len : Wide odds
+  pub most : k ≤ 528
+  pub below : Every (λ p. p < 528) (take k odds)
+  pub apart : Apart (take k odds)
 
--- A table has a position for each position.
-pub record MateTable (mates : List ℕ) : Type 0 where
-  pub len : Wide mates
-  pub low : (p : ℕ) → lookup mates p < 528
+pub record LowEnds (ends l : List ℕ) : Type 0 where
+  pub each : Every (λ p. (s : End) → tabled ends s p < 64) l
 
 -- ---- partners
--- The port or the link that a table has for a position, as one of 64.
-abbrev pub portIn : List ℕ → ℕ → ℕ
-portIn table p = lookup table p % 64
-
 -- Those of a list at port x.
-abbrev pub thoseAt : List ℕ → ℕ → List ℕ → List ℕ
-thoseAt table x l = keep (λ p. eqb (portIn table p) x) l
+abbrev pub thoseAt : (ℕ → ℕ) → ℕ → List ℕ → List ℕ
+thoseAt port x l = keep (λ p. eqb (port p) x) l
 
 -- The partner of p among those of a list at its port.
-abbrev pub mateAmong : List ℕ → List ℕ → ℕ → ℕ
-mateAmong table l p = partnerIn (thoseAt table (portIn table p) l) p
+abbrev pub mateAmong : (ℕ → ℕ) → List ℕ → ℕ → ℕ
+mateAmong port l p = partnerIn (thoseAt port (port p) l) p
+
+-- Each of a list has its partner among them, and every other position what it had.
+pub record MatedIn (port : ℕ → ℕ) (l : List ℕ) (before mates : ℕ → ℕ) : Type 0 where
+  pub same : Every (λ p. mates p ≡ mateAmong port l p) l
+  pub kept : (r : ℕ) → r < 528 → Every (λ p. p ≢ r) l → mates r ≡ before r
 
 -- h waits among those of a list, or none does.
 abbrev pub Pends : Bool → ℕ → List ℕ → Type 0
@@ -80,23 +81,30 @@ Pends false h l = single l ≡ []
 abbrev pub pendsAt : ℕ → ℕ → Bool
 pendsAt pending x = eqb (digit pending x) 1
 
--- Nobody is held at any of 64 ports; whoever is held is a position; and what waits at each after the first k of a list.
-pub record Free (latest : List ℕ) : Type 0 where
-  pub ports-64 : length latest ≡ 64
-  pub low : (x : ℕ) → x < 64 → getD latest x 0 ≡ 0
-
+-- Whoever came latest to one of 64 ports is a position; and of a list, who waits at each.
 pub record Latest (latest : List ℕ) : Type 0 where
   pub ports-64 : length latest ≡ 64
   pub low : (x : ℕ) → x < 64 → getD latest x 0 < 528
 
-pub record PendingBy (table odds : List ℕ) (k : ℕ) (latest : List ℕ) (pending : ℕ) : Type 0 where
+pub record PendingBy (port : ℕ → ℕ) (l latest : List ℕ) (pending : ℕ) : Type 0 where
   pub known : Latest latest
-  pub ports : (x : ℕ) → x < 64 → Pends (pendsAt pending x) (getD latest x 0) (thoseAt table x (take k odds))
+  pub ports : (x : ℕ) → x < 64 → Pends (pendsAt pending x) (getD latest x 0) (thoseAt port x l)
 
--- The mates have for each of the first k of a list its partner among them.
-pub record AllMated (table odds : List ℕ) (k : ℕ) (mates : List ℕ) : Type 0 where
-  pub mates-low : MateTable mates
-  pub same : Every (λ p. lookup mates p ≡ mateAmong table (take k odds) p) (take k odds)
+-- Two are made partners of each other at an end; the two may be one.
+abbrev pub paired : ℕ → ℕ → ℕ → List ℕ → List ℕ
+paired first p q mates = set (set mates (first + p) q) (first + q) p
+
+-- At an end p, which has port x there, is mated with the one that waits at x, or with itself; and has come latest.
+pub record MatedAt (first p x pending : ℕ) (latest mates : List ℕ) (after : ℕ) (latest-after mates-after : List ℕ) : Type 0 where
+  pub mated : mates-after ≡ paired first p (if (pendsAt pending x) (getD latest x 0) p) mates
+  pub came : latest-after ≡ set latest x p
+  pub flipped : FlippedAt pending x after
+
+-- Each of a list is mated at both ends, and who waits at the links is known.
+pub record AllMated (ends l before mates latest : List ℕ) (pending : ℕ) : Type 0 where
+  pub len : WideEnds mates
+  pub at : (s : End) → MatedIn (tabled ends s) l (tabled before s) (tabled mates s)
+  pub pends : PendingBy (tabled ends links) l latest pending
 
 -- Those that wait at n ports from x on, in their order.
 abbrev pub pendingAt : List ℕ → ℕ → ℕ → List ℕ
@@ -106,72 +114,81 @@ abbrev pub pendingFrom : List ℕ → ℕ → ℕ → ℕ → List ℕ
 pendingFrom latest pending x zero = []
 pendingFrom latest pending x (suc n) = pendingAt latest pending x ++ pendingFrom latest pending (suc x) n
 
--- Two are linked both ways, if the one comes.
-pub record MatedBoth (comes : Bool) (p q : ℕ) (before mates : List ℕ) : Type 0 where
-  pub same : mates ≡ if comes (set (set before p q) q p) before
-
--- Those of a list without one twice have their partners in it, and all others what they had.
+-- Those of a list without one twice are mated in it at their links, and nothing else is changed.
 pub record Joins (l before mates : List ℕ) : Type 0 where
-  pub mates-low : MateTable mates
-  pub mated : Apart l → Every (λ r. lookup mates r ≡ partnerIn l r) l
-  pub kept : Apart l → (r : ℕ) → Every (λ p. p ≢ r) l → lookup mates r ≡ lookup before r
+  pub len : WideEnds mates
+  pub at-links : Apart l → MatedIn (λ p. 0) l (tabled before links) (tabled mates links)
+  pub at-inputs : (r : ℕ) → r < 528 → tabled mates inputs r ≡ tabled before inputs r
 
 -- The first k of a list are the odd counts of m, by rising position.
 abbrev pub OddsOf : List ℕ → ℕ → List ℕ → Type 0
 OddsOf odds k m = take k odds ≡ keep (odd m) (upFrom 0 (length m))
 
--- The mates have for each of them its partner at its output, where only the outputs of a word have positions on several links.
-pub record MatedOut (multi : ℕ) (table odds : List ℕ) (k : ℕ) (mates : List ℕ) : Type 0 where
-  pub mates-low : MateTable mates
-  pub same : (m : List ℕ) → OddsOf odds k m → MultiLink (length m) multi table → (p : ℕ) → odd m p ≡ true
-      → lookup mates p ≡ outputPartner (portIn table) m p
+-- Each odd count has its partner at its input and at its output, and every other count what it had.
+pub record MatedBy (multi : ℕ) (ends odds : List ℕ) (k : ℕ) (before mates : List ℕ) : Type 0 where
+  pub len : WideEnds mates
+  pub same : (m : List ℕ) → OddsOf odds k m → Sides (length m) multi ends → (s : End) (p : ℕ) → odd m p ≡ true
+      → tabled mates s p ≡ mate (tabled ends) m s p
+  pub kept : (m : List ℕ) → OddsOf odds k m → (s : End) (p : ℕ) → p < 528 → odd m p ≡ false → tabled mates s p ≡ tabled before s p
 
 -- ---- groups
--- The walk from p, which favours half h, by two tables of mates in turn.
-abbrev pub walked : List ℕ → List ℕ → ℕ → ℕ → List ℕ → List ℕ
-walked near far p h c = walk (length c) (lookup near) (lookup far) p h c
+-- Where so many steps lead from p, by two functions in turn; and they lead to positions, however many they are.
+abbrev pub reached : (ℕ → ℕ) → (ℕ → ℕ) → ℕ → ℕ → ℕ
+reached near far p zero = p
+reached near far p (suc n) = if (eqb (n % 2) 0) near far (reached near far p n)
+
+pub record Reaches (near far : ℕ → ℕ) (p : ℕ) : Type 0 where
+  pub low : (n : ℕ) → reached near far p n < 528
+
+-- From p both ways lead to positions, by the mates at inputs and at outputs; and from each of the first k of a list they do.
+pub record ReachesBoth (mates : List ℕ) (p : ℕ) : Type 0 where
+  pub by-inputs : Reaches (tabled mates inputs) (tabled mates links) p
+  pub by-links : Reaches (tabled mates links) (tabled mates inputs) p
+
+pub record ReachesAll (mates odds : List ℕ) (k : ℕ) : Type 0 where
+  pub len : Wide odds
+  pub most : k ≤ 528
+  pub each : Every (ReachesBoth mates) (take k odds)
+
+-- So many steps from p, which favours half h, each settle the count that they lead to, with the other half and h in turn.
+abbrev pub stepped : (ℕ → ℕ) → (ℕ → ℕ) → ℕ → ℕ → ℕ → List ℕ → List ℕ
+stepped near far p h zero c = c
+stepped near far p h (suc n) c = set (stepped near far p h n c) (reached near far p (suc n)) (if (eqb (n % 2) 0) (3 - h) h)
+
+-- The walk from p, which favours half h, by two functions in turn.
+abbrev pub walked : (ℕ → ℕ) → (ℕ → ℕ) → ℕ → ℕ → List ℕ → List ℕ
+walked near far p h c = walk (length c) near far p h c
 
 -- A walk settles so many counts that the half which its start does not favour has every second one, beginning with the first.
-pub record WalkedBy (near far : List ℕ) (start half : ℕ) (c : List ℕ) (steps : ℕ) (d : List ℕ) : Type 0 where
+pub record WalkedBy (near far : ℕ → ℕ) (start half : ℕ) (c : List ℕ) (steps : ℕ) (d : List ℕ) : Type 0 where
   pub same : d ≡ walked near far start half c
   pub own : favouring half d ≡ favouring half c + steps / 2
   pub other : favouring (3 - half) d ≡ favouring (3 - half) c + (steps + 1) / 2
 
--- The half that is not h, and the counts of a list turned round: each favours the half that it did not.
+-- A walk from a count that favours the first half makes so many steps; and whichever half its start favours, and whichever those favour
+-- that were settled before, the walk makes the same steps.
+pub record Walks (near far : ℕ → ℕ) (start : ℕ) (c : List ℕ) (steps : ℕ) (d : List ℕ) : Type 0 where
+  pub len : Wide d
+  pub few : steps ≤ 528
+  pub same : d ≡ stepped near far start 1 steps c
+  pub whole : (h : ℕ) → 1 ≤ h → h ≤ 2 → (e : List ℕ) → Alike c e → WalkedBy near far start h e steps (stepped near far start h steps e)
+
+-- The half that is not h.
 abbrev pub otherHalf : ℕ → ℕ
 otherHalf h = if (eqb h 1) 2 1
 
-abbrev pub flipped : List ℕ → List ℕ → List ℕ
-flipped [] c = c
-flipped (q ∷ l) c = flipped l (set c q (otherHalf (getD c q 0)))
-
--- The first n of a list are settled counts, and it has room for those that are not settled.
-pub record Listed (n : ℕ) (group c : List ℕ) : Type 0 where
-  pub size : Wide group
-  pub len : Wide c
-  pub room : n + favouring 0 c ≤ 528
-  pub settled : Every (λ q. getD c q 0 ≢ 0) (take n group)
-
--- A walk from a count that favours the first half lists what it settles: c is what is left with n counts listed; and with
--- these turned round it is what the same walk leaves from a start that favours the second half.
-pub record Walks (near far : List ℕ) (start count : ℕ) (listed favoured : List ℕ) (n : ℕ) (group c : List ℕ) : Type 0 where
-  pub list : Listed n group c
-  pub more : count ≤ n
-  pub first : WalkedBy near far start 1 favoured (n - count) c
-  pub second : WalkedBy near far start 2 (flipped (take count listed) favoured) (n - count) (flipped (take n group) c)
-
 -- The group of p settled by walks both ways, p favouring half h.
-abbrev pub bothWays : List ℕ → List ℕ → ℕ → ℕ → List ℕ → List ℕ
+abbrev pub bothWays : (ℕ → ℕ) → (ℕ → ℕ) → ℕ → ℕ → List ℕ → List ℕ
 bothWays i o h p c = walked o i p h (walked i o p h (set c p h))
 
 -- The group of p is settled, unless it is already, the way round that leaves the halves level.
-unfoldable pub groupSettled : List ℕ → List ℕ → ℕ → List ℕ → List ℕ
+unfoldable pub groupSettled : (ℕ → ℕ) → (ℕ → ℕ) → ℕ → List ℕ → List ℕ
 groupSettled i o p c = if (eqb (getD c p 0) 0) (if (level (bothWays i o 1 p c)) (bothWays i o 1 p c) (bothWays i o 2 p c)) c
 
--- The half with the larger share of a group of an odd number of counts whose first favours the first half, by how many the
--- first count and the walk by inputs are.
+-- The half with the larger share of a group of an odd number of counts whose first favours the first half, by the steps of the walk by
+-- inputs.
 abbrev pub largerHalf : ℕ → ℕ
-largerHalf n = if (eqb (n % 2) 1) 1 2
+largerHalf steps = if (eqb (steps % 2) 0) 1 2
 
 -- It is the turn of the first half where as many counts favour the two, and of the second where the first has one more.
 pub record Next (half : ℕ) (c : List ℕ) : Type 0 where
@@ -180,30 +197,38 @@ pub record Next (half : ℕ) (c : List ℕ) : Type 0 where
   pub ahead : favouring 1 c + 1 ≡ favouring 2 c + half
 
 -- With the group of p settled c becomes d, and then it is the turn of a half.
-pub record Settles (i o : List ℕ) (p : ℕ) (c : List ℕ) (half : ℕ) (d : List ℕ) : Type 0 where
+pub record Settles (i o : ℕ → ℕ) (p : ℕ) (c : List ℕ) (half : ℕ) (d : List ℕ) : Type 0 where
   pub len : Wide d
   pub next : Next half d
   pub same : d ≡ groupSettled i o p c
 
 -- The groups of those of a list, in their order.
-abbrev pub allSettled : List ℕ → List ℕ → List ℕ → List ℕ → List ℕ
+abbrev pub allSettled : (ℕ → ℕ) → (ℕ → ℕ) → List ℕ → List ℕ → List ℕ
 allSettled i o [] c = c
 allSettled i o (p ∷ l) c = allSettled i o l (groupSettled i o p c)
 
 -- What was favoured is c, and with the groups of the first k of a list settled it is d.
-pub record SettledBy (i o odds : List ℕ) (k : ℕ) (c d : List ℕ) : Type 0 where
+pub record SettledBy (i o : ℕ → ℕ) (odds : List ℕ) (k : ℕ) (c d : List ℕ) : Type 0 where
   pub len : Wide d
   pub same : d ≡ allSettled i o (take k odds) c
 
 -- ---- the split
--- Four lists, whatever they have, with room for what a split lists in them.
-pub record Scratch (odds i o group : List ℕ) : Type 0 where
-  pub listed : Wide odds
-  pub at-inputs : MateTable i
-  pub at-outputs : MateTable o
-  pub grouped : Wide group
-
--- A mask has the odd counts that favour half h by the rules, over the ports that two tables have, however many planes are read.
-pub record Favours (h n : ℕ) (planes ins outs mask : List ℕ) : Type 0 where
+-- A mask has the odd counts that favour half h by the rules, over the ends that a table has, however many planes are read.
+pub record Favours (h n : ℕ) (planes ends mask : List ℕ) : Type 0 where
   pub odds : Mask n planes mask
-  pub has : (m p : ℕ) → p < n → digitAt mask p ≡ bit (eqb (getD (favours (tabled ins outs) (countsIn (suc m) planes n)) p 0) h)
+  pub has : (m p : ℕ) → p < n → digitAt mask p ≡ bit (eqb (getD (favours (tabled ends) (countsIn (suc m) planes n)) p 0) h)
+
+-- What a split of the first n counts answers, r, and leaves in the three lists that it is lent.
+pub record Splits (n : ℕ) (planes ends odds-before mates-before mask-before : List ℕ) (r : ℕ) (odds mates mask : List ℕ) : Type 0 where
+  -- The answer is how many counts are odd, and the list has their positions in front and behind them what it had.
+  pub listed : Gathered n planes odds-before odds r
+  -- The table has a place for each end of each position.
+  pub len : WideEnds mates
+  -- Each odd count has its partner at its input and at its output, however many planes are read.
+  pub mated : (m : ℕ) (s : End) → Every (λ p. tabled mates s p ≡ mate (tabled ends) (countsIn (suc m) planes n) s p) (oddsIn n planes)
+  -- Every other place of the table has what it had.
+  pub kept : (s : End) (p : ℕ) → p < 528 → Every (λ q. q ≢ p) (oddsIn n planes) → tabled mates s p ≡ tabled mates-before s p
+  -- The mask has the odd counts that favour the first half.
+  pub favoured : Favours 1 n planes ends mask
+  -- Behind the words that n positions take the mask has what it had.
+  pub behind : (w : ℕ) → wordsOf n ≤ w → getD mask w 0 ≡ getD mask-before w 0

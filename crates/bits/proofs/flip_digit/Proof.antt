@@ -8,4 +8,4 @@ flip-digit-spec =
     tie.close
     (tie.spec
     (λ c. search needs)
-    (λ c. turn-at (c .pre)))
+    (λ c. search (needs, turn-at)))

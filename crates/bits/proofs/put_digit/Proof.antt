@@ -8,4 +8,4 @@ put-digit-spec =
     tie.close
     (tie.spec
     (λ c. search needs)
-    (λ c. put-at (c .pre .0) (c .pre .1)))
+    (λ c. search (needs, put-at)))

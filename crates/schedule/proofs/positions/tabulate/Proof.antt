@@ -1,15 +1,15 @@
 use Prim.Native.Nat.{_-_}
 use borrow.Author.Needs.{needs}
 use native.Mathlib.Omega.{arith}
-use Rattle.schedule.proofs.Tabled.{Tabling, tabling-start, tabling-in, tabling-low, in-low, out-in, link-in, tabling-on, tabling-end, multi-end}
+use Rattle.schedule.proofs.Tabled.{Tabling, tabling-start, tabling-in, tabling-low, in-low, out-in, link-in, tabling-on, tabling-end, sides-end}
 use Rattle.schedule.proofs.positions.tabulate.Statement.{statement}
 use Rattle.schedule.proofs.positions.tabulate.Tie as tie
 
 abbrev Inv-loop : tie.InvT-loop
-Inv-loop list ins₀ outs₀ count shared₀ f₀ ins outs multi f = Tabling list count f multi ins outs
+Inv-loop list ends₀ count multi-link₀ f₀ ends multi-link f = Tabling list count f multi-link ends
 
 abbrev μ-loop : tie.MeasureT-loop
-μ-loop list ins₀ outs₀ count shared₀ f₀ ins outs multi f = count - f
+μ-loop list ends₀ count multi-link₀ f₀ ends multi-link f = count - f
 
 pub tabulate-spec : {M : Type 1} → statement M
 tabulate-spec =
@@ -23,12 +23,14 @@ tabulate-spec =
     (λ c κs. (search (needs, tabling-in), omega arith))
     (λ c. let low = in-low (c .before .before .before .loop .inv) (c .before .before .loop-test .taken) (c .number-of .ensures .0) in omega arith)
     (λ c. let low = in-low (c .before .before .before .loop .inv) (c .before .before .loop-test .taken) (c .number-of .ensures .0) in omega arith)
-    (λ c. search (needs, tabling-low))
     (λ c. search needs)
-    (λ c. search (needs, tabling-low))
+    (λ c. omega (arith, tabling-low (c .before .before .before .loop .inv) (c .before .before .loop-test .taken)))
+    (λ c. search needs)
+    (λ c. omega (arith, tabling-low (c .before .before .before .loop .inv) (c .before .before .loop-test .taken)))
+    (λ c. omega (arith, tabling-low (c .before .before .before .loop .inv) (c .before .before .loop-test .taken)))
     (λ c κs. search needs)
     (λ c κs. search needs)
     (λ c. search needs)
     (λ c. search needs)
-    (λ c. search (needs, tabling-on))
-    (λ c. (search (needs, tabling-end), search (needs, multi-end))))
+    (λ c. let turn = c .before .before .before .before in search (needs, tabling-on (turn .before .loop .inv) (turn .loop-test .taken)))
+    (λ c. (search (needs, tabling-end), search (needs, sides-end))))

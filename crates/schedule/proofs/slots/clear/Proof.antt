@@ -1,14 +1,15 @@
 use Prim.Native.Nat.{_-_}
 use borrow.Author.Needs.{needs}
+use lib.ListN.{length}
 use Rattle.schedule.proofs.Written.{Cleared, cleared-start, cleared-on, cleared-end}
 use Rattle.schedule.proofs.slots.clear.Statement.{statement}
 use Rattle.schedule.proofs.slots.clear.Tie as tie
 
 abbrev Inv-loop : tie.InvT-loop
-Inv-loop ports slot₀ i₀ slot i = Cleared ports slot₀ i slot
+Inv-loop frame₀ i₀ frame i = Cleared frame₀ i frame
 
 abbrev μ-loop : tie.MeasureT-loop
-μ-loop ports slot₀ i₀ slot i = ports - i
+μ-loop frame₀ i₀ frame i = length frame₀ - i
 
 pub clear-spec : {M : Type 1} → statement M
 clear-spec =
@@ -16,7 +17,7 @@ clear-spec =
     (tie.spec
     Inv-loop
     μ-loop
-    (λ c. search (needs, cleared-start))
+    (λ c. cleared-start _)
     (λ c. search needs)
     (λ c. search needs)
     (λ c. search needs)

@@ -7,10 +7,10 @@ use Rattle.schedule.proofs.slots.put_cells.Statement.{statement}
 use Rattle.schedule.proofs.slots.put_cells.Tie as tie
 
 abbrev Inv-loop : tie.InvT-loop
-Inv-loop x base ins slot₀ rest₀ slot rest = Putting ins base x slot₀ rest slot
+Inv-loop x base ends slot₀ rest₀ slot rest = Putting ends base x slot₀ rest slot
 
 abbrev μ-loop : tie.MeasureT-loop
-μ-loop x base ins slot₀ rest₀ slot rest = rest
+μ-loop x base ends slot₀ rest₀ slot rest = rest
 
 pub put-cells-spec : {M : Type 1} → statement M
 put-cells-spec =
@@ -21,7 +21,8 @@ put-cells-spec =
     (λ c. search (needs, putting-start))
     (λ c. omega (arith, putting-zeros (c .before .loop .inv) (c .loop-test .taken)))
     (λ c. omega (arith, putting-zeros (c .before .loop .inv) (c .loop-test .taken)))
-    (λ c. search (needs, putting-low))
+    (λ c. omega (arith, putting-low (c .before .loop .inv) (c .loop-test .taken) refl))
+    (λ c. omega (arith, putting-low (c .before .loop .inv) (c .loop-test .taken) refl))
     (λ c κs. search needs)
     (λ c. let low = putting-low (c .before .before .before .loop .inv) (c .before .before .loop-test .taken) refl in omega arith)
     (λ c. let low = putting-low (c .before .before .before .loop .inv) (c .before .before .loop-test .taken) refl in omega arith)

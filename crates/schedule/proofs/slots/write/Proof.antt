@@ -1,15 +1,16 @@
 use Prim.Native.Nat.{_≤_, _-_}
 use borrow.Author.Needs.{needs}
 use native.Mathlib.Omega.{arith}
+use lib.ListN.{length}
 use Rattle.schedule.proofs.Written.{Writing, writing-start, writing-placed, writing-on, writing-end}
 use Rattle.schedule.proofs.slots.write.Statement.{statement}
 use Rattle.schedule.proofs.slots.write.Tie as tie
 
 abbrev Inv-loop : tie.InvT-loop
-Inv-loop planes n ports ins slot₀ words w₀ slot w = (w ≤ words) × Writing ins planes ports w slot
+Inv-loop planes n ends slot₀ words w₀ slot w = (w ≤ words) × Writing ends planes (length slot₀) w slot
 
 abbrev μ-loop : tie.MeasureT-loop
-μ-loop planes n ports ins slot₀ words w₀ slot w = words - w
+μ-loop planes n ends slot₀ words w₀ slot w = words - w
 
 pub write-spec : {M : Type 1} → statement M
 write-spec =
@@ -17,7 +18,6 @@ write-spec =
     (tie.spec
     Inv-loop
     μ-loop
-    (λ c κs. search needs)
     (λ c κs. search needs)
     (λ c. (omega arith, search (needs, writing-start)))
     (λ c. search needs)

@@ -1,14 +1,16 @@
 use borrow.Author.Needs.{needs}
+use native.Mathlib.Omega.{arith}
 use Rattle.rules.specs.Schedule.{favouring}
+use Rattle.split.specs.Steps.{lookup}
 use Rattle.split.proofs.Walked.{Walking, walking-start, walking-at, walking-stop, walking-room, walking-at-2, walking-stop-2, walking-room-2, walking-on, walking-less}
 use Rattle.split.proofs.groups.walk.Statement.{statement}
 use Rattle.split.proofs.groups.walk.Tie as tie
 
 abbrev Inv-loop : tie.InvT-loop
-Inv-loop start near far count group₀ favoured₀ n₀ p₀ group favoured n p = Walking near far start count group₀ favoured₀ p n group favoured
+Inv-loop start near far mates favoured₀ steps₀ p₀ favoured steps p = Walking (lookup mates near) (lookup mates far) start favoured₀ p steps favoured
 
 abbrev μ-loop : tie.MeasureT-loop
-μ-loop start near far count group₀ favoured₀ n₀ p₀ group favoured n p = favouring 0 favoured
+μ-loop start near far mates favoured₀ steps₀ p₀ favoured steps p = favouring 0 favoured
 
 pub walk-spec : {M : Type 1} → statement M
 walk-spec =
@@ -16,7 +18,8 @@ walk-spec =
     (tie.spec
     Inv-loop
     μ-loop
-    (λ c. walking-start _ _ (c .pre .0) (c .pre .1) (c .pre .2) (c .pre .3))
+    (λ c. walking-start _ _ (c .pre .2) (c .pre .3))
+    (λ c. search needs)
     (λ c. search needs)
     (λ c. search needs)
     (λ c κs. search needs)
@@ -24,16 +27,15 @@ walk-spec =
     (λ c. search (needs, walking-stop))
     (λ c. search (needs, walking-at))
     (λ c. search (needs, walking-room))
-    (λ c. search (needs, walking-room))
-    (λ c. search (needs, walking-room))
+    (λ c. search needs)
     (λ c. search (needs, walking-at))
-    (λ c. search (needs, walking-at))
+    (λ c.
+    let at = c .before .before .before .before in
+    omega (arith, walking-at (at .loop .inv) (at .before .pre .2) (at .before .pre .3) (c .before .before .number .ensures .0)))
     (λ c κs. search needs)
     (λ c. search (needs, walking-at-2))
     (λ c. search (needs, walking-stop-2))
     (λ c. search (needs, walking-at-2))
-    (λ c. search (needs, walking-room-2))
-    (λ c. search (needs, walking-room-2))
     (λ c. search (needs, walking-room-2))
     (λ c. search (needs, walking-less))
     (λ c. search (needs, walking-on)))

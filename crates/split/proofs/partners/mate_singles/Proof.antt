@@ -6,10 +6,10 @@ use Rattle.split.proofs.partners.mate_singles.Statement.{statement}
 use Rattle.split.proofs.partners.mate_singles.Tie as tie
 
 abbrev Inv-loop : tie.InvT-loop
-Inv-loop latest pending output mates₀ one₀ waiting₀ l₀ mates one alone l = (l ≤ 4) × Joining latest pending (output * 4) l mates₀ mates alone one
+Inv-loop latest pending output mates₀ one₀ alone₀ l₀ mates one alone l = (l ≤ 4) × Joining latest pending (output * 4) l mates₀ mates alone one
 
 abbrev μ-loop : tie.MeasureT-loop
-μ-loop latest pending output mates₀ one₀ waiting₀ l₀ mates one alone l = 4 - l
+μ-loop latest pending output mates₀ one₀ alone₀ l₀ mates one alone l = 4 - l
 
 pub mate-singles-spec : {M : Type 1} → statement M
 mate-singles-spec =
@@ -22,9 +22,9 @@ mate-singles-spec =
     (λ c. search needs)
     (λ c. search needs)
     (λ c. search needs)
-    (λ c. search needs)
     (λ c κs. search needs)
-    (λ c κs. (search (needs, comes-low), search (needs, comes-low, partner-low), search needs))
+    (λ c κs. search needs)
+    (λ c κs. (search (needs, comes-low), search (needs, comes-low, partner-low)))
     (λ c κs. search needs)
     (λ c κs. search needs)
     (λ c. search needs)
