@@ -1,6 +1,6 @@
 -- A goal by cases on a test, each case with the fact that the test shows.
 use Prim.Native.Nat.{ℕ, suc, zero, _≤_, _<_}
-use mathlib.Core.Path.{_≡_, refl, sym}
+use mathlib.Core.Path.{_≡_, refl, sym, _∙_}
 use mathlib.Core.Logic.{_≢_}
 use mathlib.Core.Bool.{Bool, true, false, true≢false}
 use native.Mathlib.Omega.{arith}
@@ -29,6 +29,10 @@ both-false false b e f g = true≢false (sym f)
 
 pub both-yes : (a b : Bool) → a ≡ true → b ≡ true → both a b ≡ true
 both-yes a b e f = rw (e, f)
+
+-- two tests of which either holds where the other does
+pub eqb-alike : (a x b y : ℕ) → (a ≡ x → b ≡ y) → (b ≡ y → a ≡ x) → eqb a x ≡ eqb b y
+eqb-alike a x b y f g = byEq a x (λ d. eq-eqb a x d ∙ sym (eq-eqb b y (f d))) (λ d. ne-eqb a x d ∙ sym (ne-eqb b y (λ k. d (g k))))
 
 -- ---- a test as a number
 pub is-yes : (x h : ℕ) → x ≡ h → bit (eqb x h) ≡ 1

@@ -1,13 +1,13 @@
 -- Cells: those of whole slots end to end add up, and runs of what is put end to end are runs of its parts.
 use Prim.Native.Nat.{ℕ, _+_, _*_, _%_, _≤_}
 use mathlib.Core.Path.{_≡_, refl, ap, _∙_}
-use mathlib.Core.List.{List, [], _∷_, _++_}
+use mathlib.Core.List.{List, [], _++_}
 use native.Mathlib.Omega.{arith}
 use native.Mathlib.Nat.{mul-le-mul-right, mul-add-mod-self-right, mod-eq-of-lt}
 use lib.ListN.{length, getD, drop, length-append, length-take, length-drop, List·getD-append}
 use lib.Seq.{getD-append-add, take-add, drop-drop, take-all, take-append-le, drop-append-le, drop-append-add}
 use Rattle.rules.specs.Words.{bit, sumTo}
-use Rattle.rules.specs.Flows.{Class, flow, portOn, input, output, link, total, portOf}
+use Rattle.rules.specs.Flows.{Class}
 use Rattle.rules.specs.Frames.{counts, cells, runOf}
 use Rattle.rules.proofs.Sums.{sum-ext, sum-append}
 
@@ -73,14 +73,3 @@ module _ (ports : ℕ) where
     cells-run c start a b entries h =
         ap (cells c ports list) (run-append start a b entries)
         ∙ cells-append list c a (runOf ports start a entries) (runOf ports (start + a) b entries) (run-length start a entries h)
-
--- An entry that is no flow counts for its input only, not for the first link or the total. Two flows, from input 1 to output 2 and from
--- input 2 to output 1; slot 1 has the second at input 1 and a number past the list at input 2, slot 2 has both at their own inputs.
-abbrev OnlyAtItsInput : List ℕ → List ℕ → Type 0
-OnlyAtItsInput list entries =
-    (cells (portOn input 1) 2 list entries ≡ 2) × (cells (flow 8) 2 list entries ≡ 0) × (cells (portOn output 0) 2 list entries ≡ 2)
-    × (cells (link 0) 2 list entries ≡ 2) × (cells total 2 list entries ≡ 3)
-
-pub no-flow-counts : OnlyAtItsInput (1 ∷ 2 ∷ 1 ∷ 1 ∷ 2 ∷ 1 ∷ 1 ∷ 1 ∷ []) (2 ∷ 9 ∷ 1 ∷ 2 ∷ [])
-unfolding cells sumTo portOf
-no-flow-counts = (refl, refl, refl, refl, refl)

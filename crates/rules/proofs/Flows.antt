@@ -43,7 +43,7 @@ output-low ports x h = omega arith
 
 -- the total is of every switch
 pub total-on : (ports : ℕ) → OnSwitch ports total
-total-on ports = tt
+total-on ports = omega arith
 
 -- the four links of each output of the switch are links of the switch
 pub links-on : (ports o l : ℕ) → o < ports → l < 4 → OnSwitch ports (link (o * 4 + l))

@@ -11,7 +11,7 @@ use lib.Seq.{getD-set-other}
 use borrow.Author.Tests.{eqb-true, eqb-false, eq-eqb, ne-eqb, not-true}
 use Rattle.rules.specs.Words.{both, bit, upFrom, keep, sumTo}
 use Rattle.rules.specs.Flows.{End, inputs, links}
-use Rattle.rules.specs.Rules.{odd, Joined, itself, onward, backward}
+use Rattle.rules.specs.Rules.{odd, Partnered, Joined, itself, onward, backward}
 use Rattle.rules.specs.Schedule.{walk, favouring}
 use Rattle.rules.proofs.Cases.{byBool, byEq, byLt, both-true, both-false, is-yes, is-no}
 use Rattle.rules.proofs.Sums.{sum-ext, sum-add}
@@ -242,18 +242,17 @@ module _ (m : List ℕ) (f : End → ℕ → ℕ) (pf : (s : End) → Pairing (o
 
 -- ---- the rule's groups are what partners reach
 module _ (port : End → ℕ → ℕ) (m : List ℕ) (p : ℕ) where
-  pub joined-reached : (q : ℕ) → Joined port m p q → JoinedBy (mate port m) p q
+  pub joined-reached : (q : ℕ) → Joined (Partnered port m) p q → JoinedBy (mate port m) p q
   joined-reached q (itself) = here
-  joined-reached q (onward c {q = r} j w) =
-      let e = rule-partner port m c r q w in
+  joined-reached q (onward {q = r} j w) =
+      let e = rule-partner port m r q w in
       subst (λ (t : ℕ). JoinedBy (mate port m) p t) (e .there) (step (e .side) r (joined-reached r j))
-  joined-reached q (backward c {q = r} j w) =
-      let e = rule-partner port m c q r w in
+  joined-reached q (backward {q = r} j w) =
+      let e = rule-partner port m q r w in
       subst (λ (t : ℕ). JoinedBy (mate port m) p t) (e .back) (step (e .side) r (joined-reached r j))
 
-  pub reached-joined : (q : ℕ) → JoinedBy (mate port m) p q → Joined port m p q
+  pub reached-joined : (q : ℕ) → JoinedBy (mate port m) p q → Joined (Partnered port m) p q
   reached-joined q j =
-      reached-closed (mate port m) p (λ t. Joined port m p t) itself
-      (λ s t k. byEq (mate port m s t) t (λ e. rw e k)
-      (λ n. let r = partner-rule port m s t n in ⊎-elim (λ w. onward (r .0) k w) (λ w. backward (r .0) k w) (r .1)))
+      reached-closed (mate port m) p (λ t. Joined (Partnered port m) p t) itself
+      (λ s t k. byEq (mate port m s t) t (λ e. rw e k) (λ n. ⊎-elim (λ w. onward k w) (λ w. backward k w) (partner-rule port m s t n)))
       q j

@@ -11,7 +11,7 @@ use lib.ListN.{length, getD, List·getD-eq-default}
 use borrow.Author.Tests.{eq-eqb, ne-eqb}
 use Rattle.rules.specs.Words.{if, both, bit, Near, sumTo, sumIf, Every}
 use Rattle.rules.specs.Flows.{End, inputs, links, outputOf, Class, flow, portOn, input, output, link, total, isOf, loadIn, Fits}
-use Rattle.rules.specs.Rules.{odd, oddsAt, Partners, these, later, single, singlesOf, partnered, favoursFirst, Split}
+use Rattle.rules.specs.Rules.{odd, oddsAt, Partners, these, later, single, singlesOf, partnered, Partnered, favoursFirst, Split}
 use Rattle.rules.specs.Schedule.{favouring, favours, halfOf}
 use Rattle.rules.proofs.Cases.{byBool, byEq, byLt}
 use Rattle.rules.proofs.Sums.{sum-none, sum-ext, sum-add, sum-shift, sum-swap, sum-zero, sum-one, sum-has}
@@ -24,7 +24,7 @@ use Rattle.rules.proofs.Settled.{favours-law, favours-level}
 use Rattle.rules.proofs.Splits.{half-at, more, less, alike, only-split}
 
 -- ---- over the odd counts that are partnered, partner by partner
-module _ (port : End → ℕ → ℕ) (m a b : List ℕ) (sp : Split port m a b) where
+module _ (port : End → ℕ → ℕ) (m a b : List ℕ) (sp : Split (Partnered port m) m a b) where
   two : (p q : ℕ) → odd m p ≡ true → odd m q ≡ true → favoursFirst a b p ≡ not (favoursFirst a b q) → getD a p 0 + getD a q 0 ≡ getD b p 0 + getD b q 0
   two p q e f o =
       byBool (favoursFirst a b q)
@@ -50,7 +50,7 @@ module _ (port : End → ℕ → ℕ) (m a b : List ℕ) (sp : Split port m a b)
   -- over all that are partnered at a class
   class-near : (c : Class) → Every (λ p. odd m p ≡ true) (partnered c port m)
       → Near 1 (sumOver (λ p. getD a p 0) (partnered c port m)) (sumOver (λ p. getD b p 0) (partnered c port m))
-  class-near c od = let e = pairwise (partnered c port m) od (sp .opposite c) in let n = single-near (partnered c port m) in omega arith
+  class-near c od = let e = pairwise (partnered c port m) od (λ p q w. sp .opposite p q (c, w)) in let n = single-near (partnered c port m) in omega arith
 
   -- ---- over all counts of a side that are at x: the even ones give both halves the same
   module _ (s : End) (x : ℕ) where
@@ -94,7 +94,7 @@ module _ (port : End → ℕ → ℕ) (m a b : List ℕ) (sp : Split port m a b)
   links-sums x (suc n) =
       let r = links-sums (suc x) n in
       let e = port-sums links x in
-      let f = pairwise (oddsAt (port links) m x) (odds-odd links x) (sp .opposite (link x)) in
+      let f = pairwise (oddsAt (port links) m x) (odds-odd links x) (λ p q w. sp .opposite p q (link x, w)) in
       omega (
         arith,
         first-link a,
@@ -141,7 +141,7 @@ module _ (port : End → ℕ → ℕ) (m : List ℕ) where
       ∙ ap (λ z. sumTo (length m) (λ p. getD m p 0 / 2) + z) (ap (λ (k : ℕ). sumTo k (λ p. bit (eqb (getD (favours port m) p 0) h))) (sym len) ∙ sym (favouring-sum h (favours port m)))
 
   -- the halves that meet the rules are the function's, in which those that favour either half are level
-  pub total-near : (a b : List ℕ) → Split port m a b → Near 1 (sumTo (length m) (λ p. getD a p 0)) (sumTo (length m) (λ p. getD b p 0))
+  pub total-near : (a b : List ℕ) → Split (Partnered port m) m a b → Near 1 (sumTo (length m) (λ p. getD a p 0)) (sumTo (length m) (λ p. getD b p 0))
   total-near a b sp =
       let only = only-split port m a b sp in
       let level = favours-level port m in
@@ -171,7 +171,7 @@ load-add c port m a b la lb h =
     (sym (sum-add (length m) (λ p. if (isOf c port p) (getD a p 0) 0) (λ p. if (isOf c port p) (getD b p 0) 0))
     ∙ sum-ext (length m) _ _ (λ p _. byBool (isOf c port p) (λ e. rw e (h p)) (λ e. rw e (omega arith))))
 
-module _ (port : End → ℕ → ℕ) (m a b : List ℕ) (sp : Split port m a b) where
+module _ (port : End → ℕ → ℕ) (m a b : List ℕ) (sp : Split (Partnered port m) m a b) where
   pub halves-sum : (c : Class) → loadIn c port a + loadIn c port b ≡ loadIn c port m
   halves-sum c = load-add c port m a b (sp .first-size) (sp .second-size) (sp .shared)
 

@@ -6,6 +6,7 @@ pub mod Kept
 pub mod Searches
 pub mod Integers
 pub mod Levels
+pub mod Bench
 pub mod Partners
 pub mod Singles
 pub mod Favouring
@@ -24,4 +25,7 @@ pub mod Runs
 pub mod Blocks
 pub mod Legal
 pub mod OneFrame
+pub mod Spread
+pub mod Along
 pub mod Pairs
+pub mod SamePairs

@@ -11,7 +11,7 @@ use lib.Seq.{getD-append-add}
 use Rattle.rules.specs.Words.{Near}
 use Rattle.rules.specs.Flows.{flows, End, portOf, countsOf, Class, flow, portOn, output, OnSwitch, Fits}
 use Rattle.rules.specs.Frames.{right, cells, runOf, Legal, Block, Balanced}
-use Rattle.rules.specs.Rules.{Split, Slot, Scheduled}
+use Rattle.rules.specs.Rules.{Partnered, Split, Slot, Scheduled}
 use Rattle.rules.specs.Schedule.{halfOf, frameOf}
 use Rattle.rules.specs.OneFrame.{OneFrame}
 use Rattle.rules.proofs.Cases.{byLt}
@@ -23,7 +23,6 @@ use Rattle.rules.proofs.Slots.{AtInputs, slot-length, slot-is, only-slo
 use Rattle.rules.proofs.Blocks.{block-fits, block-one, block-part}
 use Rattle.rules.proofs.Levels.{double}
 
--- twice as many, as the rules count
 -- ---- it exists
 pub frame-is : (ports : ℕ) (port : End → ℕ → ℕ) (k : ℕ) (m : List ℕ) → AtInputs ports port (length m) → Fits ports (2 ^ k) port m
     → Scheduled ports port k m (frameOf ports port k m)
@@ -81,9 +80,9 @@ legal-laid {ports} {slots} {list} {entries} l =
 abbrev pub LaidEvenly : ℕ → ℕ → List ℕ → List ℕ → List ℕ → Type 0
 LaidEvenly ports slots list m entries = Laid ports slots list m entries × Balanced ports slots list entries
 
-slot-sound : (ports : ℕ) (list m entries : List ℕ) → length m ≡ flows list → AtInputs ports (portOf list) (flows list) → Fits ports 1 (portOf list) m
+slot-sound : (ports : ℕ) (list m entries : List ℕ) → length m ≡ flows list → AtInputs ports (portOf list) (flows list)
     → Slot ports (portOf list) m entries → LaidEvenly ports 1 list m entries
-slot-sound ports list m entries size placed fits s = (
+slot-sound ports list m entries size placed s = (
   record {
     size = s .size ∙ omega arith;
     each-right = slot-right ports list m entries size placed s;
@@ -91,12 +90,12 @@ slot-sound ports list m entries size placed fits s = (
     once = λ t o ht ho.
         let z : t ≡ 0 = omega arith in
         let e = slot-exact ports list m entries size placed s (portOn output o) in
-        rw (z, run-all ports 1 entries (s .size ∙ omega arith)) (omega (arith, fits o ho .1));
+        rw (z, run-all ports 1 entries (s .size ∙ omega arith)) (omega (arith, s .few o ho .1));
   },
   λ c of start half b. let e = block-one start (2 * half) b in absurd (omega arith),
 )
 
-module _ (ports n : ℕ) (list m a b f g : List ℕ) (size : length m ≡ flows list) (sp : Split (portOf list) m a b) (sf : LaidEvenly ports n list a f) (sg : LaidEvenly ports n list b g) where
+module _ (ports n : ℕ) (list m a b f g : List ℕ) (size : length m ≡ flows list) (sp : Split (Partnered (portOf list) m) m a b) (sf : LaidEvenly ports n list a f) (sg : LaidEvenly ports n list b g) where
   lf : length f ≡ n * ports
   lf = sf .0 .size
 
@@ -150,17 +149,16 @@ module _ (ports n : ℕ) (list m a b f g : List ℕ) (size : length m ≡ flows 
     λ c of start half b. halves-balanced c of start half (block-part (2 * n) n start (2 * half) refl b),
   )
 
-pub rules-sound : (ports k : ℕ) (list m entries : List ℕ) → length m ≡ flows list → AtInputs ports (portOf list) (flows list) → Fits ports (2 ^ k) (portOf list) m
+pub rules-sound : (ports k : ℕ) (list m entries : List ℕ) → length m ≡ flows list → AtInputs ports (portOf list) (flows list)
     → Scheduled ports (portOf list) k m entries → LaidEvenly ports (2 ^ k) list m entries
 unfolding Scheduled
-rules-sound ports zero list m entries size placed fits s = slot-sound ports list m entries size placed fits s
-rules-sound ports (suc k) list m entries size placed fits s =
+rules-sound ports zero list m entries size placed s = slot-sound ports list m entries size placed s
+rules-sound ports (suc k) list m entries size placed s =
     let sp = s .split in
-    let half = halves-fit (portOf list) m (s .first) (s .second) sp ports (2 ^ k) (rw (double k) at fits) in
     rw (s .joined, double k)
     (halves-sound ports (2 ^ k) list m (s .first) (s .second) (s .front) (s .back) size sp
-    (rules-sound ports k list (s .first) (s .front) (sp .first-size ∙ size) placed (half .0) (s .first-half))
-    (rules-sound ports k list (s .second) (s .back) (sp .second-size ∙ size) placed (half .1) (s .second-half)))
+    (rules-sound ports k list (s .first) (s .front) (sp .first-size ∙ size) placed (s .first-half))
+    (rules-sound ports k list (s .second) (s .back) (sp .second-size ∙ size) placed (s .second-half)))
 
 -- Demand 2, for a list whose load fits: the entries meet the rules, nothing else does, and they are legal and balanced.
 pub one-frame : (ports k : ℕ) (list : List ℕ) → AtInputs ports (portOf list) (flows list) → Fits ports (2 ^ k) (portOf list) (countsOf list)
@@ -169,5 +167,5 @@ one-frame ports k list placed fits =
     let m = countsOf list in
     let port = portOf list in
     let s = frame-is ports port k m (rw (counts-length list) placed) fits in
-    let v = rules-sound ports k list m (frameOf ports port k m) (counts-length list) placed fits s in
+    let v = rules-sound ports k list m (frameOf ports port k m) (counts-length list) placed s in
     record { meets = s; only = only-frame ports port k m; legal = legal-laid (v .0); balanced = v .1 }

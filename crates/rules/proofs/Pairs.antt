@@ -1,47 +1,118 @@
--- Pairs: a list with one flow for each pair in matrix order has the matrix's counts and ports, and puts the same pairs in the same slots.
-use Prim.Native.Nat.{ℕ, suc, zero, _+_, _-_, _*_, _/_, _%_, _<_}
-use mathlib.Core.Path.{_≡_, refl, sym, ap, ap₂, _∙_, fun-ext}
-use mathlib.Core.List.{List, [], _∷_, _++_, map}
-use mathlib.Core.Bool.{true}
+-- Pairs: the lists of a matrix, where each flow stands in the matrix, and the list that leaves out no pair.
+use Prim.Native.Nat.{ℕ, suc, zero, _+_, _*_, _/_, _%_, _≤_, _<_}
+use mathlib.Core.Path.{_≡_, refl, sym, ap, _∙_}
+use mathlib.Core.Logic.{_≢_}
+use mathlib.Core.List.{List, [], _∷_}
 use native.Mathlib.Omega.{arith}
-use lib.Dec.{eqb}
-use lib.ListN.{length, getD, set, replicate}
+use lib.ListN.{length, getD, List·getD-eq-default}
 use lib.Seq.{ext-getD}
-use borrow.Author.Tests.{eq-eqb, ne-eqb}
-use Rattle.rules.specs.Words.{upFrom, keep, Every, Within}
+use Rattle.rules.specs.Words.{Within}
 use Rattle.rules.specs.Flows.{stride, flows, numberOf, inputs, links, outputOf, portOf, countsOf}
-use Rattle.rules.specs.Rules.{odd}
-use Rattle.rules.specs.Schedule.{favoursBy, favours, halfBy, put, slotOf, frameOf}
-use Rattle.rules.specs.Pairs.{favoursByPairs, putPairs, slotByPairs, frameByPairs, flowsFrom, inMatrixOrder, sendsTo, SamePairs}
-use Rattle.rules.proofs.Cases.{byEq}
-use Rattle.rules.proofs.Lists.{every-map}
-use Rattle.rules.proofs.Kept.{keep-every}
-use Rattle.rules.proofs.Settled.{favours-law}
-use Rattle.rules.proofs.Splits.{half-length}
-use Rattle.rules.proofs.Singles.{one-link}
-use Rattle.rules.proofs.SamePorts.{partner-alike}
+use Rattle.rules.specs.Pairs.{ListOf, at-end, named, left-out, flowsFrom, inMatrixOrder}
+use Rattle.rules.proofs.Cases.{byLt}
 use Rattle.rules.proofs.Flows.{counts-length, counts-at}
+use Rattle.rules.proofs.Spread.{Places, Spread}
 
--- ---- the list
-from-length : (ports p : ℕ) (m : List ℕ) → length (flowsFrom ports p m) ≡ length m * stride
-unfolding flowsFrom
-from-length ports p [] = refl
-from-length ports p (x ∷ m) = omega (arith, from-length ports (suc p) m)
+-- ---- the lists of a matrix
+module _ (ports : ℕ) where
+  -- the place of each flow in the matrix; the numbers past the list have the places past it
+  abbrev pub placeIn : {p : ℕ} {matrix list : List ℕ} → ListOf ports p matrix list → ℕ → ℕ
+  placeIn (at-end) f = f
+  placeIn (named l) zero = 0
+  placeIn (named l) (suc f) = suc (placeIn l f)
+  placeIn (left-out l) f = suc (placeIn l f)
 
--- the four numbers of flow f
-from-numbers : (ports p : ℕ) (m : List ℕ) (f : ℕ) → f < length m
-    → (numberOf 0 (flowsFrom ports p m) f ≡ suc ((p + f) / ports)) × (numberOf 1 (flowsFrom ports p m) f ≡ suc ((p + f) % ports))
-    × (numberOf 2 (flowsFrom ports p m) f ≡ getD m f 0) × (numberOf 3 (flowsFrom ports p m) f ≡ 1)
-unfolding flowsFrom
-from-numbers ports p [] f h = absurd (omega arith)
-from-numbers ports p (x ∷ m) zero h =
-    let e : p ≡ p + 0 = omega arith in
-    (ap (λ z. suc (z / ports)) e, ap (λ z. suc (z % ports)) e, refl, refl)
-from-numbers ports p (x ∷ m) (suc f) h =
-    let r = from-numbers ports (suc p) m f (omega arith) in
-    let e : suc p + f ≡ p + suc f = omega arith in
-    let at : (j : ℕ) → suc f * stride + j ≡ suc (suc (suc (suc (f * stride + j)))) = λ j. omega arith in
-    rw (at 0, at 1, at 2, at 3) (r .0 ∙ ap (λ z. suc (z / ports)) e, r .1 ∙ ap (λ z. suc (z % ports)) e, r .2, r .3)
+  place-rises : {p : ℕ} {matrix list : List ℕ} (l : ListOf ports p matrix list) (f g : ℕ) → f < g → placeIn l f < placeIn l g
+  place-rises (at-end) f g h = h
+  place-rises (named l) f zero h = absurd (omega arith)
+  place-rises (named l) zero (suc g) h = omega arith
+  place-rises (named l) (suc f) (suc g) h = omega (arith, place-rises l f g (omega arith))
+  place-rises (left-out l) f g h = omega (arith, place-rises l f g h)
+
+  place-inside : {p : ℕ} {matrix list : List ℕ} (l : ListOf ports p matrix list) (f : ℕ) → f < flows list → placeIn l f < length matrix
+  place-inside (at-end) f h = h
+  place-inside (named l) zero h = omega arith
+  place-inside (named l) (suc f) h = omega (arith, place-inside l f (omega arith))
+  place-inside (left-out l) f h = omega (arith, place-inside l f h)
+
+  place-only : {p : ℕ} {matrix list : List ℕ} (l : ListOf ports p matrix list) (f : ℕ) → placeIn l f < length matrix → f < flows list
+  place-only (at-end) f h = h
+  place-only (named l) zero h = omega arith
+  place-only (named l) (suc f) h = omega (arith, place-only l f (omega arith))
+  place-only (left-out l) f h = place-only l f (omega arith)
+
+  -- a position that is no flow's place has no cells
+  place-off : {p : ℕ} {matrix list : List ℕ} (l : ListOf ports p matrix list) (q : ℕ) → ((f : ℕ) → placeIn l f ≢ q) → getD matrix q 0 ≡ 0
+  place-off (at-end) q none = refl
+  place-off (named l) zero none = absurd (none 0 refl)
+  place-off (named l) (suc q) none = place-off l q (λ f d. none (suc f) (ap suc d))
+  place-off (left-out l) zero none = omega arith
+  place-off (left-out l) (suc q) none = place-off l q (λ f d. none f (ap suc d))
+
+  -- the four numbers of flow f
+  place-numbers : {p : ℕ} {matrix list : List ℕ} (l : ListOf ports p matrix list) (f : ℕ) → f < flows list
+      → (numberOf 0 list f ≡ suc ((p + placeIn l f) / ports)) × (numberOf 1 list f ≡ suc ((p + placeIn l f) % ports))
+      × (numberOf 2 list f ≡ getD matrix (placeIn l f) 0) × (numberOf 3 list f ≡ 1)
+  place-numbers (at-end) f h = absurd (omega arith)
+  place-numbers (named {p = p} l) zero h = let e : p + 0 ≡ p = omega arith in rw e (refl, refl, refl, refl)
+  place-numbers (named {p = p} l) (suc f) h =
+      let e : p + suc (placeIn l f) ≡ suc p + placeIn l f = omega arith in
+      let at : (j : ℕ) → suc f * stride + j ≡ suc (suc (suc (suc (f * stride + j)))) = λ j. omega arith in
+      rw (e, at 0, at 1, at 2, at 3) (place-numbers l f (omega arith))
+  place-numbers (left-out {p = p} l) f h =
+      let e : p + suc (placeIn l f) ≡ suc p + placeIn l f = omega arith in
+      rw e (place-numbers l f h)
+
+  -- ---- of the whole matrix
+  module _ {matrix list : List ℕ} (l : ListOf ports 0 matrix list) where
+    pub list-places : Places (flows list) (length matrix) (placeIn l)
+    list-places = record { rising = place-rises l; inside = place-inside l; only = place-only l }
+
+    numbers-at : (f : ℕ) → f < flows list
+        → (numberOf 0 list f ≡ suc (placeIn l f / ports)) × (numberOf 1 list f ≡ suc (placeIn l f % ports))
+        × (numberOf 2 list f ≡ getD matrix (placeIn l f) 0) × (numberOf 3 list f ≡ 1)
+    numbers-at f h = let e : 0 + placeIn l f ≡ placeIn l f = omega arith in rw e at (place-numbers l f h)
+
+    -- the input of flow f, and its link, the first of its output
+    pub list-input : (f : ℕ) → f < flows list → portOf list inputs f ≡ placeIn l f / ports
+    unfolding portOf
+    list-input f h = omega (arith, numbers-at f h .0)
+
+    pub list-link : (f : ℕ) → f < flows list → portOf list links f ≡ placeIn l f % ports * 4
+    unfolding portOf
+    list-link f h = let r = numbers-at f h in omega (arith, r .1, r .3)
+
+    -- its counts stand in the matrix at the places of its flows
+    pub list-spread : Spread (flows list) (length matrix) (placeIn l) (countsOf list) matrix
+    list-spread =
+        record {
+          size = counts-length list;
+          spread-size = refl;
+          count = λ f. byLt f (flows list)
+              (λ h. sym (counts-at list f h ∙ numbers-at f h .2))
+              (λ h. List·getD-eq-default matrix 0 (past f h) ∙ sym (List·getD-eq-default (countsOf list) 0 (omega (arith, counts-length list))));
+          off = place-off l;
+        }
+      where
+        past : (f : ℕ) → flows list ≤ f → length matrix ≤ placeIn l f
+        past f h = byLt (placeIn l f) (length matrix) (λ k. absurd (omega (arith, place-only l f k))) (λ k. k)
+
+  -- ---- the list that leaves out none
+  pub order-of : (p : ℕ) (m : List ℕ) → ListOf ports p m (flowsFrom ports p m)
+  unfolding flowsFrom
+  order-of p [] = at-end
+  order-of p (x ∷ m) = named (order-of (suc p) m)
+
+  order-place : (p : ℕ) (m : List ℕ) (f : ℕ) → placeIn (order-of p m) f ≡ f
+  unfolding flowsFrom order-of
+  order-place p [] f = refl
+  order-place p (x ∷ m) zero = refl
+  order-place p (x ∷ m) (suc f) = ap suc (order-place (suc p) m f)
+
+  from-length : (p : ℕ) (m : List ℕ) → length (flowsFrom ports p m) ≡ length m * stride
+  unfolding flowsFrom
+  from-length p [] = refl
+  from-length p (x ∷ m) = omega (arith, from-length (suc p) m)
 
 module _ (ports : ℕ) (m : List ℕ) where
   abbrev list : List ℕ
@@ -51,21 +122,22 @@ module _ (ports : ℕ) (m : List ℕ) where
   order-length = from-length ports 0 m
 
   pub order-flows : flows list ≡ length m
-  order-flows = let l = from-length ports 0 m in omega arith
+  order-flows = let l = order-length in omega arith
+
+  numbers : (f : ℕ) → f < length m
+      → (numberOf 0 list f ≡ suc (f / ports)) × (numberOf 1 list f ≡ suc (f % ports)) × (numberOf 2 list f ≡ getD m f 0) × (numberOf 3 list f ≡ 1)
+  numbers f h = rw (order-place ports 0 m f) at (numbers-at ports (order-of ports 0 m) f (omega (arith, order-flows)))
 
   -- the input, the output and the link of flow f
   pub order-number : (f : ℕ) → f < length m
       → (numberOf 0 list f ≡ suc (f / ports)) × (numberOf 1 list f ≡ suc (f % ports)) × (numberOf 3 list f ≡ 1)
-  order-number f h =
-      let r = from-numbers ports 0 m f h in
-      let e : 0 + f ≡ f = omega arith in
-      (r .0 ∙ ap (λ z. suc (z / ports)) e, r .1 ∙ ap (λ z. suc (z % ports)) e, r .3)
+  order-number f h = let r = numbers f h in (r .0, r .1, r .3)
 
   pub order-counts : countsOf list ≡ m
   order-counts =
       ext-getD 0 (countsOf list) m (counts-length list ∙ order-flows)
       (λ f h. let l : f < length m = omega (arith, counts-length list, order-flows) in
-      counts-at list f (omega (arith, order-flows)) ∙ from-numbers ports 0 m f l .2)
+      counts-at list f (omega (arith, order-flows)) ∙ numbers f l .2)
 
   -- the links are 1 to 4
   pub order-linked : (f : ℕ) → f < flows list → Within 1 4 (numberOf 3 list f)
@@ -82,70 +154,3 @@ module _ (ports : ℕ) (m : List ℕ) where
 
   pub order-output : (f : ℕ) → f < length m → outputOf (portOf list links f) ≡ f % ports
   order-output f h = omega (arith, order-link f h)
-
--- ---- the frame
-map-set : (g : ℕ → ℕ) (l : List ℕ) (i v : ℕ) → map g (set l i v) ≡ set (map g l) i (g v)
-map-set g [] i v = refl
-map-set g (x ∷ l) zero v = refl
-map-set g (x ∷ l) (suc i) v = ap (λ (r : List ℕ). g x ∷ r) (map-set g l i v)
-
-map-replicate : (g : ℕ → ℕ) (n v : ℕ) → map g (replicate n v) ≡ replicate n (g v)
-map-replicate g zero v = refl
-map-replicate g (suc n) v = ap (λ (r : List ℕ). g v ∷ r) (map-replicate g n v)
-
-map-append : (g : ℕ → ℕ) (v w : List ℕ) → map g (v ++ w) ≡ map g v ++ map g w
-map-append g [] w = refl
-map-append g (x ∷ v) w = ap (λ (r : List ℕ). g x ∷ r) (map-append g v w)
-
--- over a list whose first n flows have the ports of a matrix
-module _ (ports n : ℕ) (list : List ℕ) (ins : (f : ℕ) → f < n → portOf list inputs f ≡ f / ports) (outs : (f : ℕ) → f < n → portOf list links f ≡ f % ports * 4) where
-  sends-own : (f : ℕ) → f < n → sendsTo list (suc f) ≡ f % ports + 1
-  sends-own f h =
-      let e : suc f - 1 ≡ f = omega arith in
-      rw (ne-eqb (suc f) 0 (omega arith), e) (omega (arith, outs f h))
-
-  put-same : (l slot : List ℕ) → Every (λ f. f < n) l → map (sendsTo list) (put (portOf list) l slot) ≡ putPairs ports l (map (sendsTo list) slot)
-  put-same [] slot al = refl
-  put-same (f ∷ l) slot al =
-      put-same l (set slot (portOf list inputs f) (suc f)) (al .1)
-      ∙ ap (putPairs ports l) (map-set (sendsTo list) slot (portOf list inputs f) (suc f) ∙ ap₂ (set (map (sendsTo list) slot)) (ins f (al .0)) (sends-own f (al .0)))
-
-  slot-same : (m : List ℕ) → length m ≡ n → map (sendsTo list) (slotOf ports (portOf list) m) ≡ slotByPairs ports m
-  unfolding slotOf slotByPairs
-  slot-same m size =
-      put-same (keep (odd m) (upFrom 0 (length m))) (replicate ports 0)
-      (every-map (λ f. (odd m f ≡ true) × (f < length m)) (λ f. f < n) (λ f k. omega (arith, k .1)) (keep (odd m) (upFrom 0 (length m))) (keep-every (odd m) (length m) 0 (length m) (omega arith)))
-      ∙ ap (putPairs ports (keep (odd m) (upFrom 0 (length m)))) (map-replicate (sendsTo list) ports 0)
-
-  -- by the links of the flows and by the outputs of the pairs the same counts are partners
-  favours-pairs : (m : List ℕ) → length m ≡ n → favours (portOf list) m ≡ favoursByPairs ports m
-  unfolding favours
-  favours-pairs m size =
-      ap₂ (λ (i o : ℕ → ℕ). favoursBy i o m)
-      (fun-ext (partner-alike (portOf list inputs) (λ p. p / ports) m (λ p q h k. rw (ins p (omega arith), ins q (omega arith)))))
-      (fun-ext (λ p. one-link (portOf list links) m (outputOf (portOf list links p)) (λ q h _. omega (arith, outs q (omega arith))) p refl ∙ partner-alike (portOf list links) (λ q. q % ports) m at-outputs p))
-    where
-      at-outputs : (p q : ℕ) → p < length m → q < length m → eqb (portOf list links q) (portOf list links p) ≡ eqb (q % ports) (p % ports)
-      at-outputs p q h k =
-          let a = outs p (omega arith) in
-          let b = outs q (omega arith) in
-          byEq (q % ports) (p % ports)
-          (λ e. eq-eqb (portOf list links q) (portOf list links p) (omega arith) ∙ sym (eq-eqb (q % ports) (p % ports) e))
-          (λ e. ne-eqb (portOf list links q) (portOf list links p) (omega arith) ∙ sym (ne-eqb (q % ports) (p % ports) e))
-
-  frame-same : (k : ℕ) (m : List ℕ) → length m ≡ n → map (sendsTo list) (frameOf ports (portOf list) k m) ≡ frameByPairs ports k m
-  unfolding frameOf frameByPairs
-  frame-same zero m size = slot-same m size
-  frame-same (suc k) m size =
-      let c = favours (portOf list) m in
-      let e : c ≡ favoursByPairs ports m = favours-pairs m size in
-      let len = favours-law (portOf list) m .len in
-      map-append (sendsTo list) (frameOf ports (portOf list) k (halfBy 1 m c)) (frameOf ports (portOf list) k (halfBy 2 m c))
-      ∙ ap₂ _++_ (frame-same k (halfBy 1 m c) (half-length 1 m c len ∙ size)) (frame-same k (halfBy 2 m c) (half-length 2 m c len ∙ size))
-      ∙ ap (λ (d : List ℕ). frameByPairs ports k (halfBy 1 m d) ++ frameByPairs ports k (halfBy 2 m d)) e
-
--- The law on matrices.
-pub same-pairs : SamePairs
-same-pairs ports k matrix =
-    let list = inMatrixOrder ports matrix in
-    rw (order-counts ports matrix) (frame-same ports (length matrix) list (order-input ports matrix) (order-link ports matrix) k matrix refl)

@@ -34,21 +34,15 @@ module _ (m : List ℕ) (p : ℕ) (h : length m ≤ p) where
       ∙ in-none (singlesOf port m x 4) p
       (every-map (Single port m x 4) (λ q. q ≢ p) (λ q s. let l = odd-lt m q (s .odd-count) in omega arith) (singlesOf port m x 4) (singles-every port m x 4))
 
--- two names for the ports by which the same counts are at the same port
-pub partner-alike : (f g : ℕ → ℕ) (m : List ℕ) → ((p q : ℕ) → p < length m → q < length m → eqb (f q) (f p) ≡ eqb (g q) (g p))
-    → (p : ℕ) → partner f m p ≡ partner g m p
-partner-alike f g m e p =
-    byLt p (length m)
-    (λ h. ap (λ (l : List ℕ). partnerIn l p)
-    (keep-same (λ q. both (odd m q) (eqb (f q) (f p))) (λ q. both (odd m q) (eqb (g q) (g p))) 0 (length m) (λ q k. rw (e p q h (omega arith)))))
-    (λ h. partner-none m p h f ∙ sym (partner-none m p h g))
-
 module _ (f g : ℕ → ℕ) (m : List ℕ) (e : (p : ℕ) → p < length m → f p ≡ g p) where
-  partner-same : (p : ℕ) → partner f m p ≡ partner g m p
-  partner-same = partner-alike f g m (λ p q h k. rw (e q k, e p h))
-
   odds-same : (x : ℕ) → oddsAt f m x ≡ oddsAt g m x
   odds-same x = keep-same (λ q. both (odd m q) (eqb (f q) x)) (λ q. both (odd m q) (eqb (g q) x)) 0 (length m) (λ q k. rw (e q (omega arith)))
+
+  partner-same : (p : ℕ) → partner f m p ≡ partner g m p
+  partner-same p =
+      byLt p (length m)
+      (λ h. ap (λ (x : ℕ). partnerIn (oddsAt f m x) p) (e p h) ∙ ap (λ (l : List ℕ). partnerIn l p) (odds-same (g p)))
+      (λ h. partner-none m p h f ∙ sym (partner-none m p h g))
 
   singles-same : (x n : ℕ) → singlesOf f m x n ≡ singlesOf g m x n
   singles-same x zero = refl

@@ -2,7 +2,7 @@
 -- the function, at inputs and at outputs.
 use Prim.Native.Nat.{ℕ, suc, zero, _+_, _*_, _%_, _≤_, _<_}
 use mathlib.Core.Path.{_≡_, refl, sym, ap, _∙_}
-use mathlib.Core.Logic.{_≢_, _⊎_}
+use mathlib.Core.Logic.{_≢_, _⊎_, inl, inr, ⊎-elim}
 use mathlib.Core.List.{List, [], _∷_, _++_, append-nil}
 use mathlib.Core.Bool.{Bool, true, false}
 use native.Mathlib.Omega.{arith}
@@ -11,7 +11,7 @@ use lib.ListN.{length}
 use borrow.Author.Tests.{eq-eqb, ne-eqb}
 use Rattle.rules.specs.Words.{if, both, Every}
 use Rattle.rules.specs.Flows.{End, inputs, links, outputOf, Class, flow, portOn, input, output, link, total}
-use Rattle.rules.specs.Rules.{odd, oddsAt, Partners, single, singlesOf, partnered}
+use Rattle.rules.specs.Rules.{odd, oddsAt, Partners, single, singlesOf, partnered, Partnered}
 use Rattle.rules.specs.Schedule.{partnerIn, partner, outputPartner}
 use Rattle.rules.proofs.Cases.{byBool, byEq}
 use Rattle.rules.proofs.Kept.{keep-none}
@@ -33,6 +33,12 @@ single-apart : (l : List ℕ) → Apart (single l)
 single-apart [] = tt
 single-apart (a ∷ []) = (tt, tt)
 single-apart (a ∷ b ∷ l) = single-apart l
+
+-- there is one at most
+pub single-most : (l : List ℕ) → length (single l) ≤ 1
+single-most [] = omega arith
+single-most (a ∷ []) = omega arith
+single-most (a ∷ b ∷ l) = single-most l
 
 -- nobody has a partner in it
 single-none : (l : List ℕ) (p : ℕ) → partnerIn (single l) p ≡ p
@@ -135,7 +141,7 @@ module _ (port : ℕ → ℕ) (m : List ℕ) where
 
   -- ---- where every count of an output is on its first link, no link leaves another a partner
   module _ (o : ℕ) (first-link : (p : ℕ) → p < length m → outputOf (port p) ≡ o → port p % 4 ≡ 0) where
-    none-there : (x : ℕ) → outputOf x ≡ o → x % 4 ≢ 0 → oddsAt port m x ≡ []
+    pub none-there : (x : ℕ) → outputOf x ≡ o → x % 4 ≢ 0 → oddsAt port m x ≡ []
     none-there x at n = keep-none (λ p. both (odd m p) (eqb (port p) x)) 0 (length m) (λ p _ h. off p (omega arith))
       where
         off : (p : ℕ) → p < length m → both (odd m p) (eqb (port p) x) ≡ false
@@ -144,7 +150,7 @@ module _ (port : ℕ → ℕ) (m : List ℕ) where
             (λ e. rw e (ne-eqb (port p) x (λ k. n (ap (λ (y : ℕ). y % 4) (sym k) ∙ first-link p h (ap outputOf k ∙ at)))))
             (λ e. rw e)
 
-    singles-one : singlesOf port m (o * 4) 4 ≡ single (oddsAt port m (o * 4))
+    pub singles-one : singlesOf port m (o * 4) 4 ≡ single (oddsAt port m (o * 4))
     singles-one =
         rw (
           none-there (suc (o * 4)) (omega arith) (omega arith),
@@ -182,6 +188,9 @@ module _ (port : End → ℕ → ℕ) (m : List ℕ) where
   nobody : {P : Type 0} (p q : ℕ) → Partners [] p q → P
   nobody p q w = absurd (omega (arith, partners-two [] p q w))
 
+  at-class : (c : Class) (p q : ℕ) → Partners (partnered c port m) p q ⊎ Partners (partnered c port m) q p → Partnered port m p q ⊎ Partnered port m q p
+  at-class c p q = ⊎-elim (λ w. inl (c, w)) (λ w. inr (c, w))
+
   at-port : (s : End) (x p q : ℕ) → Partners (oddsAt (port s) m x) p q
       → (odd m p ≡ true) × (odd m q ≡ true) × (p ≢ q) × (partner (port s) m p ≡ q) × (partner (port s) m q ≡ p)
   at-port s x p q w =
@@ -189,12 +198,12 @@ module _ (port : End → ℕ → ℕ) (m : List ℕ) where
       let e = partners-every (AtPort (port s) m x) (oddsAt (port s) m x) p q (odds-every (port s) m x) w in
       (e .0 .0, e .1 .0, r .differ, partner-among (port s) m x p (e .0 .1) ∙ r .there, partner-among (port s) m x q (e .1 .1) ∙ r .back)
 
-  pub rule-partner : (c : Class) (p q : ℕ) → Partners (partnered c port m) p q → Paired p q
-  rule-partner (flow f) p q w = nobody p q w
-  rule-partner (portOn input i) p q w =
+  pub rule-partner : (p q : ℕ) → Partnered port m p q → Paired p q
+  rule-partner p q (flow f, w) = nobody p q w
+  rule-partner p q (portOn input i, w) =
       let r = at-port inputs i p q w in
       record { side = inputs; odd-first = r .0; odd-second = r .1; differ = r .2; there = r .3; back = r .4 }
-  rule-partner (link x) p q w =
+  rule-partner p q (link x, w) =
       let r = at-port links x p q w in
       record {
         side = links;
@@ -204,7 +213,7 @@ module _ (port : End → ℕ → ℕ) (m : List ℕ) where
         there = output-linked (port links) m p (λ e. r .2 (sym e ∙ r .3)) ∙ r .3;
         back = output-linked (port links) m q (λ e. r .2 (sym (r .4) ∙ e)) ∙ r .4;
       }
-  rule-partner (portOn output o) p q w =
+  rule-partner p q (portOn output o, w) =
       let l = singlesOf (port links) m (o * 4) 4 in
       let r = rule-mates l p q (singles-apart (port links) m (o * 4) 4) w in
       let e = partners-every (Single (port links) m (o * 4) 4) l p q (singles-every (port links) m (o * 4) 4) w in
@@ -221,14 +230,13 @@ module _ (port : End → ℕ → ℕ) (m : List ℕ) where
       among t s =
           output-single (port links) m t (s .alone)
           ∙ ap (λ (x : ℕ). partnerIn (singlesOf (port links) m (x * 4) 4) t) (single-output (port links) m o t s)
-  rule-partner total p q w = nobody p q w
+  rule-partner p q (total, w) = nobody p q w
 
   -- and who has another for a partner on a side is a partner by the rule
-  pub partner-rule : (s : End) (p : ℕ) → mate port m s p ≢ p
-      → (c : Class) × (Partners (partnered c port m) p (mate port m s p) ⊎ Partners (partnered c port m) (mate port m s p) p)
-  partner-rule inputs p n = (portOn input (port inputs p), mates-rule (oddsAt (port inputs) m (port inputs p)) p n)
+  pub partner-rule : (s : End) (p : ℕ) → mate port m s p ≢ p → Partnered port m p (mate port m s p) ⊎ Partnered port m (mate port m s p) p
+  partner-rule inputs p n = at-class (portOn input (port inputs p)) p (partner (port inputs) m p) (mates-rule (oddsAt (port inputs) m (port inputs p)) p n)
   partner-rule links p n =
       byEq (partner (port links) m p) p
       (λ e. let d = output-single (port links) m p e in
-      (portOn output (outputOf (port links p)), rw d (mates-rule (singlesOf (port links) m (outputOf (port links p) * 4) 4) p (λ k. n (d ∙ k)))))
-      (λ k. (link (port links p), rw (output-linked (port links) m p k) (mates-rule (oddsAt (port links) m (port links p)) p k)))
+      rw d (at-class (portOn output (outputOf (port links p))) p _ (mates-rule (singlesOf (port links) m (outputOf (port links p) * 4) 4) p (λ k. n (d ∙ k)))))
+      (λ k. rw (output-linked (port links) m p k) (at-class (link (port links p)) p _ (mates-rule (oddsAt (port links) m (port links p)) p k)))

@@ -99,6 +99,7 @@ module _ (ports : ℕ) (port : End → ℕ → ℕ) (m : List ℕ) (placed : AtI
   slot-is =
       record {
         size = slot-length ports port m;
+        few = fits;
         own = λ i f h. slot-any port m i ports h (λ v. v ≡ suc f → (f < length m) × (port inputs f ≡ i))
             (λ e. absurd (omega arith)) (λ p l od d e. let k : p ≡ f = omega arith in rw (sym k) (l, d));
         same = λ f h. byEq (getD m f 0) 1

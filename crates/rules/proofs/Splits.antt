@@ -10,8 +10,8 @@ use lib.ListN.{length, getD}
 use lib.Seq.{ext-getD}
 use borrow.Author.Tests.{eqb-true, eqb-false, eq-eqb, ne-eqb, lt-ltb, le-ltb, ltb-true, ltb-false}
 use Rattle.rules.specs.Words.{bit, upFrom, keep, Near, Every}
-use Rattle.rules.specs.Flows.{End, Class}
-use Rattle.rules.specs.Rules.{odd, partnered, Partners, Joined, Group, favoursFirst, Split}
+use Rattle.rules.specs.Flows.{End}
+use Rattle.rules.specs.Rules.{odd, Partnered, Joined, Group, favoursFirst, Split}
 use Rattle.rules.specs.Schedule.{favours, halfBy, halfOf}
 use Rattle.rules.proofs.Cases.{byBool, byEq, is-yes, is-no}
 use Rattle.rules.proofs.Lists.{every-map}
@@ -87,21 +87,21 @@ module _ (port : End → ℕ → ℕ) (m : List ℕ) where
   opposite-is a b x y e = byEq b 1 (λ k. rw (eq-eqb b 1 k) (ne-eqb a 1 (omega arith))) (λ k. rw (ne-eqb b 1 k) (eq-eqb a 1 (omega arith)))
 
   -- what holds of each that the first count of a group reaches holds of each of the group
-  group-every : (P : ℕ → Type 0) (p : ℕ) (group : List ℕ) → Group port m p group → ((q : ℕ) → JoinedBy (mate port m) p q → P q) → Every P group
+  group-every : (P : ℕ → Type 0) (p : ℕ) (group : List ℕ) → Group (Partnered port m) m p group → ((q : ℕ) → JoinedBy (mate port m) p q → P q) → Every P group
   group-every P p group x h =
-      every-map (Joined port m p) P (λ q j. h q (joined-reached port m p q j)) group (lists-every (length m) (Joined port m p) group (x .counts))
+      every-map (Joined (Partnered port m) p) P (λ q j. h q (joined-reached port m p q j)) group (lists-every (length m) (Joined (Partnered port m) p) group (x .counts))
 
-  group-odd : (p : ℕ) (group : List ℕ) → Group port m p group → (q : ℕ) → JoinedBy (mate port m) p q → odd m q ≡ true
+  group-odd : (p : ℕ) (group : List ℕ) → Group (Partnered port m) m p group → (q : ℕ) → JoinedBy (mate port m) p q → odd m q ≡ true
   group-odd p group x q j = reached-closed (mate port m) p (λ r. odd m r ≡ true) (x .odd-count) (λ s. pairings port m s .odds) q j
 
   -- those of a group that favour the first half
-  firsts-are : (p : ℕ) (group : List ℕ) → Group port m p group
+  firsts-are : (p : ℕ) (group : List ℕ) → Group (Partnered port m) m p group
       → keep (favoursFirst (halfOf port 1 m) (halfOf port 2 m)) group ≡ keep (λ q. eqb (colour q) 1) group
   firsts-are p group x =
       keep-alike (favoursFirst (halfOf port 1 m) (halfOf port 2 m)) (λ q. eqb (colour q) 1) group
       (group-every (λ q. favoursFirst (halfOf port 1 m) (halfOf port 2 m) q ≡ eqb (colour q) 1) p group x (λ q j. first-is q (group-odd p group x q j)))
 
-  pub split-is : Split port m (halfOf port 1 m) (halfOf port 2 m)
+  pub split-is : Split (Partnered port m) m (halfOf port 1 m) (halfOf port 2 m)
   split-is =
       record {
         first-size = half-length 1 m (favours port m) (favours-law port m .len);
@@ -109,16 +109,16 @@ module _ (port : End → ℕ → ℕ) (m : List ℕ) where
         shared = λ p. shares p .0;
         evenly = λ p. shares p .1;
         opposite = opposite;
-        even-group = λ p group x e. first-is p (x .odd-count) ∙ eq-eqb (colour p) 1 (even-favours port m p group x (omega arith));
+        even-group = λ p group x e. rw (first-is p (x .odd-count), even-favours port m p group x (omega arith)) refl;
         odd-group = λ p group before x o b.
             let n = ap length (firsts-are p group x) in
             let h = odd-share port m p group before x o b in
             ((λ e. omega arith), λ e. omega arith);
       }
     where
-      opposite : (c : Class) (p q : ℕ) → Partners (partnered c port m) p q → favoursFirst (halfOf port 1 m) (halfOf port 2 m) p ≡ not (favoursFirst (halfOf port 1 m) (halfOf port 2 m) q)
-      opposite c p q w =
-          let r = rule-partner port m c p q w in
+      opposite : (p q : ℕ) → Partnered port m p q → favoursFirst (halfOf port 1 m) (halfOf port 2 m) p ≡ not (favoursFirst (halfOf port 1 m) (halfOf port 2 m) q)
+      opposite p q w =
+          let r = rule-partner port m p q w in
           let f = favours-law port m in
           let moved : mate port m (r .side) p ≢ p = λ e. r .differ (sym e ∙ r .there) in
           let sum : colour q + colour p ≡ 3 = subst (λ (t : ℕ). colour t + colour p ≡ 3) (r .there) (f .mates (r .side) p (r .odd-first) moved) in
@@ -127,7 +127,7 @@ module _ (port : End → ℕ → ℕ) (m : List ℕ) where
           ∙ ap not (sym (first-is q (r .odd-second)))
 
   -- ---- whatever meets the rules
-  module _ (a b : List ℕ) (sp : Split port m a b) where
+  module _ (a b : List ℕ) (sp : Split (Partnered port m) m a b) where
     -- of one count, by whether it favours the first half
     pub more : (p : ℕ) → odd m p ≡ true → favoursFirst a b p ≡ true → (getD a p 0 ≡ getD m p 0 / 2 + 1) × (getD b p 0 ≡ getD m p 0 / 2 + 0)
     more p e f = let o = eqb-true (getD m p 0 % 2) 1 e in let h = ltb-true (getD b p 0) (getD a p 0) f in let s = sp .shared p in let n = sp .evenly p in omega arith
@@ -155,15 +155,14 @@ module _ (port : End → ℕ → ℕ) (m : List ℕ) where
         let oq = pairings port m s .odds p (g .0) in
         let sum = f .mates s p (g .0) n in
         let here : eqb (colour q) 1 ≡ not (eqb (colour p) 1) = opposite-is (colour q) (colour p) (f .low q oq) (f .low p (g .0)) sum in
-        let rule = partner-rule port m s p n in
         let there : favoursFirst a b q ≡ not (favoursFirst a b p) = ⊎-elim
-        (λ w. sym (flip (favoursFirst a b p) (favoursFirst a b q) (sp .opposite (rule .0) p q w)))
-        (λ w. sp .opposite (rule .0) q p w)
-        (rule .1) in
+        (λ w. sym (flip (favoursFirst a b p) (favoursFirst a b q) (sp .opposite p q w)))
+        (λ w. sp .opposite q p w)
+        (partner-rule port m s p n) in
         (oq, there ∙ ap not (g .1) ∙ sym (turns (eqb (colour p) 1)) ∙ ap way (sym here)))
 
     -- the other way round in a group with an odd number of counts, the other half would have more of it
-    other-way : (p : ℕ) (group : List ℕ) → Group port m p group → length group % 2 ≡ 1 → favoursFirst a b p ≡ not (eqb (colour p) 1) → ⊥
+    other-way : (p : ℕ) (group : List ℕ) → Group (Partnered port m) m p group → length group % 2 ≡ 1 → favoursFirst a b p ≡ not (eqb (colour p) 1) → ⊥
     other-way p group x o e =
         let before = keep (odd-test port m) (upFrom 0 p) in
         let f : ℕ → Bool = λ q. eqb (colour q) 1 in
@@ -180,7 +179,7 @@ module _ (port : End → ℕ → ℕ) (m : List ℕ) where
         (λ h. let less : suc (length before) % 2 ≡ 0 = omega arith in let more = rule .1 less in omega arith)
 
     -- so the first count of a group favours what the function says
-    first-agrees : (p : ℕ) (group : List ℕ) → Group port m p group → favoursFirst a b p ≡ eqb (colour p) 1
+    first-agrees : (p : ℕ) (group : List ℕ) → Group (Partnered port m) m p group → favoursFirst a b p ≡ eqb (colour p) 1
     first-agrees p group x =
         byEq (length group % 2) 1
         (λ o. byBool (favoursFirst a b p)

@@ -10,7 +10,7 @@ use lib.ListN.{length, getD}
 use borrow.Author.Tests.{eqb-true, eqb-false, eq-eqb, ne-eqb}
 use Rattle.rules.specs.Words.{bit, upFrom, keep, sumTo, Every}
 use Rattle.rules.specs.Flows.{End, inputs, links}
-use Rattle.rules.specs.Rules.{odd, Joined, Lists, Group, OddGroup}
+use Rattle.rules.specs.Rules.{odd, Partnered, Joined, Lists, Group, OddGroup}
 use Rattle.rules.specs.Schedule.{favouring, favours}
 use Rattle.rules.proofs.Cases.{byBool, byEq}
 use Rattle.rules.proofs.Sums.{sum-none, sum-more}
@@ -67,7 +67,7 @@ module _ (port : End → ℕ → ℕ) (m : List ℕ) where
   settledAt a = first-half (suc a) + second-half (suc a) + first-half a + second-half a
 
   -- ---- the groups of the rules
-  taken-group : (p : ℕ) (t : TakesAt p) → Group port m p (members m (mate port m) (pairings port m) p t)
+  taken-group : (p : ℕ) (t : TakesAt p) → Group (Partnered port m) m p (members m (mate port m) (pairings port m) p t)
   taken-group p t =
       record {
         odd-count = t .odd-count;
@@ -81,18 +81,18 @@ module _ (port : End → ℕ → ℕ) (m : List ℕ) where
       }
 
   -- every odd count is of a group
-  pub has-group : (q : ℕ) → odd m q ≡ true → (p : ℕ) × (group : List ℕ) × Group port m p group × JoinedBy (mate port m) p q
+  pub has-group : (q : ℕ) → odd m q ≡ true → (p : ℕ) × (group : List ℕ) × Group (Partnered port m) m p group × JoinedBy (mate port m) p q
   has-group q e =
       let n : getD (favours port m) q 0 ≢ 0 = (let l = favours-law port m .low q e in omega arith) in
       let l = taken-before m (mate port m) (pairings port m) (length m) q (rw (favours-scan port m) at n) in
       (l .0, members m (mate port m) (pairings port m) (l .0) (l .3), taken-group (l .0) (l .3), l .2)
 
-  module _ (p : ℕ) (group : List ℕ) (x : Group port m p group) where
+  module _ (p : ℕ) (group : List ℕ) (x : Group (Partnered port m) m p group) where
     takes : TakesAt p
     takes = first-takes m (mate port m) (pairings port m) p (x .odd-count) (λ q j. x .first q (reached-joined port m p q j))
 
     members-are : group ≡ members m (mate port m) (pairings port m) p takes
-    members-are = lists-same (length m) (Joined port m p) group (members m (mate port m) (pairings port m) p takes) (x .counts) (taken-group p takes .counts)
+    members-are = lists-same (length m) (Joined (Partnered port m) p) group (members m (mate port m) (pairings port m) p takes) (x .counts) (taken-group p takes .counts)
 
     size : length group + (first-half p + second-half p) ≡ first-half (suc p) + second-half (suc p)
     size = ap (λ (l : List ℕ). length l + (first-half p + second-half p)) members-are ∙ members-size m (mate port m) (pairings port m) p takes
@@ -122,7 +122,7 @@ module _ (port : End → ℕ → ℕ) (m : List ℕ) where
   pub odd-test : ℕ → Bool
   odd-test q = eqb (settledAt q % 2) 1
 
-  pub odd-lists : (p : ℕ) → Lists p (OddGroup port m) (keep odd-test (upFrom 0 p))
+  pub odd-lists : (p : ℕ) → Lists p (OddGroup (Partnered port m) m) (keep odd-test (upFrom 0 p))
   unfolding odd-test
   odd-lists p =
       record {
@@ -151,10 +151,10 @@ module _ (port : End → ℕ → ℕ) (m : List ℕ) where
       rw (sum-more a (λ q. bit (odd-test q)))
       (turn-on (sumTo a (λ q. bit (odd-test q))) (first-half a) (second-half a) (first-half (suc a)) (second-half (suc a)) (turns a) (l .0) (l .1))
 
-  module _ (p : ℕ) (group before : List ℕ) (x : Group port m p group) (o : length group % 2 ≡ 1) (b : Lists p (OddGroup port m) before) where
+  module _ (p : ℕ) (group before : List ℕ) (x : Group (Partnered port m) m p group) (o : length group % 2 ≡ 1) (b : Lists p (OddGroup (Partnered port m) m) before) where
     turn : length before % 2 + second-half p ≡ first-half p
     turn =
-        ap (λ (l : List ℕ). length l % 2 + second-half p) (lists-same p (OddGroup port m) before (keep odd-test (upFrom 0 p)) b (odd-lists p))
+        ap (λ (l : List ℕ). length l % 2 + second-half p) (lists-same p (OddGroup (Partnered port m) m) before (keep odd-test (upFrom 0 p)) b (odd-lists p))
         ∙ ap (λ (k : ℕ). k % 2 + second-half p) (kept-length odd-test p)
         ∙ turns p
 
