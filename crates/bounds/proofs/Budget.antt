@@ -113,8 +113,9 @@ frame-most ports slots k list entries p power size =
 
 pub work-by-depth : WorkByDepth
 work-by-depth ports slots list limits buffer e k power =
-    frame-most ports slots k list (frameAfter ports slots list limits buffer) (accepts-is ports slots list limits buffer e .well .power) power
-    (build-sound ports slots list limits buffer e .0 .size)
+    let power-of = accepts-is ports slots list limits buffer e .well .power in
+    let size = build-sound ports slots list limits buffer e .0 .size in
+    omega (arith, frame-most ports slots k list (frameAfter ports slots list limits buffer) power-of power size)
 
 -- Nor more than ports × slots × k.
 pub work-most : WorkMost

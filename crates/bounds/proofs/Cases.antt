@@ -1,68 +1,106 @@
 -- Each claim with a number in it, applied to one case: what it says there is less than what a weaker claim would say. The switch has two
 -- ports, so that ports are not slots, and its frame of four slots is carried twice.
-use Prim.Native.Nat.{ℕ, suc, _+_, _*_, _≤_, _<_}
-use mathlib.Core.Path.{_≡_, refl}
+use Prim.Native.Nat.{ℕ, _+_, _*_, _≤_}
+use mathlib.Core.Path.{_≡_, refl, ap, _∙_}
 use mathlib.Core.List.{List, [], _∷_}
 use mathlib.Core.Bool.{true}
 use native.Mathlib.Omega.{arith}
-use lib.IntN.{pos, negℤ, natAbs}
-use lib.ListN.{length, replicate}
-use lib.Signed.{_≤ℤ_}
+use lib.IntN.{natAbs}
+use lib.ListN.{replicate}
 use Rattle.rules.specs.Words.{sumTo, Every}
-use Rattle.rules.specs.Flows.{flow, link, portOf, countsOf, loadIn, load}
-use Rattle.rules.specs.Frames.{cells, runOf, repeated}
+use Rattle.rules.specs.Flows.{flow, total, portOf, countsOf, loadIn, load}
 use Rattle.rules.specs.Schedule.{walk, settleAt, favours, slotOf, frameOf}
 use Rattle.calls.specs.Refusals.{slotsEach}
 use Rattle.calls.specs.Build.{buildChecks, buildAccepts, frameAfter}
 use Rattle.calls.specs.Work.{work}
 use Rattle.calls.specs.Service.{lead, service}
 use Rattle.calls.specs.declared.Who.the-variants.{Flow}
-use Rattle.wire.specs.Wire.{Call, Carried, none, chain, cellsAt, share, Shape}
-use Rattle.wire.specs.Deviation.{deviation}
+use Rattle.strays.specs.Stray.{earliest, largest, stray}
+use Rattle.strays.specs.Deviation.{deviation, repeatDeviation}
+use Rattle.wire.specs.Wire.{Call, Carried, none, chain, cellsIn, share, Shape}
+use Rattle.wire.specs.Loads.{loadOf}
+use Rattle.bounds.specs.ByLoad.{NearShare, Strays, AtLeast, AtMost}
+use Rattle.bounds.specs.Sharp.{Sharp}
+use Rattle.bounds.specs.Total.{Totals}
 use Rattle.bounds.specs.Budget.{WorkMost}
 use Rattle.bounds.specs.Lead.{BuiltLead, AnsweredLead}
-use Rattle.bounds.specs.Sharp.{NearShare, Sharp}
-use Rattle.bounds.specs.Queue.{waiting, sent, arrived, Paced, Buffers, BuffersByLead}
-use Rattle.bounds.specs.Line.{LinkBuffers}
-use Rattle.bounds.specs.Row.{Hop, framesAt, scheduledAt, Reserved, onward, Row}
-use Rattle.bounds.specs.Wait.{HasAtLeast, Leaves, Suffices, BlockWait, PacedWait}
 
 -- the flows from input 1 to output 1 with 2 cells, from 1 to 2 with 1, and from 2 to 2 with 3
-abbrev asked : List ℕ
+abbrev pub asked : List ℕ
 asked = 1 ∷ 1 ∷ 2 ∷ 1 ∷ 1 ∷ 2 ∷ 1 ∷ 1 ∷ 2 ∷ 2 ∷ 3 ∷ 1 ∷ []
 
-abbrev lent : List ℕ
+-- the first of them with 1 cell
+abbrev fewer : List ℕ
+fewer = 1 ∷ 1 ∷ 1 ∷ 1 ∷ 1 ∷ 2 ∷ 1 ∷ 1 ∷ 2 ∷ 2 ∷ 3 ∷ 1 ∷ []
+
+abbrev pub lent : List ℕ
 lent = replicate 8 77
 
 abbrev left : List ℕ
 left = frameAfter 2 4 asked (slotsEach 4) lent
 
-abbrev calls : List Call
-calls = record { ports = 2; slots = 4; list = asked; limits = slotsEach 4; times = 2 } ∷ []
+-- a call that is carried so many times
+abbrev call : List ℕ → ℕ → Call
+call list times = record { ports = 2; slots = 4; list = list; limits = slotsEach 4; times = times }
 
-abbrev wire : List Carried
+abbrev pub calls : List Call
+calls = call asked 2 ∷ []
+
+abbrev pub wire : List Carried
 wire = chain none lent calls
+
+-- and one after which the load is another
+abbrev seamCalls : List Call
+seamCalls = call asked 1 ∷ call fewer 1 ∷ []
+
+abbrev seam : List Carried
+seam = chain none lent seamCalls
 
 accepts : buildAccepts 2 4 asked (slotsEach 4) lent ≡ true
 unfolding buildChecks sumTo portOf countsOf loadIn
 accepts = refl
 
-shapes : Every (Shape 2 4) wire
+pub shapes : Every (Shape 2 4) wire
 unfolding chain buildChecks sumTo portOf countsOf loadIn
 shapes = (record { ports-are = refl; slots-are = refl }, (record { ports-are = refl; slots-are = refl }, tt))
 
+seam-shapes : Every (Shape 2 4) seam
+unfolding chain buildChecks sumTo portOf countsOf loadIn walk settleAt favours slotOf frameOf
+seam-shapes = (record { ports-are = refl; slots-are = refl }, (record { ports-are = refl; slots-are = refl }, tt))
+
 -- the first flow has 2 cells in each frame
-steady : Every (λ f. load (flow 0) (f .call .list) ≡ 2) wire
+pub steady : Every (λ f. load (flow 0) (f .call .list) ≡ 2) wire
 unfolding chain buildChecks sumTo portOf countsOf loadIn
 steady = (refl, (refl, tt))
 
-has-two : HasAtLeast 2 (flow 0) 2 wire
-unfolding chain cells buildChecks sumTo portOf countsOf loadIn walk settleAt favours slotOf frameOf
-has-two = (omega arith, (omega arith, tt))
+-- the strays of 2 cells and of 1, and the deviations
+pub two : stray 2 2 ≡ 2
+unfolding stray largest earliest
+two = refl
+
+one : stray 2 1 ≡ 3
+unfolding stray largest earliest
+one = refl
 
 three : deviation 2 ≡ 3
 unfolding deviation
 three = refl
+
+four : repeatDeviation 2 ≡ 4
+unfolding repeatDeviation deviation
+four = refl
+
+-- the load of the first flow in each frame of the seam, and that of the total
+loads : (loadOf (flow 0) seam 0 ≡ 2) × (loadOf (flow 0) seam 1 ≡ 1) × (loadOf total seam 0 ≡ 6) × (loadOf total seam 1 ≡ 5)
+unfolding loadOf chain buildChecks sumTo portOf countsOf loadIn walk settleAt favours slotOf frameOf
+loads = (refl, refl, refl, refl)
+
+loads-stray : (stray 2 (loadOf (flow 0) seam 0) ≡ 2) × (stray 2 (loadOf (flow 0) seam 1) ≡ 3)
+loads-stray = (ap (stray 2) (loads .0) ∙ two, ap (stray 2) (loads .1) ∙ one)
+
+totals-stray : (stray 2 6 ≡ 2) × (stray 2 5 ≡ 3)
+unfolding stray largest earliest
+totals-stray = (refl, refl)
 
 -- 2 ports × 4 slots × 2
 pub work-case : WorkMost → work 2 4 asked left ≤ 16
@@ -72,14 +110,34 @@ work-case w = omega (arith, w 2 4 asked (slotsEach 4) lent accepts 2 refl)
 pub lead-case : BuiltLead → (start len : ℕ) → 3 * natAbs (lead (flow 0) 2 4 asked left start len) ≤ 20
 lead-case b start len = omega (arith, b 2 4 asked (slotsEach 4) lent accepts 2 refl (flow 0) tt start len .near)
 
--- two deviations of 3
-pub lead-sharp-case : BuiltLead → (start len : ℕ) → natAbs (lead (flow 0) 2 4 asked left start len) ≤ 6
-lead-sharp-case b start len = omega (arith, three, b 2 4 asked (slotsEach 4) lent accepts 2 refl (flow 0) tt start len .sharp)
+-- two strays of 2, where one frame that repeats allows as much
+pub lead-by-load-case : BuiltLead → (start len : ℕ) → natAbs (lead (flow 0) 2 4 asked left start len) ≤ 4
+unfolding loadIn sumTo portOf countsOf stray largest earliest
+lead-by-load-case b start len = omega (arith, b 2 4 asked (slotsEach 4) lent accepts 2 refl (flow 0) tt start len .by-load)
+
+-- the second flow, which strays by 3, is within 4 too
+pub lead-repeats-case : BuiltLead → (start len : ℕ) → natAbs (lead (flow 1) 2 4 asked left start len) ≤ 4
+lead-repeats-case b start len = omega (arith, four, b 2 4 asked (slotsEach 4) lent accepts 2 refl (flow 1) tt start len .repeats)
 
 pub answered-case : AnsweredLead → (start len : ℕ) → 3 * natAbs (service 2 4 asked left (Flow 1) start len .ahead) ≤ 20
 answered-case a start len = omega (arith, a 2 4 asked (slotsEach 4) lent accepts 2 refl (Flow 1) start len)
 
--- a run between, one that begins with the second frame, and one that ends with the first
+-- a run over the seam, one that begins with the second frame, and one that ends with the first
+pub stray-case : Strays → NearShare 5 (flow 0) 2 seam 3 2 × NearShare 3 (flow 0) 2 seam 4 3 × NearShare 2 (flow 0) 2 seam 1 3
+unfolding chain buildChecks sumTo portOf countsOf loadIn walk settleAt favours slotOf frameOf
+stray-case s =
+    let on = s lent seamCalls 2 2 seam-shapes in
+    let any = on 3 2 (omega arith) (flow 0) tt .any 0 1 (omega arith, omega arith) (omega arith, omega arith) in
+    let begins = on 4 3 (omega arith) (flow 0) tt .begins-frame 1 1 refl (omega arith, omega arith) in
+    let ends = on 1 3 (omega arith) (flow 0) tt .ends-frame 0 1 (omega arith, omega arith) refl in
+    let a = loads-stray .0 in
+    let b = loads-stray .1 in (
+      (omega (arith, a, b, any .0), omega (arith, a, b, any .1)),
+      (omega (arith, b, begins .0), omega (arith, b, begins .1)),
+      (omega (arith, a, ends .0), omega (arith, a, ends .1)),
+    )
+
+-- the same whatever the loads
 pub sharp-case : Sharp → NearShare 6 (flow 0) 2 wire 3 2 × NearShare 3 (flow 0) 2 wire 4 3 × NearShare 3 (flow 0) 2 wire 1 3
 unfolding chain buildChecks sumTo portOf countsOf loadIn
 sharp-case s =
@@ -92,66 +150,21 @@ sharp-case s =
       (omega (arith, three, ends .0), omega (arith, three, ends .1)),
     )
 
--- with an allowance of one cell, which is 4 parts, at most 4 + 2 × 3 parts wait, and at most 2 more before a cell leaves
-pub held-case : Buffers → (arrive : ℕ → ℕ) → Paced 2 4 8 (λ start len. len * 2) arrive
-    → (t : ℕ) → t < 8
-    → (4 * waiting arrive (cellsAt (flow 0) wire) (suc t) ≤ 10) × (4 * (waiting arrive (cellsAt (flow 0) wire) t + arrive t) ≤ 12)
-unfolding chain buildChecks sumTo portOf countsOf loadIn
-held-case b arrive paced t h =
-    let held = b lent calls 2 2 shapes (flow 0) tt 2 steady 4 arrive paced t h in
-    (omega (arith, three, held .after), omega (arith, three, held .before))
+-- both frames of the seam have at least 1 cell of the first flow and at most 2: in seven slots no fewer than 7 × 1 − 2 × 3 parts, and in
+-- three no more than 3 × 2 + 2 × 2
+pub least-case : AtLeast → 7 ≤ 4 * cellsIn (flow 0) seam 1 7 + 6
+unfolding chain buildChecks sumTo portOf countsOf loadIn walk settleAt favours slotOf frameOf
+least-case a = omega (arith, one, a lent seamCalls 2 2 seam-shapes 1 7 (omega arith) (flow 0) tt 1 (omega arith, (omega arith, tt)))
 
--- the same by a lead of the frame itself that is never below −3
-pub held-by-case : BuffersByLead → (entries : List ℕ) → length entries ≡ 8 → cells (flow 0) 2 asked entries ≡ 2
-    → ((start len : ℕ) → negℤ (pos 3) ≤ℤ lead (flow 0) 2 4 asked entries start len)
-    → (arrive : ℕ → ℕ) → ((start len : ℕ) → 4 * arrived arrive start len ≤ len * 2 + 4)
-    → (t : ℕ)
-    → (4 * waiting arrive (λ s. cells (flow 0) 2 asked (repeated 2 4 entries s 1)) (suc t) ≤ 7)
-    × (4 * (waiting arrive (λ s. cells (flow 0) 2 asked (repeated 2 4 entries s 1)) t + arrive t) ≤ 9)
-held-by-case b entries size two never arrive paced t =
-    let held = b (flow 0) 2 4 asked entries size (omega arith) 3 never 4 arrive (λ start len. rw two (paced start len)) t in
-    (held .after, omega (arith, held .before, two))
+pub most-case : AtMost → 4 * cellsIn (flow 0) seam 3 3 ≤ 10
+unfolding chain buildChecks sumTo portOf countsOf loadIn walk settleAt favours slotOf frameOf
+most-case a = omega (arith, two, a lent seamCalls 2 2 seam-shapes 3 3 (omega arith) (flow 0) tt 2 (omega arith, (omega arith, tt)))
 
--- the line of link 1 of output 1 takes 4 cells a frame, less an allowance of 5 parts
-pub line-case : LinkBuffers → (arrive line : ℕ → ℕ) → ((start len : ℕ) → start + len ≤ 8 → len * 4 ≤ 4 * arrived line start len + 5)
-    → (t : ℕ) → t < 8
-    → (4 * waiting (sent arrive (cellsAt (link 0) wire)) line (suc t) ≤ 11)
-    × (4 * (waiting (sent arrive (cellsAt (link 0) wire)) line t + sent arrive (cellsAt (link 0) wire) t) ≤ 15)
-unfolding chain buildChecks sumTo portOf countsOf loadIn
-line-case l arrive line takes t h =
-    let held =
-    l lent calls 2 2 shapes 0 4 (omega arith) (omega arith, (omega arith, tt)) 5 arrive line
-    (λ start len inside. omega (arith, takes start len inside)) t h in
-    (omega (arith, three, held .after), omega (arith, three, held .before))
-
--- blocks of two slots have a cell each, so that a run of three slots has one
-pub block-case : BlockWait → Suffices (flow 0) 2 wire 1 3
-unfolding chain buildChecks sumTo portOf countsOf loadIn
-block-case b = b lent calls 2 2 shapes (flow 0) tt 1 1 (omega arith) (omega arith) has-two 3 (omega arith)
-
--- with an allowance of one cell every cell that waits has left four slots later: 4 + 2 × 3 is less than 4 × 2 + 4
-pub paced-case : PacedWait → (arrive : ℕ → ℕ) → Paced 2 4 8 (share (flow 0) 0 wire) arrive
-    → (t w : ℕ) → t + 4 ≤ 8 → 1 ≤ w → w ≤ waiting arrive (cellsAt (flow 0) wire) t → Leaves arrive (cellsAt (flow 0) wire) t w 4
-unfolding chain buildChecks sumTo portOf countsOf loadIn
-paced-case p arrive paced t w h = p lent calls 2 2 shapes (flow 0) tt 2 has-two 4 arrive paced 4 (omega (arith, three)) t w h
-
--- A row of three such switches, one slot from the first to the second and two to the third: at the third at most 6 + 2 × 3 parts wait, and
--- at most 2 more before a cell leaves, whatever comes to the first.
-abbrev after : ℕ → Hop
-after delay = record { buffer = lent; calls = calls; ports = 2; flow = flow 0; delay = delay }
-
-reserved : (delay : ℕ) → Reserved 2 2 (after delay)
-reserved delay = record { shape = shapes; flow-of = tt; steady = steady }
-
-pub row-case : Row → (arrive : ℕ → ℕ) → (t : ℕ) → t < 8
-    → (4 * waiting (onward (after 2) (onward (after 1) arrive)) (scheduledAt (after 0)) (suc t) ≤ 12)
-    × (4 * (waiting (onward (after 2) (onward (after 1) arrive)) (scheduledAt (after 0)) t + onward (after 2) (onward (after 1) arrive) t) ≤ 14)
-unfolding chain buildChecks sumTo portOf countsOf loadIn
-row-case r arrive t h =
-    let held = r 2 2 (after 1) (after 2 ∷ after 0 ∷ []) (reserved 1, (reserved 2, (reserved 0, tt))) arrive .1 .0 t h in
-    (omega (arith, three, held .after), omega (arith, three, held .before))
-
--- what comes from a switch two slots away: nothing in the first two slots, and then what it sent in its first ones
-pub delay-case : (arrive : ℕ → ℕ)
-    → (onward (after 2) arrive 1 ≡ 0) × (onward (after 2) arrive 2 ≡ sent arrive (scheduledAt (after 2)) 0)
-delay-case arrive = (refl, refl)
+-- the total strays by 2 in the first frame of the seam and by 3 in the second: a run over it is above by at most 3 and below by at most 2
+pub total-case : Totals → (4 * cellsIn total seam 3 2 ≤ share total 0 seam 3 2 + 3) × (share total 0 seam 3 2 ≤ 4 * cellsIn total seam 3 2 + 2)
+unfolding chain buildChecks sumTo portOf countsOf loadIn walk settleAt favours slotOf frameOf
+total-case s =
+    let run = s lent seamCalls 2 2 seam-shapes 3 2 (omega arith) in
+    let a = ap (stray 2) (loads .2) ∙ totals-stray .0 in
+    let b = ap (stray 2) (loads .3) ∙ totals-stray .1 in
+    (omega (arith, b, run .above 1 (omega arith, omega arith)), omega (arith, a, run .below 0 (omega arith, omega arith)))

@@ -14,14 +14,17 @@ use Rattle.rules.specs.Frames.{cells, runOf, Legal, Balanced, repeated}
 use Rattle.calls.specs.Refusals.{none-holds}
 use Rattle.calls.specs.Build.{frameAfter}
 use Rattle.calls.specs.Service.{classOf, lead, countChecks, service}
-use Rattle.wire.specs.Deviation.{deviation}
+use Rattle.strays.specs.Stray.{stray}
+use Rattle.strays.specs.Deviation.{repeatDeviation}
 use Rattle.bounds.specs.Lead.{Led, BuiltLead, AnsweredLead}
 use Rattle.rules.proofs.Cases.{byBool, byEq}
 use Rattle.rules.proofs.Runs.{cells-from, cells-rounds, cells-turns}
 use Rattle.calls.proofs.Replies.{who-of, clear-who}
 use Rattle.rules.proofs.Integers.{minus-near, minus-same}
 use Rattle.rules.proofs.Legal.{legal-exact}
-use Rattle.wire.proofs.Accuracy.{deviation-most, before, before-more, before-all, before-none, prefix-sharp}
+use Rattle.strays.proofs.Deviations.{deviation-most, stray-deviation}
+use Rattle.strays.proofs.Frames.{before, before-more, before-all, before-none, first-off}
+use Rattle.strays.proofs.Repeats.{repeat-run}
 use Rattle.calls.proofs.Demand2.{build-sound}
 
 -- whole turns are neither ahead nor behind
@@ -46,24 +49,24 @@ module _ {ports slots : ℕ} {list entries : List ℕ} (legal : Legal ports slot
   abbrev front : ℕ → ℕ
   front = before legal balanced c of
 
-  -- what is left of a run after its whole turns: two of its ends are off by a deviation at most, and the others not at all
+  -- what is left of a run after its whole turns: two of its ends are off by the stray of the load at most, and the others not at all
   rest-near : (start head tail : ℕ) → start + head ≤ slots → tail ≤ slots → (tail ≢ 0 → start + head ≡ slots)
-      → Near (2 * deviation k) (slots * (cells c ports list (runOf ports start head entries) + front tail)) ((head + tail) * m)
+      → Near (2 * stray k m) (slots * (cells c ports list (runOf ports start head entries) + front tail)) ((head + tail) * m)
   rest-near start head tail fits low wraps =
-      let sharp = prefix-sharp legal balanced c of k power in
-      let one = sharp start (omega arith) in
+      let off : (t : ℕ) → t ≤ slots → Near (stray k m) (slots * front t) (m * t) = λ t h. rw power (first-off legal balanced c of k power t (omega arith)) in
+      let one = off start (omega arith) in
       let more = ap (λ z. slots * z) (before-more legal balanced c of start head (omega arith)) in
       byEq tail 0
       (λ e.
       let none : front tail ≡ 0 = ap front e ∙ before-none legal balanced c of in
-      let two = sharp (start + head) fits in
+      let two = off (start + head) fits in
       omega (arith, one .0, one .1, two .0, two .1, more, ap (λ z. slots * z) none, ap (λ z. z * m) e))
       (λ n.
       let all : front (start + head) ≡ m = ap front (wraps n) ∙ before-all legal balanced c of in
-      let two = sharp tail low in
+      let two = off tail low in
       omega (arith, one .0, one .1, two .0, two .1, more, ap (λ z. slots * z) all, ap (λ z. z * m) (wraps n)))
 
-  run-near : (start len : ℕ) → Near (2 * deviation k) (slots * cells c ports list (repeated ports slots entries start len)) (len * m)
+  run-near : (start len : ℕ) → Near (2 * stray k m) (slots * cells c ports list (repeated ports slots entries start len)) (len * m)
   run-near start len =
       let h : 1 ≤ slots = omega (arith, power, pow-pos k) in
       let from = start % slots in
@@ -85,13 +88,16 @@ module _ {ports slots : ℕ} {list entries : List ℕ} (legal : Legal ports slot
   unfolding lead
   sound-lead start len =
       let share : len * cells c ports list entries ≡ len * m = ap (λ z. len * z) whole in
-      let near : Near (2 * deviation k) (slots * cells c ports list (repeated ports slots entries start len)) (len * cells c ports list entries)
-      = rw share (run-near start len) in
-      let sharp : natAbs (lead c ports slots list entries start len) ≤ 2 * deviation k
-      = minus-near (2 * deviation k) _ _ near in
+      let by : (gap : ℕ) → Near gap (slots * cells c ports list (repeated ports slots entries start len)) (len * m) → natAbs (lead c ports slots list entries start len) ≤ gap
+      = λ gap near. minus-near gap (slots * cells c ports list (repeated ports slots entries start len)) (len * cells c ports list entries) (rw share near) in
+      let by-load = by (2 * stray k m) (run-near start len) in
+      let again = repeat-run legal balanced c of k power start len in
+      let turn = ap (λ z. z * cells c ports list (repeated ports slots entries start len)) power in
+      let repeats = by (repeatDeviation k) (omega (arith, again .0), omega (arith, again .1)) in
       record {
-        near = omega (arith, sharp, deviation-most k, ap (λ z. (2 * k + 1) * z) power);
-        sharp = omega (arith, sharp);
+        near = omega (arith, by-load, stray-deviation k m, deviation-most k, ap (λ z. (2 * k + 1) * z) power);
+        by-load = omega (arith, by-load);
+        repeats = omega (arith, repeats);
         from-share = ap (λ z. pos (slots * cells c ports list (repeated ports slots entries start len)) -ℤ pos z) share;
         turns = λ w e. rw e (lead-turns c ports slots list entries (legal .size) (omega (arith, power, pow-pos k)) start w);
       }

@@ -4,7 +4,7 @@ use Prim.Native.Nat.{ℕ, suc, zero, _+_, _*_, _/_, _%_, _^_, _≤_}
 use mathlib.Core.Path.{_≡_, refl, ap, ap₂, _∙_}
 use mathlib.Core.Logic.{_≢_}
 use mathlib.Core.List.{List, [], _∷_, _++_}
-use mathlib.Core.Bool.{true}
+use mathlib.Core.Bool.{true, false}
 use native.Mathlib.Omega.{arith}
 use native.Mathlib.Nat.{add-zero, zero-add}
 use lib.Dec.{eqb}
@@ -73,6 +73,15 @@ full-settled i o d c e f g h k =
     refl)
     ∙ rw (f, settleAt)
 
+-- an even count is not settled
+settle-off : (i o : ℕ → ℕ) (m : List ℕ) (p : ℕ) (c : List ℕ) → odd m p ≡ false → settleAt i o m p c ≡ c
+unfolding settleAt
+settle-off i o m p c e = rw (settleAt, e)
+
+even-settled : (i o : ℕ → ℕ) (d c : ℕ) → d % 2 ≡ 0 → c % 2 ≡ 0 → settle i o (row d c) (upFrom 0 2) (replicate 2 0) ≡ row 0 0
+even-settled i o d c e f =
+    ap (settleAt i o (row d c) 1) (settle-off i o (row d c) 0 (row 0 0) (rw e)) ∙ settle-off i o (row d c) 1 (row 0 0) (rw f)
+
 -- over the ports of a list of such flows, whatever their cells
 module _ (D C : ℕ) where
   abbrev pub port : End → ℕ → ℕ
@@ -87,6 +96,11 @@ module _ (D C : ℕ) where
   full-favours : (d c : ℕ) → d % 2 ≡ 1 → c % 2 ≡ 1 → favours port (row d c) ≡ row 1 2
   unfolding favours portOf
   full-favours d c e f = full-settled _ _ d c e f (rw (e, f)) (rw (e, f)) (rw (e, f))
+
+  -- two even ones favour neither
+  even-favours : (d c : ℕ) → d % 2 ≡ 0 → c % 2 ≡ 0 → favours port (row d c) ≡ row 0 0
+  unfolding favours
+  even-favours d c e f = even-settled _ _ d c e f
 
   -- the entries of a block with d cells of the one and c of the other
   abbrev pub laid : ℕ → ℕ → ℕ → List ℕ
@@ -110,6 +124,14 @@ module _ (D C : ℕ) where
       let g : (2 * y + 1) / 2 ≡ y = omega arith in
       let h : (2 * x + 1) / 2 ≡ x = omega arith in
       rw (full-favours (2 * y + 1) (2 * x + 1) (omega arith) (omega arith), g, h, add-zero y, add-zero x)
+
+  -- of two even counts each half gets half
+  pub even-halves : (j y x : ℕ) → laid (suc j) (2 * y) (2 * x) ≡ laid j y x ++ laid j y x
+  unfolding frameOf
+  even-halves j y x =
+      let g : 2 * y / 2 ≡ y = omega arith in
+      let h : 2 * x / 2 ≡ x = omega arith in
+      rw (even-favours (2 * y) (2 * x) (omega arith) (omega arith), g, h, add-zero y, add-zero x)
 
   -- ---- the cells of the flow
   abbrev pub cellsOf : List ℕ → ℕ
@@ -140,7 +162,7 @@ module _ (D C : ℕ) where
   pub row-whole : (j d c : ℕ) → d + c ≤ 2 ^ j → cellsOf (laid j d c) ≡ c
   row-whole j d c h =
       let fits = row-fits (2 ^ j) d c h in
-      rules-sound 2 j (listed D C) (row d c) (laid j d c) refl row-placed fits (frame-is 2 port j (row d c) row-placed fits) .0 .exact 1 (omega arith)
+      rules-sound 2 j (listed D C) (row d c) (laid j d c) refl row-placed (frame-is 2 port j (row d c) row-placed fits) .0 .exact 1 (omega arith)
 
   -- and so have all its slots
   pub row-cells : (j d c : ℕ) → d + c ≤ 2 ^ j → cellsOf (runOf 2 0 (2 ^ j) (laid j d c)) ≡ c

@@ -8,15 +8,18 @@ use Rattle.rules.specs.Flows.{Class, OnSwitch, load}
 use Rattle.rules.specs.Frames.{cells, repeated}
 use Rattle.calls.specs.Build.{buildAccepts, frameAfter}
 use Rattle.calls.specs.Service.{lead, service}
-use Rattle.wire.specs.Deviation.{deviation}
+use Rattle.strays.specs.Stray.{stray}
+use Rattle.strays.specs.Deviation.{repeatDeviation}
 use Rattle.calls.specs.declared.Who.{Who}
 
 -- The lead of a run of a frame of 2 ^ k slots and a list, the frame repeating for ever.
 pub record Led (c : Class) (ports slots k : ℕ) (list entries : List ℕ) (start len : ℕ) : Type 0 where
   -- Three times its distance from zero is at most (2k + 1) × slots,
   pub near : 3 * natAbs (lead c ports slots list entries start len) ≤ (2 * k + 1) * slots
-  -- and, by the sharp bound, which is never more, the distance is at most two deviations.
-  pub sharp : natAbs (lead c ports slots list entries start len) ≤ 2 * deviation k
+  -- the distance is at most twice the stray of the load,
+  pub by-load : natAbs (lead c ports slots list entries start len) ≤ 2 * stray k (load c list)
+  -- and, whatever the load, no more than one frame that repeats may be off.
+  pub repeats : natAbs (lead c ports slots list entries start len) ≤ repeatDeviation k
   -- What one frame holds is what was reserved, and slots × the share of a run is its length × the load: so the lead is
   -- slots × (cells − share).
   pub from-share : lead c ports slots list entries start len ≡ pos (slots * cells c ports list (repeated ports slots entries start len)) -ℤ pos (len * load c list)

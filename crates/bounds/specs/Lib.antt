@@ -1,8 +1,7 @@
--- What goes further than the demands: sharper bounds, buffers, waits, rows, lines, work.
+-- How far from its share a run can be, by the loads and by the frame's size alone, that this is reached, and how much work a build can be.
+pub mod ByLoad
 pub mod Sharp
-pub mod Budget
+pub mod Total
+pub mod Reached
 pub mod Lead
-pub mod Queue
-pub mod Wait
-pub mod Row
-pub mod Line
+pub mod Budget

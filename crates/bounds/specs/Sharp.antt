@@ -1,16 +1,12 @@
--- The sharp bound on the wire, from which demand 3 follows.
+-- The sharp bound on the wire, whatever the loads. It follows from the bound of each load, and demand 3 follows from it.
 use Prim.Native.Nat.{ℕ, _+_, _*_, _^_, _≤_}
 use mathlib.Core.Path.{_≡_}
 use mathlib.Core.List.{List}
 use lib.ListN.{length}
-use Rattle.rules.specs.Words.{Near}
 use Rattle.rules.specs.Flows.{Class, OnSwitch}
-use Rattle.wire.specs.Wire.{Carried, cellsIn, share, EveryChain}
-use Rattle.wire.specs.Deviation.{deviation}
-
--- The cells of a run differ by at most gap, either way, from its share, in parts of 1 / 2 ^ k of a cell.
-abbrev pub NearShare : ℕ → Class → ℕ → List Carried → ℕ → ℕ → Type 0
-NearShare gap c k frames start len = Near gap (2 ^ k * cellsIn c frames start len) (share c 0 frames start len)
+use Rattle.strays.specs.Deviation.{deviation}
+use Rattle.wire.specs.Wire.{Carried, EveryChain}
+use Rattle.bounds.specs.ByLoad.{NearShare}
 
 -- Each end of a run may be off by one deviation; an end that is the beginning or the end of a frame is not off at all.
 pub record SharpRun (c : Class) (k : ℕ) (frames : List Carried) (start len : ℕ) : Type 0 where
@@ -21,6 +17,6 @@ pub record SharpRun (c : Class) (k : ℕ) (frames : List Carried) (start len : �
 abbrev pub SharpOn : ℕ → ℕ → List Carried → Type 0
 SharpOn ports k frames = (start len : ℕ) → start + len ≤ length frames * 2 ^ k → (c : Class) → OnSwitch ports c → SharpRun c k frames start len
 
--- The sharp bound, for the chains of demand 3, which follows from it: 6 × deviation k is at most (2k + 1) × 2 ^ k.
+-- For the chains of demand 3, which follows from it: 6 × deviation k is at most (2k + 1) × 2 ^ k.
 abbrev pub Sharp : Type 0
 Sharp = EveryChain SharpOn

@@ -9,7 +9,7 @@ use Rattle.rules.specs.Frames.{cells, runOf}
 use Rattle.rules.specs.Schedule.{walk, settleAt, favours, slotOf, frameOf}
 use Rattle.calls.specs.Refusals.{slotsEach}
 use Rattle.calls.specs.Build.{buildChecks}
-use Rattle.wire.specs.Wire.{Carried, none, chain, cellsAt, cellsIn, share, Accurate}
+use Rattle.wire.specs.Wire.{Call, Carried, none, chain, cellsAt, cellsIn, share, Accurate}
 use Rattle.calls.proofs.Bench.{table7}
 
 -- the sheet's frame, carried twice
@@ -38,3 +38,13 @@ pub two-ports : (map (cellsAt (flow 1) twoPorts) (upFrom 0 9) ≡ 1 ∷ 1 ∷ 0 
     × (cellsIn (flow 1) twoPorts 3 3 ≡ 3) × (share (flow 1) 0 twoPorts 3 3 ≡ 9)
 unfolding chain cellsAt cellsIn share cells runOf buildChecks sumTo portOf countsOf loadIn walk settleAt favours slotOf frameOf
 two-ports = (refl, refl, refl)
+
+-- a call for no ports, which is refused
+abbrev refused : Call
+refused = record { ports = 0; slots = 3; list = []; limits = []; times = 1 }
+
+-- Before the first accepted call nothing is carried, and after a refused one the frames are still those of the last accepted call. These are
+-- the slots of each carried frame.
+pub last-accepted : map (λ f. f .call .slots) (chain none (replicate 1 77) (refused ∷ record { ports = 1; slots = 1; list = []; limits = slotsEach 1; times = 1 } ∷ refused ∷ [])) ≡ 1 ∷ 1 ∷ []
+unfolding chain buildChecks portOf countsOf loadIn sumTo
+last-accepted = refl

@@ -1,3 +1,3 @@
 -- What is on the wire, and demand 3.
 pub mod Wire
-pub mod Deviation
+pub mod Loads
