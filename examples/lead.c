@@ -63,8 +63,8 @@ int main(void)
     print_run("ahead", farthest(frame, 1));
     print_run("behind", behind);
 
-    /* An even source is at most one cell ahead of its rate. */
-    size_t waiting = SLOTS * 1 + (size_t)-behind.lead;
+    /* An even source brings in no run more than its share, rounded up to a whole cell: less than a cell more, SLOTS - 1 parts. */
+    size_t waiting = SLOTS - 1 + (size_t)-behind.lead;
     printf("from an even source at most %zu cells wait after a slot; a buffer of %zu is enough\n", waiting / SLOTS,
            (waiting + whole.cells) / SLOTS);
     return 0;

@@ -6,7 +6,8 @@
  * -l:libframe_builder.a in the place of -lframe_builder. In a checkout `rt staticlib exports` writes the archive to
  * target/staticlib/libexports.a. The shared library exports the calls below and nothing else. Its soname is libframe_builder.so.N, where N
  * is the first number of the version, and its calls have the symbol version FRAME_BUILDER_N. So a program is never given the calls of
- * another N. Of the C library the calls need memset and nothing else. examples/table7.c shows how the calls are used, examples/links.c how
+ * another N. A call that came with a later version N.M has the symbol version FRAME_BUILDER_N.M, so that a program that makes it does not
+ * start with an older library. Of the C library the calls need memset and nothing else. examples/table7.c shows how the calls are used, examples/links.c how
  * links and limits are.
  *
  * WORDS. Ports and slots are numbered from 1, inputs and outputs separately. An output drives up to four links, 1 to 4. A flow is so many
@@ -53,7 +54,7 @@
 #include <stdint.h>
 
 /* The version of the project. It stands in this line alone; whatever else says the version reads it from here. */
-#define FRAME_BUILDER_VERSION "5.1.0"
+#define FRAME_BUILDER_VERSION "5.2.0"
 
 /* Sizes. */
 #define FRAME_BUILDER_MAX_PORTS 16
@@ -256,10 +257,11 @@ size_t frame_builder_slot_view(size_t ports, size_t slots, const uint16_t *frame
  * and its lead is the sum of their leads. So an entry above the number of flows counts for no link and not for the total.
  *
  * For a frame that Build made, counted with the ports, slots and list that Build was given, 3 x |lead| <= (2k + 1) x slots, where slots are
- * 2^k, and |lead| is at most what stands here. Both are proved, for every flow, input and output and every run.
+ * 2^k, and |lead| is at most the bound that Depth answers for the same flow, input or output, and at most what stands here. All three are
+ * proved, for every flow, input and output and every run.
  *
  *     slots     1     2     4     8    16    32    64   128     256     512   1,024
- *     |lead|    0     2     6    18    46   114   270   626   1,422   3,186   7,054
+ *     |lead|    0     1     4    12    36    92   228   540   1,252   2,844   6,372
  *
  *     answer                  *cells                        *lead
  *     ACCEPTED                the cells, 0 to 16,000,000    the lead, -4,194,304 to 4,194,304
@@ -280,6 +282,42 @@ size_t frame_builder_count_input(size_t ports, size_t slots, const uint16_t *lis
                                  size_t frame_length, size_t input, size_t start, size_t length, size_t *cells, int64_t *lead);
 size_t frame_builder_count_output(size_t ports, size_t slots, const uint16_t *list, size_t list_length, const uint16_t *frame,
                                   size_t frame_length, size_t output, size_t start, size_t length, size_t *cells, int64_t *lead);
+
+/* Depth, since version 5.2: how far from its share a flow, an input or an output can get on the wire, and how many cells a buffer for it
+ * has to hold. Both go by its load alone, which is looked up in the list. No frame and no limits are asked for.
+ *
+ * The bound is in parts of 1/slots of a cell. Let Build make frames, of any lists, in all of which the load is this one, and let each be
+ * carried any number of times. Then in no run of slots, over seams too, are the cells more than the bound above their share, or more than
+ * the bound below it. For every load there are frames of Build and runs that come to it, above and below. This is proved.
+ *
+ * The cells to order are for an even source, from which in no run of slots do more cells arrive than the run's share, rounded up:
+ *
+ *     (slots - 1 + the bound + the load) / slots, rounded down
+ *
+ * So many cells wait at most, counted in each slot after its cells have arrived and before one leaves. This is proved too. For another
+ * source, its own allowance stands in the place of slots - 1. A source has the allowance a if in no run of slots do more cells arrive than
+ * the run's share and a/slots of a cell. Where cells arrive c at once, evenly otherwise, a is c x slots - 1. Where they come from another
+ * such switch with as many slots, a is the bound. docs/BUFFERS.md says what holds where the load changes from frame to frame, and for the
+ * card of a link.
+ *
+ *     answer                  *first                   *second
+ *     ACCEPTED                the bound, 0 to 7,054    the cells to order, 0 to 8
+ *     REFUSED_PORTS           0                        0
+ *     REFUSED_SLOTS           0                        0
+ *     REFUSED_LIST_LENGTH     0                        0
+ *     REFUSED_TOO_MANY_FLOWS  0                        0
+ *     REFUSED_FLOW_PORT       0                        0
+ *     REFUSED_FLOW_LINK       0                        0
+ *     REFUSED_INPUT_LOAD      the lowest such input    its load, slots + 1 to 33,553,920
+ *     REFUSED_OUTPUT_LOAD     the lowest such output   its load, slots + 1 to 33,553,920
+ *     REFUSED_FLOW_OR_PORT    0                        0
+ */
+size_t frame_builder_depth_flow(size_t ports, size_t slots, const uint16_t *list, size_t list_length, size_t flow, size_t *first,
+                                size_t *second);
+size_t frame_builder_depth_input(size_t ports, size_t slots, const uint16_t *list, size_t list_length, size_t input, size_t *first,
+                                 size_t *second);
+size_t frame_builder_depth_output(size_t ports, size_t slots, const uint16_t *list, size_t list_length, size_t output, size_t *first,
+                                  size_t *second);
 
 #ifdef __cplusplus
 }

@@ -14,6 +14,8 @@ slot 1 first. Within a slot there is one number per input: that of the flow that
     True
     >>> count_flow(4, 4, flows, frame, flow=5, start=4, length=2)
     Count(cells=2, lead=4)
+    >>> depth_flow(4, 4, flows, flow=5)
+    Depth(parts=4, cells=2)
 
 ANSWERS. A call that cannot be answered raises Refused, which has the number and the text of the refusal and its values. It raises the first
 refusal of its own order that holds. A refused call leaves everything as it was. Inspect returns a fault, and does not raise it.
@@ -36,7 +38,7 @@ THE LIBRARY is libframe_builder.so.N, where N is CALLS. It is looked for when th
 2. In the folder lib, where this module stands in lib/python3/dist-packages: ./install puts them there.
 3. Where the loader looks.
 
-ImportError says what was tried where none is found, and refuses a library that has the calls of another major version.
+ImportError says what was tried where none is found, and refuses a library that has the calls of another major version, or fewer calls.
 """
 
 from __future__ import annotations
@@ -164,6 +166,18 @@ class Count(NamedTuple):
     lead: int
 
 
+class Depth(NamedTuple):
+    """What a depth answers: how far from its share a flow, an input or an output can get, and how many cells its buffer has to hold.
+
+    The parts are of 1/slots of a cell. In frames of build in all of which the load is the same, no run of slots is more than so many parts
+    above its share, or below it. The cells are for an even source, from which in no run do more cells arrive than the run's share, rounded
+    up. A source from which a/slots of a cell more may arrive needs (a + parts + load) // slots cells.
+    """
+
+    parts: int
+    cells: int
+
+
 @dataclass(frozen=True)
 class Fault:
     """What is wrong with a frame: the first fault that inspect finds.
@@ -258,6 +272,7 @@ _NUMBERS = ctypes.POINTER(ctypes.c_uint16)
 _SHAPE = (_SIZE, _SIZE)
 _SLICE = (_NUMBERS, _SIZE)
 _COUNTED = (*_SHAPE, *_SLICE, *_SLICE, _SIZE, _SIZE, _SIZE)
+_ASKED = (*_SHAPE, *_SLICE, _SIZE)
 
 # Of each call what it is given, and what it is lent to write to.
 _SIGNATURES = {
@@ -268,7 +283,13 @@ _SIGNATURES = {
     "count_flow": (_COUNTED, (_SIZE, ctypes.c_int64)),
     "count_input": (_COUNTED, (_SIZE, ctypes.c_int64)),
     "count_output": (_COUNTED, (_SIZE, ctypes.c_int64)),
+    "depth_flow": (_ASKED, (_SIZE, _SIZE)),
+    "depth_input": (_ASKED, (_SIZE, _SIZE)),
+    "depth_output": (_ASKED, (_SIZE, _SIZE)),
 }
+
+# The version that each call came with, where that is not the first of CALLS.
+_SINCE = {"depth_flow": "5.2", "depth_input": "5.2", "depth_output": "5.2"}
 
 _SONAME = f"libframe_builder.so.{CALLS}"
 _VARIABLE = "FRAME_BUILDER_LIBRARY"
@@ -309,9 +330,10 @@ def _calls_of(library, name):
     find.restype = ctypes.c_void_p
     calls = {}
     for call, (given, lent) in _SIGNATURES.items():
-        address = find(library._handle, f"frame_builder_{call}".encode(), f"FRAME_BUILDER_{CALLS}".encode())
+        since = _SINCE.get(call, str(CALLS))
+        address = find(library._handle, f"frame_builder_{call}".encode(), f"FRAME_BUILDER_{since}".encode())
         if not address:
-            raise ImportError(f"frame_builder: {name} has no call {call} of version {CALLS}, and this module makes the calls of {CALLS}.x")
+            raise ImportError(f"frame_builder: {name} has no call {call} of version {since}, which this module makes")
         # The interpreter's lock is held: the proofs are of numbers that nobody changes while a call runs.
         calls[call] = ctypes.PYFUNCTYPE(_SIZE, *given, *map(ctypes.POINTER, lent))(address)
     return calls
@@ -623,3 +645,30 @@ def count_output(ports: int, slots: int, flows, frame, output: int, start: int, 
 def _count(call, ports, slots, flows, frame, whose, start, length):
     run = (whose, _size(start, "start"), _size(length, "length"))
     return Count(*_accepted(*_ask(call, _shape(ports, slots), _slice(_list(flows)), _slice(_read(frame, "frame")), run)))
+
+
+def depth_flow(ports: int, slots: int, flows, flow: int) -> Depth:
+    """How far from its share a flow can get, and how deep a buffer to order for it: returns a Depth, which goes by the flow's cells alone.
+
+    Refusals, in their order: 1, 2, 3, 21, 22, 23, 5, 6, 12.
+
+    >>> depth_flow(2, 1024, [Flow(1, 1, 64), Flow(2, 2, 63)], flow=1)
+    Depth(parts=1920, cells=2)
+    >>> depth_flow(2, 1024, [Flow(1, 1, 64), Flow(2, 2, 63)], flow=2)
+    Depth(parts=3906, cells=4)
+    """
+    return _depth("depth_flow", ports, slots, flows, _size(flow, "flow"))
+
+
+def depth_input(ports: int, slots: int, flows, input: int) -> Depth:
+    """How far from its share an input can get, and how deep a buffer to order for it, as depth_flow says it of a flow."""
+    return _depth("depth_input", ports, slots, flows, _size(input, "input"))
+
+
+def depth_output(ports: int, slots: int, flows, output: int) -> Depth:
+    """How far from its share an output can get, and how deep a buffer to order for it, as depth_flow says it of a flow."""
+    return _depth("depth_output", ports, slots, flows, _size(output, "output"))
+
+
+def _depth(call, ports, slots, flows, whose):
+    return Depth(*_accepted(*_ask(call, _shape(ports, slots), _slice(_list(flows)), [whose])))

@@ -16,7 +16,8 @@ import threading
 import unittest
 
 import frame_builder
-from frame_builder import Count, Fault, Flow, Refused, admit, build, count_flow, count_input, count_output, inspect, slot_view
+from frame_builder import Count, Depth, Fault, Flow, Refused, admit, build, count_flow, count_input, count_output
+from frame_builder import depth_flow, depth_input, depth_output, inspect, slot_view
 
 TOP = os.path.dirname(os.path.dirname(os.path.abspath(__file__)))
 MODULE = os.path.join(TOP, "python", "frame_builder.py")
@@ -62,6 +63,13 @@ class Header(unittest.TestCase):
         (said,) = re.findall(r"default:\s+return \"(.*)\";", self.HEADER)
         for number in (9, 14, 25, 100, 105, -1, 2**64):
             self.assertEqual(frame_builder.text(number), said)
+
+    def test_every_later_version(self):
+        since = {}
+        for comment in re.split(r"^/\*", self.HEADER, flags=re.MULTILINE):
+            calls = re.findall(r"^size_t frame_builder_(\w+)\(", comment, re.MULTILINE)
+            since.update((call, version) for version in re.findall(r"since version (\d+\.\d+)", comment) for call in calls)
+        self.assertEqual(since, frame_builder._SINCE)
 
     def test_every_call(self):
         declared = re.findall(r"^size_t frame_builder_(\w+)\(", self.HEADER, re.MULTILINE)
@@ -176,6 +184,21 @@ class Answers(unittest.TestCase):
             self.refused(12, call, 4, 4, TABLE7, TABLE7_FRAME, 0, 1, 1)
             self.refused(12, call, 4, 4, TABLE7, TABLE7_FRAME, 6, 1, 1)
             self.refused(13, call, 4, 4, TABLE7, TABLE7_FRAME, 1, 1, 1000001)
+
+    def test_depths(self):
+        flows = [Flow(1, 1, 512), Flow(2, 2, 100), Flow(2, 1, 241, link=4), Flow(3, 3, 0)]
+        self.assertEqual(depth_flow(4, 1024, flows, flow=1), Depth(1024, 2))
+        self.assertEqual(depth_flow(4, 1024, flows, flow=4), Depth(0, 0))
+        self.assertEqual(depth_input(4, 1024, flows, input=2), Depth(7054, 8))
+        self.assertEqual(depth_output(4, 1024, flows, output=1), Depth(5226, 6))
+
+    def test_refused_depths(self):
+        for call in (depth_flow, depth_input, depth_output):
+            self.refuses_list(call, 9)
+            self.refused(5, call, 4, 4, [Flow(2, 1, 3), Flow(2, 4, 65535)], 9, port=2, cells=65538)
+            self.refused(6, call, 4, 4, [Flow(1, 3, 2), Flow(2, 3, 3)], 9, port=3, cells=5)
+            self.refused(12, call, 4, 4, TABLE7, 0)
+            self.refused(12, call, 4, 4, TABLE7, 6)
 
     def test_refusal_in_another_process(self):
         with self.assertRaises(Refused) as raised:
@@ -348,6 +371,9 @@ class Numbers(unittest.TestCase):
                     run[place] = bad
                     with self.assertRaisesRegex(error, f"^{named} is "):
                         call(4, 4, TABLE7, TABLE7_FRAME, *run)
+            for call, name in ((depth_flow, "flow"), (depth_input, "input"), (depth_output, "output")):
+                with self.assertRaisesRegex(error, f"^{name} is "):
+                    call(4, 4, TABLE7, bad)
 
     def test_numbers_of_arrays(self):
         for bad, error in ((-1, ValueError), (65536, ValueError), (2**70, ValueError), *self.NOT_WHOLE):
@@ -494,6 +520,7 @@ class Frames(unittest.TestCase):
                     self.assertEqual(count_output(ports, slots, flows, frame, port, start, length), expected("output", port))
                 for flow in range(1, len(flows) + 1, 7):
                     self.assertEqual(count_flow(ports, slots, flows, frame, flow, start, length), expected("flow", flow))
+                    self.assertLessEqual(abs(expected("flow", flow).lead), depth_flow(ports, slots, flows, flow).parts)
 
     def test_threads(self):
         cases = [random_case(seed) for seed in range(8)]
@@ -589,8 +616,13 @@ class Library(unittest.TestCase):
         calls = "".join(f"int frame_builder_{call}(void) {{ return 0; }}\n" for call in frame_builder._SIGNATURES)
         library = self.linked(calls, f"FRAME_BUILDER_{frame_builder.CALLS - 1} {{ global: *; }};\n")
         said = self.version(self.module_in("any"), FRAME_BUILDER_LIBRARY=library)
-        calls = frame_builder.CALLS
-        self.assertIn(f"{library} has no call admit of version {calls}, and this module makes the calls of {calls}.x", said)
+        self.assertIn(f"{library} has no call admit of version {frame_builder.CALLS}, which this module makes", said)
+
+    def test_an_older_version(self):
+        calls = "".join(f"int frame_builder_{call}(void) {{ return 0; }}\n" for call in frame_builder._SIGNATURES)
+        library = self.linked(calls, f"FRAME_BUILDER_{frame_builder.CALLS} {{ global: *; }};\n")
+        said = self.version(self.module_in("any"), FRAME_BUILDER_LIBRARY=library)
+        self.assertIn(f"{library} has no call depth_flow of version 5.2, which this module makes", said)
 
 
 def load_tests(loader, tests, pattern):

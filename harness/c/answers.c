@@ -91,7 +91,7 @@ static void check_texts(void)
 
 /* Answers. */
 
-enum call { ADMIT, BUILD, INSPECT, SLOT_VIEW, COUNT_FLOW, COUNT_INPUT, COUNT_OUTPUT };
+enum call { ADMIT, BUILD, INSPECT, SLOT_VIEW, DEPTH_FLOW, DEPTH_INPUT, DEPTH_OUTPUT, COUNT_FLOW, COUNT_INPUT, COUNT_OUTPUT };
 
 /* What a call is lent. */
 struct lent {
@@ -100,7 +100,7 @@ struct lent {
     size_t list_length;
     const uint16_t *limits;
     uint16_t *frame;
-    size_t frame_length, slot, length, whose; /* slot: Service count's start; whose: its flow or port */
+    size_t frame_length, slot, length, whose; /* slot: Service count's start; whose: its flow or port, and Depth's */
 };
 
 /* Each lent number stands between two that must stay. */
@@ -124,6 +124,12 @@ static size_t make_call(enum call call, const struct lent *l, struct numbers *n)
         return frame_builder_inspect(l->ports, l->slots, l->list, l->list_length, l->frame, l->frame_length, first, second);
     case SLOT_VIEW:
         return frame_builder_slot_view(l->ports, l->slots, l->frame, l->frame_length, l->slot, first, second);
+    case DEPTH_FLOW:
+        return frame_builder_depth_flow(l->ports, l->slots, l->list, l->list_length, l->whose, first, second);
+    case DEPTH_INPUT:
+        return frame_builder_depth_input(l->ports, l->slots, l->list, l->list_length, l->whose, first, second);
+    case DEPTH_OUTPUT:
+        return frame_builder_depth_output(l->ports, l->slots, l->list, l->list_length, l->whose, first, second);
     case COUNT_FLOW:
         return frame_builder_count_flow(l->ports, l->slots, l->list, l->list_length, l->frame, l->frame_length, l->whose, l->slot,
                                         l->length, first, lead);
@@ -366,6 +372,54 @@ static const struct expected expectations[] = {
     {"count output: no frame", COUNT_OUTPUT, {4, 4, LIST(table7), NO_FRAME, 3, 3, 1}, 4, 0, 0},
     {"count output: no frame, ports 0", COUNT_OUTPUT, {0, 4, LIST(table7), NO_FRAME, 3, 3, 1}, 1, 0, 0},
     {"count output: no frame, slots 0", COUNT_OUTPUT, {4, 0, LIST(table7), NO_FRAME, 3, 3, 1}, 2, 0, 0},
+
+    {"depth flow: two cells", DEPTH_FLOW, {4, 4, LIST(table7), NO_FRAME, 0, 0, 1}, 0, 4, 2},
+    {"depth flow: one cell", DEPTH_FLOW, {4, 4, LIST(table7), NO_FRAME, 0, 0, 3}, 0, 6, 2},
+    {"depth flow: no limits are asked for", DEPTH_FLOW, {4, 4, LIMITED(table7, closed), NO_FRAME, 0, 0, 1}, 0, 4, 2},
+    {"depth flow: without cells", DEPTH_FLOW, {4, 4, too_many, MOST_FLOWS *OF_FLOW, unlimited, NO_FRAME, 0, 0, 512}, 0, 0, 0},
+    {"depth flow: flow 0", DEPTH_FLOW, {4, 4, LIST(table7), NO_FRAME, 0, 0, 0}, 12, 0, 0},
+    {"depth flow: no flows", DEPTH_FLOW, {4, 4, NO_LIST, NO_FRAME, 0, 0, 1}, 12, 0, 0},
+    {"depth flow: ports", DEPTH_FLOW, {0, 4, LIST(table7), NO_FRAME, 0, 0, 5}, 1, 0, 0},
+    {"depth flow: slots", DEPTH_FLOW, {4, 3, LIST(table7), NO_FRAME, 0, 0, 5}, 2, 0, 0},
+    {"depth flow: list length", DEPTH_FLOW, {4, 4, table7, 19, unlimited, NO_FRAME, 0, 0, 5}, 3, 0, 0},
+    {"depth flow: 513 flows", DEPTH_FLOW, {4, 4, LIST(too_many), NO_FRAME, 0, 0, 5}, 21, 0, 0},
+    {"depth flow: a flow's port", DEPTH_FLOW, {4, 4, LIST(outside), NO_FRAME, 0, 0, 5}, 22, 0, 0},
+    {"depth flow: a flow's link, and a load", DEPTH_FLOW, {4, 4, LIST(link_5), NO_FRAME, 0, 0, 5}, 23, 0, 0},
+    {"depth flow: input load", DEPTH_FLOW, {4, 4, LIST(input_full), NO_FRAME, 0, 0, 5}, 5, 2, 262140},
+    {"depth flow: output load, and flow 6", DEPTH_FLOW, {4, 4, LIST(output_full), NO_FRAME, 0, 0, 6}, 6, 2, 5},
+    {"depth flow: flow 6", DEPTH_FLOW, {4, 4, LIST(table7), NO_FRAME, 0, 0, 6}, 12, 0, 0},
+    {"depth flow: no flows, ports 0", DEPTH_FLOW, {0, 4, NO_LIST, NO_FRAME, 0, 0, 5}, 1, 0, 0},
+    {"depth flow: no flows, slots 0", DEPTH_FLOW, {4, 0, NO_LIST, NO_FRAME, 0, 0, 5}, 2, 0, 0},
+
+    {"depth input: a cell in every slot", DEPTH_INPUT, {4, 4, LIST(table7), NO_FRAME, 0, 0, 4}, 0, 0, 1},
+    {"depth input: without flows", DEPTH_INPUT, {4, 4, NO_LIST, NO_FRAME, 0, 0, 4}, 0, 0, 0},
+    {"depth input: input 0", DEPTH_INPUT, {4, 4, LIST(table7), NO_FRAME, 0, 0, 0}, 12, 0, 0},
+    {"depth input: ports", DEPTH_INPUT, {0, 4, LIST(table7), NO_FRAME, 0, 0, 4}, 1, 0, 0},
+    {"depth input: slots", DEPTH_INPUT, {4, 3, LIST(table7), NO_FRAME, 0, 0, 4}, 2, 0, 0},
+    {"depth input: list length", DEPTH_INPUT, {4, 4, table7, 19, unlimited, NO_FRAME, 0, 0, 4}, 3, 0, 0},
+    {"depth input: 513 flows", DEPTH_INPUT, {4, 4, LIST(too_many), NO_FRAME, 0, 0, 4}, 21, 0, 0},
+    {"depth input: a flow's port", DEPTH_INPUT, {4, 4, LIST(outside), NO_FRAME, 0, 0, 4}, 22, 0, 0},
+    {"depth input: a flow's link, and a load", DEPTH_INPUT, {4, 4, LIST(link_5), NO_FRAME, 0, 0, 4}, 23, 0, 0},
+    {"depth input: input load", DEPTH_INPUT, {4, 4, LIST(input_full), NO_FRAME, 0, 0, 4}, 5, 2, 262140},
+    {"depth input: output load, and input 5", DEPTH_INPUT, {4, 4, LIST(output_full), NO_FRAME, 0, 0, 5}, 6, 2, 5},
+    {"depth input: input 5", DEPTH_INPUT, {4, 4, LIST(table7), NO_FRAME, 0, 0, 5}, 12, 0, 0},
+    {"depth input: no flows, ports 0", DEPTH_INPUT, {0, 4, NO_LIST, NO_FRAME, 0, 0, 4}, 1, 0, 0},
+    {"depth input: no flows, slots 0", DEPTH_INPUT, {4, 0, NO_LIST, NO_FRAME, 0, 0, 4}, 2, 0, 0},
+
+    {"depth output: three cells", DEPTH_OUTPUT, {4, 4, LIST(table7), NO_FRAME, 0, 0, 1}, 0, 6, 3},
+    {"depth output: without flows", DEPTH_OUTPUT, {4, 4, LIST(table7), NO_FRAME, 0, 0, 3}, 0, 0, 0},
+    {"depth output: output 0", DEPTH_OUTPUT, {4, 4, LIST(table7), NO_FRAME, 0, 0, 0}, 12, 0, 0},
+    {"depth output: ports", DEPTH_OUTPUT, {0, 4, LIST(table7), NO_FRAME, 0, 0, 4}, 1, 0, 0},
+    {"depth output: slots", DEPTH_OUTPUT, {4, 3, LIST(table7), NO_FRAME, 0, 0, 4}, 2, 0, 0},
+    {"depth output: list length", DEPTH_OUTPUT, {4, 4, table7, 19, unlimited, NO_FRAME, 0, 0, 4}, 3, 0, 0},
+    {"depth output: 513 flows", DEPTH_OUTPUT, {4, 4, LIST(too_many), NO_FRAME, 0, 0, 4}, 21, 0, 0},
+    {"depth output: a flow's port", DEPTH_OUTPUT, {4, 4, LIST(outside), NO_FRAME, 0, 0, 4}, 22, 0, 0},
+    {"depth output: a flow's link, and a load", DEPTH_OUTPUT, {4, 4, LIST(link_5), NO_FRAME, 0, 0, 4}, 23, 0, 0},
+    {"depth output: input load", DEPTH_OUTPUT, {4, 4, LIST(input_full), NO_FRAME, 0, 0, 4}, 5, 2, 262140},
+    {"depth output: output load, and an output far outside", DEPTH_OUTPUT, {4, 4, LIST(output_full), NO_FRAME, 0, 0, SIZE_MAX}, 6, 2, 5},
+    {"depth output: an output far outside", DEPTH_OUTPUT, {4, 4, LIST(table7), NO_FRAME, 0, 0, SIZE_MAX}, 12, 0, 0},
+    {"depth output: no flows, ports 0", DEPTH_OUTPUT, {0, 4, NO_LIST, NO_FRAME, 0, 0, 4}, 1, 0, 0},
+    {"depth output: no flows, slots 0", DEPTH_OUTPUT, {4, 0, NO_LIST, NO_FRAME, 0, 0, 4}, 2, 0, 0},
 };
 
 static void fill_too_many(void)
@@ -534,7 +588,8 @@ static int all_accept(size_t ports, size_t slots, size_t each, uint16_t *list, c
     return answers(ADMIT, &lent, 0, 0, 0) && answers(BUILD, &lent, 0, settled(slots, list, flows), 0) && answers(INSPECT, &lent, 0, 0, 0)
            && answers(SLOT_VIEW, &lent, 0, (slots - 1) * ports, (int64_t)ports)
            && answers(COUNT_FLOW, &of_flow, 0, length / slots * list[(flows - each) * OF_FLOW + 2], 0)
-           && answers(COUNT_INPUT, &lent, 0, length, 0) && answers(COUNT_OUTPUT, &lent, 0, length, 0);
+           && answers(COUNT_INPUT, &lent, 0, length, 0) && answers(COUNT_OUTPUT, &lent, 0, length, 0)
+           && answers(DEPTH_INPUT, &lent, 0, 0, 1) && answers(DEPTH_OUTPUT, &lent, 0, 0, 1);
 }
 
 /* Limits that no load is above, in memory that may only be read. */

@@ -21,13 +21,13 @@
 #define NUMBERS (FRAME_BUILDER_FAULT_UNBALANCED_BLOCK + 1)
 #define KNOWN_BYTES 5000
 
-enum call { ADMIT, BUILD, INSPECT, SLOT_VIEW, COUNT_FLOW, COUNT_INPUT, COUNT_OUTPUT, KNOWN, CALLS };
+enum call { ADMIT, BUILD, INSPECT, SLOT_VIEW, COUNT_FLOW, COUNT_INPUT, COUNT_OUTPUT, DEPTH_FLOW, DEPTH_INPUT, DEPTH_OUTPUT, KNOWN, CALLS };
 
-static const char *const names[CALLS] = {"admit", "build", "inspect", "slot_view", "count_flow", "count_input", "count_output",
-                                         "(5,000 bytes)"};
+static const char *const names[CALLS] = {"admit",        "build",      "inspect",     "slot_view",    "count_flow",   "count_input",
+                                         "count_output", "depth_flow", "depth_input", "depth_output", "(5,000 bytes)"};
 
 /* How many different answers each call has. */
-static const size_t answers[CALLS] = {10, 11, 12, 5, 11, 11, 11, 1};
+static const size_t answers[CALLS] = {10, 11, 12, 5, 11, 11, 11, 10, 10, 10, 1};
 
 /* The call to make, what it is lent, and its answer. */
 static struct {
@@ -83,6 +83,15 @@ static void make_call(void)
         break;
     case COUNT_OUTPUT:
         asked.answer = frame_builder_count_output(ports, slots, list, list_length, frame, frame_length, port, slot, length, &first, &lead);
+        break;
+    case DEPTH_FLOW:
+        asked.answer = frame_builder_depth_flow(ports, slots, list, list_length, flow, &first, &second);
+        break;
+    case DEPTH_INPUT:
+        asked.answer = frame_builder_depth_input(ports, slots, list, list_length, port, &first, &second);
+        break;
+    case DEPTH_OUTPUT:
+        asked.answer = frame_builder_depth_output(ports, slots, list, list_length, port, &first, &second);
         break;
     default:
         asked.answer = take_known_bytes();

@@ -18,8 +18,8 @@ const VARIABLES: [&str; 6] = [
     "PKG_CONFIG_LIBDIR",
 ];
 
-/// How the version begins of a library that has the calls as this crate makes them.
-const CALLS: &str = "5.";
+/// The first two numbers of the first version that has the calls as this crate makes them. Later ones with the same first number have them.
+const CALLS: [u32; 2] = [5, 2];
 
 const ADVICE: &str = "\
 What to do, one of these:
@@ -89,14 +89,16 @@ fn find() -> Result<Library, String> {
     Err(tried + ADVICE)
 }
 
-/// Refuses a library whose calls take other arguments or answer otherwise, which the linker would not notice.
+/// Refuses a library whose calls take other arguments or answer otherwise, which the linker would not notice, and one that has fewer.
 fn with_these_calls(library: Library) -> Result<Library, String> {
     let (archive, version) = (library.archive.display(), &library.version);
-    if version.starts_with(CALLS) {
+    let [major, minor] = CALLS;
+    let mut numbers = version.split('.').map(str::parse::<u32>);
+    if numbers.next() == Some(Ok(major)) && matches!(numbers.next(), Some(Ok(n)) if n >= minor) {
         return Ok(library);
     }
-    let why =
-        format!("{archive} is of version {version}, and this crate makes the calls of {CALLS}x");
+    let needed = format!("this crate makes the calls of {major}.{minor} and later {major}.x");
+    let why = format!("{archive} is of version {version}, and {needed}");
     Err(format!("{why}\n{ADVICE}"))
 }
 

@@ -22,6 +22,10 @@ pub record EveryLoad (ports : ℕ) (list ins outs lines : List ℕ) : Type 0 whe
   pub of-outputs : Given 16 ports (λ o. load (portOn output o) list) outs
   pub of-links : Given 64 (ports * 4) (λ x. load (link x) list) lines
 
+-- The answer of 5 and 6, in their order, from slots and the loads of sixteen inputs and sixteen outputs; accepted where neither holds.
+abbrev pub decidedPorts : ℕ → List ℕ → List ℕ → List ℕ
+decidedPorts slots ins outs = report (aboveSlots 5 16 slots (valueAt ins) ∷ aboveSlots 6 16 slots (valueAt outs) ∷ []) accepted
+
 -- The answer of 5, 6 and 24, in their order, from slots, the loads of sixteen inputs, sixteen outputs and their links, and the limits;
 -- accepted where none holds.
 abbrev pub decided : ℕ → List ℕ → List ℕ → List ℕ → List ℕ → List ℕ

@@ -4,7 +4,7 @@ ghost use Prim.Native.Nat.{_<_};
 ghost use lib.ListN.{length};
 ghost use Rattle.calls.specs.Refusals.{lowestAbove, lowestPast, answered, admitted};
 ghost use Rattle.checks.specs.Lists.{ListFits};
-ghost use Rattle.admission.specs.Overloads.{valueAt, EveryLoad, decided};
+ghost use Rattle.admission.specs.Overloads.{valueAt, EveryLoad, decidedPorts, decided};
 use calls::Answer;
 use calls::Refusal;
 use checks::check_list;
@@ -76,16 +76,10 @@ fn lowest_past(links: &[usize; 64], limits: [u16; 64]) -> usize
     64
 }
 
-// Refusals 5, 6 and 24, decided from every load, slots and the limits.
-pub fn overload<'a>(
-    slots: usize,
-    inputs: &'a [usize; 16],
-    outputs: &'a [usize; 16],
-    links: &'a [usize; 64],
-    limits: [u16; 64],
-) -> Answer
-    requires { ⌜ (length (now inputs) ≡ 16) × (length (now outputs) ≡ 16) × (length (now links) ≡ 64) ⌝ }
-    ensures { λ r. ⌜ answered r ≡ decided slots (now (inputs .entry)) (now (outputs .entry)) (now (links .entry)) limits ⌝ }
+// Refusals 5 and 6, decided from the loads of the ports and slots.
+pub fn port_overload<'a>(slots: usize, inputs: &'a [usize; 16], outputs: &'a [usize; 16]) -> Answer
+    requires { ⌜ (length (now inputs) ≡ 16) × (length (now outputs) ≡ 16) ⌝ }
+    ensures { λ r. ⌜ answered r ≡ decidedPorts slots (now (inputs .entry)) (now (outputs .entry)) ⌝ }
 {
     let i = lowest_above(slots, inputs);
     if i < 16 {
@@ -100,6 +94,23 @@ pub fn overload<'a>(
             port: o + 1,
             cells: outputs[o],
         });
+    }
+    Answer::Accepted
+}
+
+// Refusals 5, 6 and 24, decided from every load, slots and the limits.
+pub fn overload<'a>(
+    slots: usize,
+    inputs: &'a [usize; 16],
+    outputs: &'a [usize; 16],
+    links: &'a [usize; 64],
+    limits: [u16; 64],
+) -> Answer
+    requires { ⌜ (length (now inputs) ≡ 16) × (length (now outputs) ≡ 16) × (length (now links) ≡ 64) ⌝ }
+    ensures { λ r. ⌜ answered r ≡ decided slots (now (inputs .entry)) (now (outputs .entry)) (now (links .entry)) limits ⌝ }
+{
+    if let Answer::Refused(refusal) = port_overload(slots, inputs, outputs) {
+        return Answer::Refused(refusal);
     }
     let x = lowest_past(links, limits);
     if x < 64 {

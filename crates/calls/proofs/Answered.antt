@@ -1,33 +1,38 @@
 -- Each call's definition answers by its cases.
-use Prim.Native.Nat.{ℕ, suc, _-_, _*_, _≤_, _<_}
+use Prim.Native.Nat.{ℕ, suc, _+_, _-_, _*_, _/_, _≤_, _<_}
 use mathlib.Core.Path.{_≡_, refl, sym, ap, ap₂, _∙_}
 use mathlib.Core.List.{List, [], _∷_, _++_}
 use mathlib.Core.Bool.{true, false}
+use native.Mathlib.Nat.{mod-lt, div-add-mod', div-eq-of-lt-le}
 use native.Mathlib.Omega.{arith}
+use lib.Pow.{pow-pos}
 use lib.IntN.{ℤ, pos, _-ℤ_}
 use lib.ListN.{length, getD}
 use borrow.Author.Tests.{not-false}
-use Rattle.rules.specs.Flows.{flows, portOf, countsOf, Class, flow, portOn, input, output}
+use Rattle.rules.specs.Flows.{flows, portOf, countsOf, Class, flow, portOn, input, output, load, Fits}
 use Rattle.rules.specs.Frames.{cells, repeated, Power}
-use Rattle.calls.specs.Refusals.{Check, report, none-holds, bad-ports, bad-slots, bad-list, too-many-flows, port-outside, link-outside, listChecks, bad-frame, bad-slot, overloads, admitted}
+use Rattle.strays.specs.Stray.{stray}
+use Rattle.calls.specs.Refusals.{Check, report, none-holds, bad-ports, bad-slots, bad-list, too-many-flows, port-outside, link-outside, listChecks, bad-frame, bad-slot, overload, overloads, admitted}
 use Rattle.rules.specs.Schedule.{frameOf}
 use Rattle.calls.specs.Work.{work}
 use Rattle.calls.specs.Build.{frameAfter, buildChecks, acceptance, built}
 use Rattle.calls.specs.Inspect.{wrongEntry, outputTwice, flowCount, unbalancedBlock, inspected}
 use Rattle.calls.specs.Service.{viewChecks, viewNumber, viewStart, viewSize, viewed, classOf, bad-who, bad-length, lead, Reply, countChecks, service}
+use Rattle.calls.specs.Depth.{depthChecks, farthest, mostWaiting, depth}
 use Rattle.calls.specs.declared.Who.{Who}
 use Rattle.calls.specs.declared.Who.the-variants.{Flow, Input, Output}
 use Rattle.rules.proofs.Cases.{from-one, byLt, within-yes, within-true}
 use Rattle.rules.specs.Words.{Within}
 use Rattle.rules.proofs.Levels.{power-level}
 use Rattle.rules.proofs.OneFrame.{only-frame}
-use Rattle.calls.proofs.Reports.{Tells, ports-tells, slots-tells, list-tells, flows-tells, flow-tells, link-tells, frame-tells, clear-then, clear-none, clear-some, broken, byFact, slot-tells, length-tells}
+use Rattle.calls.proofs.Reports.{Tells, report-found, report-on, ports-tells, slots-tells, list-tells, flows-tells, flow-tells, link-tells, frame-tells, clear-then, clear-none, clear-some, broken, byFact, slot-tells, length-tells}
 use Rattle.calls.proofs.Replies.{count, reply-refused, reply-counted}
 use Rattle.rules.proofs.Integers.{minus-ahead, minus-behind}
-use Rattle.calls.proofs.Overloads.{byOver, byPast}
+use Rattle.strays.proofs.Strays.{stray-has, stray-most, stray-is}
+use Rattle.calls.proofs.Overloads.{over-reported, overload-tells, byOver, byPast}
 use Rattle.calls.specs.Demand2.{WellFormed}
 use Rattle.calls.proofs.Demand2.{well-clear, past-load, past-frame, well-frame, light-fits, admit-answers, build-answers, accepts-yes, build-keeps}
-use Rattle.calls.specs.Answers.{Exactly, RackRefused, ports-1, slots-2, LoadRefused, FrameRefused, SlotRefused, rack, list-3, flows-21, flow-22, link-23, load-refused, frame-4, slot-11, SlotFound, Admits, refused, input-5, output-6, link-24, accepted, Builds, Inspects, found, Views, seen, Names, of-flow, of-input, of-output, RunFound, Counts, start-11, who-12, length-13, counted-ahead, counted-behind, ByCases}
+use Rattle.calls.specs.Answers.{Exactly, RackRefused, ports-1, slots-2, LoadRefused, FrameRefused, SlotRefused, rack, list-3, flows-21, flow-22, link-23, load-refused, frame-4, slot-11, SlotFound, Admits, refused, input-5, output-6, link-24, accepted, Builds, Inspects, found, Views, seen, Names, of-flow, of-input, of-output, RunFound, Counts, start-11, who-12, length-13, counted-ahead, counted-behind, Depths, bound, ByCases}
 use Rattle.calls.proofs.Answers.{exactly}
 use Rattle.calls.proofs.Clean.{find-only, fault-means}
 
@@ -315,6 +320,74 @@ module _ (ports slots : ℕ) (list entries : List ℕ) (who : Who) (start len : 
       byLt had share (λ h. exactly count-only (counted-behind f (n .1) l (share - suc had) (omega arith)))
       (λ h. exactly count-only (counted-ahead f (n .1) l (had - share) (omega arith)))))))
 
+-- ---- Depth
+module _ (ports slots : ℕ) (list : List ℕ) (who : Who) where
+  abbrev fifth : Check
+  fifth = overload 5 (portOn input) ports slots list
+
+  abbrev sixth : Check
+  sixth = overload 6 (portOn output) ports slots list
+
+  abbrev last : Check
+  last = bad-who ports list who
+
+  -- what is answered where none holds
+  abbrev asked-depth : List ℕ
+  asked-depth = 0 ∷ farthest slots (load (classOf who) list) ∷ mostWaiting slots (load (classOf who) list) ∷ []
+
+  -- a list that is well-formed comes to 5, 6 and 12, and one that fits to 12
+  depth-well : WellFormed ports slots list → depth ports slots list who ≡ report (fifth ∷ sixth ∷ last ∷ []) asked-depth
+  unfolding depth depthChecks
+  depth-well w = past-load ports slots list w (fifth ∷ sixth ∷ last ∷ []) asked-depth
+
+  depth-fits : WellFormed ports slots list → Fits ports slots (portOf list) (countsOf list) → depth ports slots list who ≡ report (last ∷ []) asked-depth
+  depth-fits w fits =
+      depth-well w
+      ∙ rw (overload-tells 5 (portOn input) ports slots list .met (λ x h. fits x h .0), overload-tells 6 (portOn output) ports slots list .met (λ x h. fits x h .1))
+
+  -- what a case says is Depth's answer
+  depth-only : (given : List ℕ) → Depths ports slots list who given → given ≡ depth ports slots list who
+  unfolding depth depthChecks
+  depth-only given (refused r) = sym (load-reported ports slots list (fifth ∷ sixth ∷ last ∷ []) asked-depth r)
+  depth-only given (input-5 w x o) = sym (depth-well w ∙ report-found fifth (sixth ∷ last ∷ []) asked-depth (over-reported 5 (portOn input) ports slots list x o))
+  depth-only given (output-6 w i x o) =
+      sym (depth-well w ∙ report-on fifth (sixth ∷ last ∷ []) asked-depth (overload-tells 5 (portOn input) ports slots list .met i)
+      ∙ report-found sixth (last ∷ []) asked-depth (over-reported 6 (portOn output) ports slots list x o))
+  depth-only given (who-12 w f b) = sym (depth-fits w f ∙ rw (broken (who-tells ports list who) (λ n. b (n .0) (n .1))))
+  depth-only given (bound w f {c} n far furthest cells low high) =
+      let m = load c list in
+      let k = w .power .k in
+      let level = power-level (w .power) in
+      let some : 1 ≤ slots = omega (arith, w .power .is, pow-pos k) in
+      let is : far ≡ stray k m = omega (
+        arith,
+        stray-most k m far (furthest .none-further),
+        stray-has k m (furthest .slots) (furthest .inside),
+        furthest .as-far,
+      ) in
+      let size : cells ≡ (slots - 1 + 2 * far + m) / slots = sym (div-eq-of-lt-le slots (omega arith) (omega arith)) in
+      sym (depth-fits w f ∙ rw (who-tells ports list who .met (c, n))
+      (rw (names-class n, level) (ap₂ (λ x y. 0 ∷ x ∷ y ∷ []) (ap (λ z. 2 * z) (sym is)) (sym (size ∙ ap (λ z. (slots - 1 + 2 * z + m) / slots) is)))))
+
+  pub depth-exactly : Exactly (Depths ports slots list who) (depth ports slots list who)
+  depth-exactly =
+      byLoad ports slots list (λ n r. exactly depth-only (refused r))
+      (λ w. byOver 5 (portOn input) ports slots list (λ x o. exactly depth-only (input-5 w x o))
+      (λ i. byOver 6 (portOn output) ports slots list (λ x o. exactly depth-only (output-6 w i x o))
+      (λ o. let fits = light-fits ports slots list i o in
+      byFact (who-tells ports list who) (λ b. exactly depth-only (who-12 w fits (λ c n. b (c, n))))
+      (λ n.
+      let m = load (n .0) list in
+      let k = w .power .k in
+      let far = stray k m in
+      let peak = stray-is k m in
+      let some : 1 ≤ slots = omega (arith, w .power .is, pow-pos k) in
+      let all = slots - 1 + 2 * far + m in
+      let whole = div-add-mod' all slots in
+      let part = mod-lt all some in
+      exactly depth-only (bound w fits (n .1) far
+      (record { none-further = stray-has k m; slots = peak .slots; inside = peak .most; as-far = peak .is }) (all / slots) (omega arith) (omega arith))))))
+
 -- ---- all of them
 -- Every call answers by its cases.
 pub by-cases : ByCases
@@ -325,4 +398,5 @@ by-cases =
       inspect = inspect-exactly;
       view = view-exactly;
       count = count-exactly;
+      depth-of = depth-exactly;
     }

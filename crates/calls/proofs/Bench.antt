@@ -1,5 +1,5 @@
 -- The bench loads of document 01 that are marked P, as far as the calls answer them: one list of cases, computed from the definitions. A
--- second list has a case for each answer that they do not reach.
+-- second list has a case for each answer that they do not reach, and a third has those of Depth.
 use Prim.Native.Nat.{ℕ, suc, _*_}
 use mathlib.Core.Path.{_≡_, refl}
 use mathlib.Core.List.{List, [], _∷_, _++_, map}
@@ -14,6 +14,8 @@ use Rattle.calls.specs.Work.{work}
 use Rattle.calls.specs.Build.{buildChecks, built, frameAfter}
 use Rattle.calls.specs.Inspect.{isWrong, twiceIn, usedTwice, wrongCount, unbalanced, unbalancedNumber, unbalancedAt, inspected}
 use Rattle.calls.specs.Service.{viewChecks, viewNumber, viewStart, viewSize, viewed, lead, Reply, countChecks, service}
+use Rattle.strays.specs.Stray.{earliest, largest, stray}
+use Rattle.calls.specs.Depth.{depthChecks, depth}
 use Rattle.calls.specs.declared.Who.{Who}
 use Rattle.calls.specs.declared.Who.the-variants.{Flow, Input, Output}
 
@@ -214,3 +216,29 @@ others =
 pub others-answered : map (λ c. c .gives) others ≡ map (λ c. c .says) others
 unfolding others views frame turnedAwayBy turnedAway counting counts countsAny inspects inspected isWrong twiceIn usedTwice wrongCount unbalanced unbalancedNumber unbalancedAt sumTo portOf countsOf loadIn cells runOf work admitted buildChecks countChecks service repeated lead viewChecks walk settleAt favours slotOf frameOf
 others-answered = refl
+
+-- ---- Depth
+-- Flows of 3 cells, 1 and 1: input 1 to output 1, input 2 to output 2 and to output 1, in four slots.
+deep : Who → List ℕ → Case
+deep who says = record { gives = depth 2 4 (1 ∷ 1 ∷ 3 ∷ 1 ∷ 2 ∷ 2 ∷ 1 ∷ 1 ∷ 2 ∷ 1 ∷ 1 ∷ 1 ∷ []) who; says = says }
+
+pub depths : List Case
+depths =
+    -- 3 cells and 1 are as far from their share, 2 less far, and 4 not at all
+    deep (Flow 1) (0 ∷ 6 ∷ 3 ∷ [])
+    ∷ deep (Flow 2) (0 ∷ 6 ∷ 2 ∷ [])
+    ∷ deep (Input 2) (0 ∷ 4 ∷ 2 ∷ [])
+    ∷ deep (Output 1) (0 ∷ 0 ∷ 1 ∷ [])
+    -- a flow that is not in the list, and ports outside
+    ∷ deep (Flow 4) (12 ∷ [])
+    ∷ deep (Input 3) (12 ∷ [])
+    ∷ deep (Output 0) (12 ∷ [])
+    -- before them a list that is not of whole flows, and ports that are asked for too much
+    ∷ record { gives = depth 2 4 (1 ∷ 1 ∷ 3 ∷ []) (Flow 9); says = 3 ∷ [] }
+    ∷ record { gives = depth 2 2 (1 ∷ 1 ∷ 3 ∷ 1 ∷ []) (Flow 9); says = 5 ∷ 1 ∷ 3 ∷ [] }
+    ∷ record { gives = depth 2 2 (1 ∷ 2 ∷ 2 ∷ 1 ∷ 2 ∷ 2 ∷ 1 ∷ 1 ∷ []) (Flow 9); says = 6 ∷ 2 ∷ 3 ∷ [] }
+    ∷ []
+
+pub depths-answered : map (λ c. c .gives) depths ≡ map (λ c. c .says) depths
+unfolding depths deep depth depthChecks stray largest earliest sumTo portOf countsOf loadIn
+depths-answered = refl

@@ -1,13 +1,13 @@
 -- Demand 2: a well-formed load is refused as overloaded exactly where it does not fit or the limits do not allow it, with the lowest such
 -- port or link and its load; every other one is accepted, and Build leaves the rules' only frame.
-use Prim.Native.Nat.{ℕ, _*_, _^_}
-use mathlib.Core.Path.{_≡_, sym, _∙_, subst, ap}
+use Prim.Native.Nat.{ℕ, _*_, _^_, _≤_, _<_}
+use mathlib.Core.Path.{_≡_, refl, sym, _∙_, subst, ap}
 use mathlib.Core.List.{List, [], _∷_, _++_}
 use mathlib.Core.Bool.{true, false, not}
 use native.Mathlib.Omega.{arith}
 use lib.ListN.{length, getD}
-use borrow.Author.Tests.{not-true}
-use Rattle.rules.specs.Flows.{flows, inputs, portOf, countsOf, portOn, input, output, Fits}
+use borrow.Author.Tests.{not-true, eq-eqb}
+use Rattle.rules.specs.Flows.{flows, numberOf, inputs, portOf, countsOf, portOn, input, output, Fits}
 use Rattle.rules.specs.Frames.{Legal, Balanced, levels}
 use Rattle.calls.specs.Demand2.{WellFormed, OverloadAnswers, Accepts, Light, Allows, Demand2}
 use Rattle.calls.specs.Refusals.{Check, report, none-holds, accepted, bad-ports, bad-slots, bad-list, too-many-flows, port-outside, link-outside, listChecks, bad-frame, overload, portOverloads, linkOverload, overloads, admitted}
@@ -16,7 +16,8 @@ use Rattle.rules.specs.Schedule.{frameOf}
 use Rattle.calls.specs.Build.{buildChecks, acceptance, built, buildAccepts, frameAfter, AcceptedWith0}
 use Rattle.rules.proofs.Cases.{both-true}
 use Rattle.rules.proofs.Levels.{levels-power, power-known}
-use Rattle.rules.proofs.Flows.{counts-length}
+use Rattle.rules.proofs.Flows.{counts-length, counts-at}
+use Rattle.rules.proofs.Halves.{load-has}
 use Rattle.rules.proofs.Slots.{AtInputs}
 use Rattle.rules.proofs.OneFrame.{frame-is, one-frame}
 use Rattle.rules.specs.OneFrame.{OneFrame}
@@ -27,6 +28,14 @@ use Rattle.calls.proofs.Overloads.{over-reported, overload-tells, link-
 pub well-placed : {ports slots : ℕ} {list : List ℕ} → WellFormed ports slots list → AtInputs ports (portOf list) (flows list)
 unfolding portOf
 well-placed w f h = let p = w .ported inputs f h in omega arith
+
+-- the cells of a flow are at most the load of its input, and so at most the slots of a frame that they fit
+pub cells-most : {ports slots : ℕ} {list : List ℕ} → WellFormed ports slots list → Fits ports slots (portOf list) (countsOf list) → (f : ℕ) → f < flows list
+    → numberOf 2 list f ≤ slots
+cells-most {ports} {slots} {list} w fits f h =
+    let i = portOf list inputs f in
+    let own = load-has (portOn input i) (portOf list) (countsOf list) f (omega (arith, counts-length list)) (eq-eqb i i refl) in
+    omega (arith, own, fits i (well-placed w f h) .0, counts-at list f h)
 
 module _ (ports slots : ℕ) (list : List ℕ) where
   -- a load fits where its inputs and its outputs are light

@@ -1,6 +1,6 @@
 -- Work: the odd counts settled for a frame are those of its load, split down to blocks of two slots.
 use Prim.Native.Nat.{ℕ, suc, zero, _+_, _-_, _*_, _/_, _%_, _^_, _≤_, _<_}
-use mathlib.Core.Path.{_≡_, refl, sym, ap, ap₂, _∙_, subst}
+use mathlib.Core.Path.{_≡_, refl, sym, ap, ap₂, _∙_}
 use mathlib.Core.List.{List, _++_}
 use mathlib.Core.Bool.{true}
 use native.Mathlib.Omega.{arith}
@@ -8,16 +8,15 @@ use native.Mathlib.Nat.{mul-div-cancel, mul-le-mul-right}
 use lib.Pow.{pow-pos}
 use lib.ListN.{length, getD, length-append}
 use Rattle.rules.specs.Words.{Near, sumTo}
-use Rattle.rules.specs.Flows.{flows, End, portOf, countsOf, Fits}
+use Rattle.rules.specs.Flows.{flows, End, portOf, countsOf}
 use Rattle.rules.specs.Frames.{runOf, Block, levels}
-use Rattle.rules.specs.Rules.{Split, Scheduled}
+use Rattle.rules.specs.Rules.{Partnered, Split, Scheduled}
 use Rattle.rules.specs.OddShares.{oddShares, settled}
 use Rattle.calls.specs.Work.{oddFlows, blockOf, work, EachOnce}
 use Rattle.calls.specs.Build.{buildAccepts, frameAfter}
 use Rattle.rules.proofs.Cases.{byLt}
 use Rattle.rules.proofs.Sums.{sum-none, sum-ext, sum-shift, sum-append, sum-add, sum-most, sum-zero}
 use Rattle.rules.proofs.Levels.{pow-only, levels-of, power-level, depth-size, depth-fill, double}
-use Rattle.rules.proofs.Halves.{halves-fit}
 use Rattle.rules.proofs.Flows.{counts-length}
 use Rattle.rules.proofs.Slots.{AtInputs}
 use Rattle.rules.proofs.Cells.{run-all, run-first, run-second}
@@ -119,7 +118,7 @@ shares-two k a b c e n =
     rw (x, y))
 
 -- the odd counts of a matrix, and those of its halves
-pub settled-halves : (port : End → ℕ → ℕ) (k : ℕ) (m a b : List ℕ) → Split port m a b
+pub settled-halves : (port : End → ℕ → ℕ) (k : ℕ) (m a b : List ℕ) → Split (Partnered port m) m a b
     → settled (suc k) m ≡ sumTo (length m) (λ p. getD m p 0 % 2) + (settled k a + settled k b)
 unfolding oddShares settled
 settled-halves port k m a b sp =
@@ -132,30 +131,29 @@ settled-halves port k m a b sp =
 
 -- ---- whatever meets the rules: the frame's number is the splitting's own
 module _ (ports : ℕ) (list : List ℕ) (placed : AtInputs ports (portOf list) (flows list)) where
-  rules-deep : (k : ℕ) (m entries : List ℕ) → length m ≡ flows list → Fits ports (2 ^ k) (portOf list) m → Scheduled ports (portOf list) k m entries
+  rules-deep : (k : ℕ) (m entries : List ℕ) → length m ≡ flows list → Scheduled ports (portOf list) k m entries
       → deep ports k list entries ≡ settled k m
   unfolding Scheduled oddShares settled
-  rules-deep zero m entries size fits s = sum-none _ ∙ sym (sum-zero (length m) _ (λ p h. refl))
-  rules-deep (suc k) m entries size fits s =
+  rules-deep zero m entries size s = sum-none _ ∙ sym (sum-zero (length m) _ (λ p h. refl))
+  rules-deep (suc k) m entries size s =
       let sp = s .split in
-      let half = halves-fit (portOf list) m (s .first) (s .second) sp ports (2 ^ k) (rw (double k) at fits) in
-      let front = rules-sound ports k list (s .first) (s .front) (sp .first-size ∙ size) placed (half .0) (s .first-half) in
-      let back = rules-sound ports k list (s .second) (s .back) (sp .second-size ∙ size) placed (half .1) (s .second-half) in
-      let whole = rules-sound ports (suc k) list m entries size placed fits s in
+      let front = rules-sound ports k list (s .first) (s .front) (sp .first-size ∙ size) placed (s .first-half) in
+      let back = rules-sound ports k list (s .second) (s .back) (sp .second-size ∙ size) placed (s .second-half) in
+      let whole = rules-sound ports (suc k) list m entries size placed s in
       ap (deep ports (suc k) list) (s .joined)
       ∙ deep-halves ports k list (s .front) (s .back) (front .0 .size) (back .0 .size)
       ∙ ap₂ _+_
       (ap (oddFlows ports list) (sym (s .joined)) ∙ odd-load ports (2 ^ suc k) list m entries (whole .0) ∙ ap (λ n. sumTo n (λ p. getD m p 0 % 2)) (sym size))
       (ap₂ _+_
-      (rules-deep k (s .first) (s .front) (sp .first-size ∙ size) (half .0) (s .first-half))
-      (rules-deep k (s .second) (s .back) (sp .second-size ∙ size) (half .1) (s .second-half)))
+      (rules-deep k (s .first) (s .front) (sp .first-size ∙ size) (s .first-half))
+      (rules-deep k (s .second) (s .back) (sp .second-size ∙ size) (s .second-half)))
       ∙ sym (settled-halves (portOf list) k m (s .first) (s .second) sp)
 
-  pub work-settled : (k : ℕ) (entries : List ℕ) → k ≤ 10 → Fits ports (2 ^ k) (portOf list) (countsOf list)
+  pub work-settled : (k : ℕ) (entries : List ℕ) → k ≤ 10
       → Scheduled ports (portOf list) k (countsOf list) entries → work ports (2 ^ k) list entries ≡ settled k (countsOf list)
   unfolding work
-  work-settled k entries low fits s =
-      ap (λ n. sumTo n (atDepth ports (2 ^ k) list entries)) (levels-of k low) ∙ rules-deep k (countsOf list) entries (counts-length list) fits s
+  work-settled k entries low s =
+      ap (λ n. sumTo n (atDepth ports (2 ^ k) list entries)) (levels-of k low) ∙ rules-deep k (countsOf list) entries (counts-length list) s
 
 -- so is Build's
 pub work-built : (ports slots : ℕ) (list limits buffer : List ℕ) → buildAccepts ports slots list limits buffer ≡ true
@@ -166,8 +164,7 @@ work-built ports slots list limits buffer e =
     let k = levels slots in
     let low : k ≤ 10 = (let n = a .well .power .most in omega (arith, power-level (a .well .power))) in
     ap (λ (n : ℕ). work ports n list (frameAfter ports slots list limits buffer)) (b .1)
-    ∙ work-settled ports list (well-placed (a .well)) k (frameAfter ports slots list limits buffer) low
-    (subst (λ (n : ℕ). Fits ports n (portOf list) (countsOf list)) (b .1) (a .fits)) (b .0 .meets)
+    ∙ work-settled ports list (well-placed (a .well)) k (frameAfter ports slots list limits buffer) low (b .0 .meets)
 
 -- ---- a bound on them, for counts that need not fit: a count has fewer than there are slots
 pub shares-less : (k c : ℕ) → oddShares k c < 2 ^ k

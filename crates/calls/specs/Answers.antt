@@ -1,6 +1,6 @@
 -- What each call answers, case by case, in document 01's order: a second reading of the calls. A case says what holds and what is answered
 -- then; of each call some case holds, and what a case says is the answer.
-use Prim.Native.Nat.{ℕ, suc, _+_, _*_, _%_, _≤_, _<_}
+use Prim.Native.Nat.{ℕ, suc, _+_, _-_, _*_, _%_, _^_, _≤_, _<_}
 use mathlib.Core.Path.{_≡_}
 use mathlib.Core.Bool.{true}
 use mathlib.Core.List.{List, [], _∷_}
@@ -10,11 +10,13 @@ use Rattle.rules.specs.Words.{Near, Within}
 use Rattle.rules.specs.Flows.{stride, flows, outputOf, portOf, countsOf, Class, flow, portOn, input, output, link, OnSwitch, load, Fits}
 use Rattle.rules.specs.Frames.{right, cells, runOf, repeated, Power, Legal, Block, Balanced}
 use Rattle.rules.specs.Rules.{Scheduled}
+use Rattle.strays.specs.Stray.{earliest}
 use Rattle.calls.specs.Refusals.{admitted}
 use Rattle.calls.specs.Work.{work}
 use Rattle.calls.specs.Build.{frameAfter, built}
 use Rattle.calls.specs.Demand2.{Ported, Linked, Light, Over, Allows, Past, WellFormed, Accepts}
 use Rattle.calls.specs.Inspect.{inspected}
+use Rattle.calls.specs.Depth.{depth}
 use Rattle.calls.specs.Service.{viewNumber, viewStart, viewSize, viewed, Reply, service}
 use Rattle.calls.specs.declared.Who.{Who}
 use Rattle.calls.specs.declared.Who.the-variants.{Flow, Input, Output}
@@ -185,6 +187,30 @@ pub data Counts (ports slots : ℕ) (list entries : List ℕ) (who : Who) (start
       → (n : ℕ) → slots * cells c ports list (repeated ports slots entries s len) + suc n ≡ len * cells c ports list entries
       → Counts ports slots list entries who start len (record { numbers = 0 ∷ cells c ports list (repeated ports slots entries s len) ∷ []; ahead = negsuc n })
 
+-- ---- Depth
+-- The furthest that the earliest cells of some of the first slots get above their share, where 2 ^ k slots have m cells: none gets further,
+-- and one gets as far.
+pub record Furthest (k m far : ℕ) : Type 0 where
+  pub none-further : (t : ℕ) → t ≤ 2 ^ k → 2 ^ k * earliest k m t ≤ t * m + far
+  pub slots : ℕ
+  pub inside : slots ≤ 2 ^ k
+  pub as-far : 2 ^ k * earliest k m slots ≡ slots * m + far
+
+-- 1, 2, 3, 21, 22, 23; 5 and 6 as in Admit; 12 where no flow of the list and no port is named. Or 0, twice the furthest, and the whole cells of
+-- 1 / slots less than one cell, of that and of the load.
+pub data Depths (ports slots : ℕ) (list : List ℕ) (who : Who) : List ℕ → Type 0 where
+  refused : {n : ℕ} → LoadRefused ports slots list n → Depths ports slots list who (n ∷ [])
+  input-5 : WellFormed ports slots list → (x : ℕ) → Over (portOn input) ports slots list x
+      → Depths ports slots list who (5 ∷ suc x ∷ load (portOn input x) list ∷ [])
+  output-6 : WellFormed ports slots list → Light (portOn input) ports slots list → (x : ℕ) → Over (portOn output) ports slots list x
+      → Depths ports slots list who (6 ∷ suc x ∷ load (portOn output x) list ∷ [])
+  who-12 : WellFormed ports slots list → Fits ports slots (portOf list) (countsOf list) → ((c : Class) → Names ports list who c → ⊥)
+      → Depths ports slots list who (12 ∷ [])
+  bound : (w : WellFormed ports slots list) → Fits ports slots (portOf list) (countsOf list) → {c : Class} → Names ports list who c
+      → (far : ℕ) → Furthest (w .power .k) (load c list) far
+      → (cells : ℕ) → cells * slots ≤ slots - 1 + 2 * far + load c list → slots - 1 + 2 * far + load c list < cells * slots + slots
+      → Depths ports slots list who (0 ∷ 2 * far ∷ cells ∷ [])
+
 -- ---- what is shown
 -- Of each call: its definition's answer is that of a case, and what any case says is that answer.
 pub record ByCases : Type 0 where
@@ -196,3 +222,4 @@ pub record ByCases : Type 0 where
       → Exactly (Views ports slots entries slot) (viewNumber ports slots entries slot, viewStart ports slots entries slot, viewSize ports slots entries slot, viewed ports slots entries slot)
   pub count : (ports slots : ℕ) (list entries : List ℕ) (who : Who) (start len : ℕ)
       → Exactly (Counts ports slots list entries who start len) (service ports slots list entries who start len)
+  pub depth-of : (ports slots : ℕ) (list : List ℕ) (who : Who) → Exactly (Depths ports slots list who) (depth ports slots list who)

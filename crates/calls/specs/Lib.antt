@@ -5,4 +5,5 @@ pub mod Build
 pub mod Demand2
 pub mod Inspect
 pub mod Service
+pub mod Depth
 pub mod Answers

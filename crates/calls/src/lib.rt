@@ -75,3 +75,9 @@ pub enum Service {
     Counted(Count),
     Refused(Refusal),
 }
+
+// What Depth answers: how far from its share a run can get, in parts of 1 / slots of a cell, and the cells to order for an even source.
+pub enum Depth {
+    Bound { parts: usize, cells: usize },
+    Refused(Refusal),
+}

@@ -3,3 +3,4 @@ pub mod Lengths
 pub mod Listed
 pub mod Ports
 pub mod Searching
+pub mod Whom

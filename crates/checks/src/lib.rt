@@ -8,9 +8,11 @@ ghost use Rattle.rules.specs.Words.{within};
 ghost use Rattle.rules.specs.Flows.{flows};
 ghost use Rattle.rules.specs.Frames.{levels};
 ghost use Rattle.calls.specs.Refusals.{portsWithin, port-outside, link-outside, answered};
+ghost use Rattle.calls.specs.Service.{whoWithin};
 ghost use Rattle.checks.specs.Lists.{ListAnswer};
 use calls::Answer;
 use calls::Refusal;
+use calls::Who;
 use flows::STRIDE;
 use flows::flows_of;
 use flows::number_of;
@@ -100,6 +102,17 @@ fn bad_link(list: &[u16]) -> bool
         f += 1;
     }
     false
+}
+
+// Refusal 12: the flow is not in the list, or the port is outside.
+pub fn bad_who(ports: usize, list: &[u16], who: Who) -> bool
+    ensures { λ r. ⌜ r ≡ not (whoWithin ports (now (list .entry)) who) ⌝ }
+{
+    match who {
+        Who::Flow(flow) => outside(flows_of(list), flow),
+        Who::Input(input) => outside(ports, input),
+        Who::Output(output) => outside(ports, output),
+    }
 }
 
 // What is tried first wherever a list is taken: 1, 2, 3, 21, 22, 23.

@@ -5,6 +5,7 @@ ghost use Rattle.calls.specs.Refusals.{admitted};
 ghost use Rattle.calls.specs.Build.{built, frameAfter};
 ghost use Rattle.calls.specs.Inspect.{inspected};
 ghost use Rattle.calls.specs.Service.{viewNumber, viewStart, viewSize, service};
+ghost use Rattle.calls.specs.Depth.{depth};
 ghost use Rattle.numbers.specs.Numbers.{Values2, Values3, Replied};
 use calls::Answer;
 use calls::Who;
@@ -177,4 +178,66 @@ pub extern "C" fn frame_builder_slot_view(
             0
         }
     }
+}
+
+// Depth: the bound and the cells to order; refusals 5 and 6 have the port and its load in their place.
+fn bound(
+    ports: usize,
+    slots: usize,
+    list: &[u16],
+    who: Who,
+    first: &mut usize,
+    second: &mut usize,
+) -> usize
+    ensures { λ r. ⌜ Values2 (depth ports slots (now (list .entry)) who) r (now (first .exit)) (now (second .exit)) ⌝ }
+{
+    let n = numbers::of_depth(depth::depth_of(ports, slots, list, who));
+    *first = n.first;
+    *second = n.second;
+    n.number
+}
+
+// Depth for a flow.
+#[no_mangle]
+pub extern "C" fn frame_builder_depth_flow(
+    ports: usize,
+    slots: usize,
+    list: &[u16],
+    flow: usize,
+    first: &mut usize,
+    second: &mut usize,
+) -> usize
+    ensures { λ r. ⌜ Values2 (depth ports slots (now (list .entry)) (Who.Flow flow)) r (now (first .exit)) (now (second .exit)) ⌝ }
+{
+    bound(ports, slots, list, Who::Flow(flow), first, second)
+}
+
+// Depth for an input.
+#[no_mangle]
+pub extern "C" fn frame_builder_depth_input(
+    ports: usize,
+    slots: usize,
+    list: &[u16],
+    input: usize,
+    first: &mut usize,
+    second: &mut usize,
+) -> usize
+    ensures { λ r. ⌜ Values2 (depth ports slots (now (list .entry)) (Who.Input input)) r (now (first .exit)) (now (second .exit)) ⌝ }
+{
+    bound(ports, slots, list, Who::Input(input), first, second)
+}
+
+// Depth for an output.
+#[no_mangle]
+pub extern "C" fn frame_builder_depth_output(
+    ports: usize,
+    slots: usize,
+    list: &[u16],
+    output: usize,
+    first: &mut usize,
+    second: &mut usize,
+) -> usize
+    ensures { λ r. ⌜ Values2 (depth ports slots (now (list .entry)) (Who.Output output)) r (now (first .exit)) (now (second .exit)) ⌝ }
+{
+    bound(ports, slots, list, Who::Output(output), first, second)
 }

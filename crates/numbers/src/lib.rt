@@ -4,9 +4,11 @@ ghost use Rattle.calls.specs.Refusals.{refusal, answered};
 ghost use Rattle.calls.specs.Build.{outcome};
 ghost use Rattle.calls.specs.Inspect.{finding};
 ghost use Rattle.calls.specs.Service.{served};
+ghost use Rattle.calls.specs.Depth.{depthNumbers};
 ghost use Rattle.numbers.specs.Numbers.{Values3, Replied};
 use calls::Answer;
 use calls::Built;
+use calls::Depth;
 use calls::Inspection;
 use calls::Refusal;
 use calls::Service;
@@ -118,5 +120,15 @@ pub fn of_service(service: Service) -> CountNumbers
                 lead: 0,
             }
         }
+    }
+}
+
+// What Depth answers, as numbers.
+pub fn of_depth(depth: Depth) -> Numbers
+    ensures { λ r. ⌜ Values3 (depthNumbers depth) (r .number) (r .first) (r .second) (r .third) ⌝ }
+{
+    match depth {
+        Depth::Bound { parts, cells } => with_values(0, parts, cells, 0),
+        Depth::Refused(refusal) => of_refusal(refusal),
     }
 }

@@ -6,7 +6,7 @@ use mathlib.Core.Bool.{Bool, true, false, not}
 use native.Mathlib.Omega.{arith}
 use lib.Dec.{eqb}
 use borrow.Author.Tests.{eq-eqb, ne-eqb}
-use Rattle.rules.specs.Words.{bit, within}
+use Rattle.rules.specs.Words.{bit}
 use Rattle.rules.specs.Flows.{flows, numberOf, Class, flow, portOn, input, output, link, total, OnSwitch}
 use Rattle.rules.specs.Frames.{counts}
 use Rattle.calls.specs.Service.{classOf, whoWithin}
@@ -17,17 +17,7 @@ use Rattle.rules.proofs.Flows.{output-is, flow-counts}
 use Rattle.calls.proofs.Replies.{who-of}
 use Rattle.service.specs.Whom.{Sent, whoNumber, WhoNumbered, Named, firstEntry, nextEntry}
 
--- ---- refusal 12
-pub flow-alone : (ports : ℕ) (list : List ℕ) {f n : ℕ} (who : Who) {a : Bool} → who ≡ Flow f → n ≡ flows list → a ≡ not (within 1 n f) → a ≡ not (whoWithin ports list who)
-flow-alone ports list who is e p = rw (is, ← e) p
-
-pub input-alone : (ports : ℕ) (list : List ℕ) {i : ℕ} (who : Who) {a : Bool} → who ≡ Input i → a ≡ not (within 1 ports i) → a ≡ not (whoWithin ports list who)
-input-alone ports list who is p = rw is p
-
-pub output-alone : (ports : ℕ) (list : List ℕ) {o : ℕ} (who : Who) {a : Bool} → who ≡ Output o → a ≡ not (within 1 ports o) → a ≡ not (whoWithin ports list who)
-output-alone ports list who is p = rw is p
-
--- ---- what is known where it does not hold
+-- ---- what is known where 12 does not hold
 named-low : (ports : ℕ) (list : List ℕ) (who : Who) → whoWithin ports list who ≡ true → 1 ≤ whoNumber who
 named-low ports list (Flow f) e = within-true 1 (flows list) f e .0
 named-low ports list (Input i) e = within-true 1 ports i e .0

@@ -1,6 +1,5 @@
 // Service count: the cells of a run of a frame that repeats, and how far ahead they are.
 ghost use mathlib.Core.Path.{_≡_};
-ghost use mathlib.Core.Bool.{not};
 ghost use Prim.Native.Nat.{_+_, _-_, _*_, _≤_, min};
 ghost use lib.Dec.{ltb};
 ghost use lib.IntN.{pos, _-ℤ_};
@@ -8,7 +7,7 @@ ghost use lib.ListN.{length};
 ghost use Rattle.rules.specs.Words.{bit};
 ghost use Rattle.rules.specs.Flows.{portOn, output};
 ghost use Rattle.rules.specs.Frames.{counts, cells, runOf, repeated};
-ghost use Rattle.calls.specs.Service.{classOf, whoWithin, lead, served, service};
+ghost use Rattle.calls.specs.Service.{classOf, lead, served, service};
 ghost use Rattle.service.specs.Whom.{Sent, whoNumber, WhoNumbered, Named, firstEntry, nextEntry, Framed, CountAsked};
 use calls::Answer;
 use calls::Count;
@@ -23,17 +22,6 @@ fn lesser(a: usize, b: usize) -> usize
     ensures { λ r. ⌜ r ≡ min a b ⌝ }
 {
     if a < b { a } else { b }
-}
-
-// Refusal 12.
-fn bad_who(ports: usize, list: &[u16], who: Who) -> bool
-    ensures { λ r. ⌜ r ≡ not (whoWithin ports (now (list .entry)) who) ⌝ }
-{
-    match who {
-        Who::Flow(flow) => checks::outside(flows_of(list), flow),
-        Who::Input(input) => checks::outside(ports, input),
-        Who::Output(output) => checks::outside(ports, output),
-    }
 }
 
 // Refusal 13.
@@ -205,7 +193,7 @@ pub fn service_count(
     if checks::outside(slots, start) {
         return Service::Refused(Refusal::SlotNumber);
     }
-    if bad_who(ports, list, who) {
+    if checks::bad_who(ports, list, who) {
         return Service::Refused(Refusal::FlowOrPort);
     }
     if too_long(len) {

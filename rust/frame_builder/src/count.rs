@@ -8,7 +8,8 @@
 /// leaves the lead as it is.
 ///
 /// For a frame that [`build`](crate::build) made, counted with the same ports, slots and list, 3 × |lead| is at most (2k + 1) ×
-/// slots, where slots are 2^k: no run is farther from its share than (2k + 1)/3 cells. That is proved.
+/// slots, where slots are 2^k: no run is farther from its share than (2k + 1)/3 cells. Nor is |lead| above what
+/// [`depth`](crate::depth) answers for the same flow, input or output. Both are proved.
 ///
 /// ```
 /// use frame_builder::{build, service_count, slots_each, Count, Flow, Refusal, Who};

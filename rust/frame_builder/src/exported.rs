@@ -23,6 +23,17 @@ type CountCall = unsafe extern "C" fn(
     lead: &mut i64,
 ) -> usize;
 
+/// A call of Depth.
+type DepthCall = unsafe extern "C" fn(
+    ports: usize,
+    slots: usize,
+    list: *const u16,
+    list_length: usize,
+    which: usize,
+    first: &mut usize,
+    second: &mut usize,
+) -> usize;
+
 extern "C" {
     fn frame_builder_admit(
         ports: usize,
@@ -103,6 +114,33 @@ extern "C" {
         length: usize,
         cells: &mut usize,
         lead: &mut i64,
+    ) -> usize;
+    fn frame_builder_depth_flow(
+        ports: usize,
+        slots: usize,
+        list: *const u16,
+        list_length: usize,
+        flow: usize,
+        first: &mut usize,
+        second: &mut usize,
+    ) -> usize;
+    fn frame_builder_depth_input(
+        ports: usize,
+        slots: usize,
+        list: *const u16,
+        list_length: usize,
+        input: usize,
+        first: &mut usize,
+        second: &mut usize,
+    ) -> usize;
+    fn frame_builder_depth_output(
+        ports: usize,
+        slots: usize,
+        list: *const u16,
+        list_length: usize,
+        output: usize,
+        first: &mut usize,
+        second: &mut usize,
     ) -> usize;
 }
 
@@ -188,5 +226,20 @@ pub fn service_count(
             ports, slots, data, numbers, entries, size, which, start, length, cells, lead,
         )
     };
+    given
+}
+
+/// The bound is the first value, the cells to order the second.
+pub fn depth(ports: usize, slots: usize, list: &[Flow], who: Who) -> Numbers {
+    let (call, which): (DepthCall, usize) = match who {
+        Who::Flow(flow) => (frame_builder_depth_flow, flow),
+        Who::Input(port) => (frame_builder_depth_input, port),
+        Who::Output(port) => (frame_builder_depth_output, port),
+    };
+    let (data, length) = numbers_of(list);
+    let mut given = Numbers::default();
+    let (first, second) = (&mut given.first, &mut given.second);
+    // SAFETY: the slice is readable for its length.
+    given.number = unsafe { call(ports, slots, data, length, which, first, second) };
     given
 }

@@ -27,7 +27,8 @@
 //! halves, their halves and so on are its **blocks**.
 //!
 //! A **run** is some consecutive slots of the repeating frame. Its **share** is the part of a whole frame's cells that falls to so
-//! many slots, and its **lead** is how far its cells are above that share, in parts of 1/slots of a cell; below 0 it is behind.
+//! many slots, and its **lead** is how far its cells are above that share, in parts of 1/slots of a cell; below 0 it is behind. How far any
+//! run can be from its share goes by the load alone, and so does the [**depth**](Depth) of the buffer to order.
 //!
 //! # Calls
 //!
@@ -38,6 +39,7 @@
 //! | [`inspect`] | looks over a frame that came from anywhere | 1, 2, 21, 22, 23, 4 |
 //! | [`slot_view`] | shows a slot's part of a frame | 1, 2, 4, 11 |
 //! | [`service_count`] | counts the cells of a flow, an input or an output in a run, with their lead | 1, 2, 21, 22, 23, 4, 11, 12, 13 |
+//! | [`depth`] | says how far from its share a flow, an input or an output can get, and how deep a buffer to order | 1, 2, 21, 22, 23, 5, 6, 12 |
 //!
 //! Every call takes any numbers and slices of any length, and none panics. One that cannot be answered is turned away with a
 //! [`Refusal`], the first in the table's order that holds. **A refusal leaves everything as it was**: above all, a refused [`build`]
@@ -117,9 +119,8 @@
 //! 3. `rt staticlib exports`, which proves it and writes it, in the checkout that `FRAME_BUILDER_SOURCE` names, or in the one that
 //!    the crate stands in. It needs the Rattle kit.
 //!
-//! A variable that is set and leads to no library is an error, as is an installed one that is not whole, and one of another version
-//! than 5, whose calls take other arguments or answer otherwise: nothing else is taken in its place. An empty variable is as one that
-//! is not set. Where no way leads to a library, the error says why each of them did not.
+//! A variable that is set and leads to no library is an error, as is an installed one that is not whole, and one that is not of version 5.2
+//! or a later 5.x, whose calls are fewer or other ones: nothing else is taken in its place. An empty variable is as one that is not set. Where no way leads to a library, the error says why each of them did not.
 //!
 //! A crate that depends on this one directly has in its own build script `DEP_FRAME_BUILDER_ARCHIVE`, the archive,
 //! `DEP_FRAME_BUILDER_INCLUDE`, the folder of the C header, and `DEP_FRAME_BUILDER_VERSION`.
@@ -128,6 +129,7 @@
 #![warn(missing_docs)]
 
 mod count;
+mod depth;
 #[allow(unsafe_code)]
 mod exported;
 mod flow;
@@ -138,6 +140,7 @@ mod refusal;
 mod who;
 
 pub use count::Count;
+pub use depth::Depth;
 pub use flow::{in_matrix_order, Flow};
 pub use inspection::{Fault, Inspection};
 pub use limits::{slots_each, Limits};
@@ -325,6 +328,30 @@ pub fn service_count(
     length: usize,
 ) -> Result<Count, Refusal> {
     exported::service_count(ports, slots, list, frame, who, start, length).count()
+}
+
+/// Says how far from its share a flow, an input or an output can get on the wire, and how many cells a buffer for it has to hold: its
+/// [depth](Depth). Both go by its load in the list.
+///
+/// # Errors
+///
+/// Refusals 1, 2, 21, 22, 23, 5, 6 and 12, the first of them that holds.
+///
+/// ```
+/// use frame_builder::{depth, Depth, Flow, Refusal, Who};
+///
+/// let list = [Flow::new(1, 1, 64), Flow::new(2, 2, 63), Flow::new(2, 3, 1)];
+/// let depth = |who| depth(3, 1_024, &list, who);
+/// // A cell in each sixteen slots: a buffer of two cells does.
+/// assert_eq!(depth(Who::Flow(1)), Ok(Depth { parts: 1_920, cells: 2 }));
+/// // One cell less is spread less evenly.
+/// assert_eq!(depth(Who::Flow(2)), Ok(Depth { parts: 3_906, cells: 4 }));
+/// // All cells of input 2 together.
+/// assert_eq!(depth(Who::Input(2)), Ok(Depth { parts: 1_920, cells: 2 }));
+/// assert_eq!(depth(Who::Output(4)), Err(Refusal::FlowOrPort));
+/// ```
+pub fn depth(ports: usize, slots: usize, list: &[Flow], who: Who) -> Result<Depth, Refusal> {
+    exported::depth(ports, slots, list, who).depth()
 }
 
 /// The example of the README is run too.

@@ -1,6 +1,6 @@
 //! Answers as numbers, the form in which they cross from the library.
 
-use crate::{Count, Fault, Refusal};
+use crate::{Count, Depth, Fault, Refusal};
 
 /// An answer's number, and up to three values; a count has its cells and its lead.
 #[derive(Default)]
@@ -28,6 +28,11 @@ impl Numbers {
     pub fn count(&self) -> Result<Count, Refusal> {
         let (cells, lead) = (self.first, self.lead);
         self.answer().map(|()| Count { cells, lead })
+    }
+
+    pub fn depth(&self) -> Result<Depth, Refusal> {
+        let (parts, cells) = (self.first, self.second);
+        self.answer().map(|()| Depth { parts, cells })
     }
 
     fn refusal(&self) -> Refusal {

@@ -1,8 +1,9 @@
-//! Whose cells are counted.
+//! Whom a count or a depth is asked for.
 
 use std::fmt;
 
-/// Whose cells [`service_count`](crate::service_count) counts. Flows and ports are numbered from 1.
+/// Whose cells [`service_count`](crate::service_count) counts, and whose load [`depth`](crate::depth) goes by. Flows and ports are numbered
+/// from 1.
 ///
 /// ```
 /// use frame_builder::Who;

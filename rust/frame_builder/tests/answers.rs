@@ -2,8 +2,9 @@
 
 use std::error::Error;
 
-use frame_builder::{admit, build, in_matrix_order, inspect, service_count, slot_view, slots_each};
-use frame_builder::{Count, Fault, Flow, Inspection, Limits, Refusal, Who, MAX_LINKS};
+use frame_builder::{admit, build, depth, in_matrix_order, inspect};
+use frame_builder::{service_count, slot_view, slots_each};
+use frame_builder::{Count, Depth, Fault, Flow, Inspection, Limits, Refusal, Who, MAX_LINKS};
 
 /// The flows of source document 000's Table 7.
 const TABLE7: [Flow; 5] = [
@@ -370,6 +371,56 @@ fn counts_have_a_lead() {
         let count = service_count(4, 4, &TABLE7, &frame, who, start, length);
         assert_eq!(count, Ok(Count { cells, lead }), "{who}, {start}, {length}");
     }
+}
+
+#[test]
+fn a_depth_goes_by_the_load() {
+    let list = [
+        Flow::new(1, 1, 512),
+        Flow::new(2, 2, 100),
+        Flow::new(2, 1, 241).on_link(4),
+        Flow::new(3, 3, 0),
+    ];
+    for (who, parts, cells) in [
+        (Who::Flow(1), 1_024, 2),
+        (Who::Flow(2), 4_536, 5),
+        // 341 cells, which stray furthest.
+        (Who::Input(2), 7_054, 8),
+        // 753 cells, as far as 271.
+        (Who::Output(1), 5_226, 6),
+        (Who::Flow(4), 0, 0),
+        (Who::Output(4), 0, 0),
+    ] {
+        let deep = depth(4, 1_024, &list, who);
+        assert_eq!(deep, Ok(Depth { parts, cells }), "{who}");
+    }
+    // In one slot there is nothing to stray, and a full load has a cell in every slot.
+    let full = [Flow::new(1, 1, 1)];
+    let deep = depth(1, 1, &full, Who::Flow(1));
+    assert_eq!(deep, Ok(Depth { parts: 0, cells: 1 }));
+}
+
+#[test]
+fn a_depth_is_refused_in_its_order() {
+    let wrong = [Flow::new(17, 1, 65_535).on_link(0); 513];
+    let in_link = [Flow::new(1, 1, 3).on_link(5)];
+    let in_input = [Flow::new(1, 1, 3), Flow::new(2, 1, 3)];
+    let in_output = [Flow::new(1, 1, 1), Flow::new(2, 1, 2)];
+    for (ports, slots, list, refusal) in [
+        (0, 3, &wrong[..], Refusal::Ports),
+        (2, 3, &wrong, Refusal::Slots),
+        (2, 2, &wrong, Refusal::TooManyFlows),
+        (2, 2, &wrong[..512], Refusal::FlowPort),
+        (2, 2, &in_link, Refusal::FlowLink),
+        (2, 2, &in_input, Refusal::InputLoad { port: 1, cells: 3 }),
+        (2, 2, &in_output, Refusal::OutputLoad { port: 1, cells: 3 }),
+        (2, 4, &in_output, Refusal::FlowOrPort),
+    ] {
+        for who in [Who::Flow(0), Who::Flow(usize::MAX), Who::Input(17)] {
+            assert_eq!(depth(ports, slots, list, who), Err(refusal), "{who}");
+        }
+    }
+    assert_eq!(depth(2, 4, &[], Who::Flow(1)), Err(Refusal::FlowOrPort));
 }
 
 #[test]

@@ -1,5 +1,5 @@
 use borrow.Author.Needs.{needs}
-use Rattle.admission.proofs.Deciding.{input-above, output-above, link-past, none-past}
+use Rattle.admission.proofs.Deciding.{ports-refused, link-past, none-past}
 use Rattle.admission.proofs.overload.Statement.{statement}
 use Rattle.admission.proofs.overload.Tie as tie
 
@@ -9,14 +9,8 @@ overload-spec =
     (tie.spec
     (λ c κs. search needs)
     (λ c. search needs)
+    (λ c. search (needs, ports-refused))
     (λ c. search needs)
-    (λ c. search needs)
-    (λ c. search (needs, input-above))
-    (λ c κs. search needs)
-    (λ c. search needs)
-    (λ c. search needs)
-    (λ c. search needs)
-    (λ c. search (needs, output-above))
     (λ c κs. search needs)
     (λ c. search needs)
     (λ c. search needs)

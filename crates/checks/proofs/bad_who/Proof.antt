@@ -1,7 +1,7 @@
 use borrow.Author.Needs.{needs}
-use Rattle.service.proofs.Whom.{flow-alone, input-alone, output-alone}
-use Rattle.service.proofs.bad_who.Statement.{statement}
-use Rattle.service.proofs.bad_who.Tie as tie
+use Rattle.checks.proofs.Whom.{flow-alone, input-alone, output-alone}
+use Rattle.checks.proofs.bad_who.Statement.{statement}
+use Rattle.checks.proofs.bad_who.Tie as tie
 
 pub bad-who-spec : {M : Type 1} → statement M
 bad-who-spec =

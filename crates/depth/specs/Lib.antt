@@ -1,0 +1,2 @@
+-- The steps of Depth.
+pub mod Steps

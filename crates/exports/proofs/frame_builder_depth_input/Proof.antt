@@ -1,0 +1,10 @@
+use borrow.Author.Needs.{needs}
+use Rattle.exports.proofs.frame_builder_depth_input.Statement.{statement}
+use Rattle.exports.proofs.frame_builder_depth_input.Tie as tie
+
+pub frame-builder-depth-input-spec : {M : Type 1} → statement M
+frame-builder-depth-input-spec =
+    tie.close
+    (tie.spec
+    (λ c κs. search needs)
+    (λ c. c .bound .ensures))

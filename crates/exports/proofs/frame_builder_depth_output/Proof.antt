@@ -1,0 +1,10 @@
+use borrow.Author.Needs.{needs}
+use Rattle.exports.proofs.frame_builder_depth_output.Statement.{statement}
+use Rattle.exports.proofs.frame_builder_depth_output.Tie as tie
+
+pub frame-builder-depth-output-spec : {M : Type 1} → statement M
+frame-builder-depth-output-spec =
+    tie.close
+    (tie.spec
+    (λ c κs. search needs)
+    (λ c. c .bound .ensures))
