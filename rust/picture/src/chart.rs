@@ -90,11 +90,11 @@ pub fn draw_course(course: &Course) -> String {
     page.text(beside, "fill=\"#555\"", "share");
     draw_demand(&mut page, &plot, ("+", thirds(course)));
     draw_demand(&mut page, &plot, ("\u{2212}", -thirds(course)));
-    if course.bound() == 0 {
+    if course.bound == 0 {
         draw_bound(&mut page, &plot, ("\u{b1}", 0));
     } else {
-        draw_bound(&mut page, &plot, ("+", course.bound()));
-        draw_bound(&mut page, &plot, ("\u{2212}", -course.bound()));
+        draw_bound(&mut page, &plot, ("+", course.bound));
+        draw_bound(&mut page, &plot, ("\u{2212}", -course.bound));
     }
     page.path(&course_path(&plot, course), LINE);
     if course.slots <= MOST_DOTTED {
@@ -165,13 +165,13 @@ fn depth(course: &Course) -> Vec<String> {
     let (any, alone) = (course.held_by_any(), course.held_by_frame());
     vec![
         format!(
-            "Buffer to order for this flow, from an even source: {}, with any frames that this builder makes (1 + 2p(k) + m / 2^k = {}, \
-             rounded down).",
+            "Buffer to order for this flow, from an even source: {}, with any frames of this builder in which it has m cells \
+             (1 \u{2212} 1 / 2^k + the bound + m / 2^k = {}, rounded down).",
             order(any),
             cells(any)
         ),
         format!(
-            "While this frame alone repeats: {} (1 + b + m / 2^k = {}, rounded down, where b is the farthest behind).",
+            "While this frame alone repeats: {} (1 \u{2212} 1 / 2^k + b + m / 2^k = {}, rounded down, where b is the farthest behind).",
             order(alone),
             cells(alone)
         ),
@@ -197,7 +197,7 @@ fn draw_legend(page: &mut Page, course: &Course) {
     let so_far = "cells so far \u{2212} t \u{d7} m / 2^k, after t slots";
     let entries = [
         (MARGIN, LINE, so_far),
-        (330.0, DASHES, "bound of any run: \u{b1}2p(k) cells"),
+        (330.0, DASHES, "bound of any run at this load"),
         (590.0, THIN, "bound asked for: \u{b1}(2k + 1)/3 cells"),
         (880.0, GREY, "share: t \u{d7} m / 2^k cells"),
     ];
@@ -271,7 +271,7 @@ fn draw_bound(page: &mut Page, plot: &Plot, (sign, height): (&str, i64)) {
     let y = plot.y_of(height);
     draw_level(page, y, DASHES);
     let base = if height < 0 { y - 7.0 } else { y + 17.0 };
-    let words = format!("bound of any run: {sign}2p(k) cells = {value}");
+    let words = format!("bound of any run at this load: {value}");
     beside_level(page, base, "#b71c1c", &words);
 }
 
@@ -340,8 +340,8 @@ mod tests {
         for words in [
             "<title>Flow 5, input 4 to output 4: m = 2 cells in a frame of 2^k = 4 slots (k = 2)</title>",
             "beginning: at most +0.5 (after slot 1), at least \u{2212}0.5 (after slot 3)<",
-            "bound of any run: +2p(k) cells = +1.5<",
-            "bound of any run: \u{2212}2p(k) cells = \u{2212}1.5<",
+            "bound of any run at this load: +1<",
+            "bound of any run at this load: \u{2212}1<",
             "bound asked for: +(2k + 1)/3 cells = +5/3 \u{2248} +1.667<",
             "bound asked for: \u{2212}(2k + 1)/3 cells = \u{2212}5/3 \u{2248} \u{2212}1.667<",
         ] {
@@ -370,9 +370,10 @@ mod tests {
         let lines = [
             "Farthest ahead over any run of this frame as it repeats: 1.25 cells, in 2 slots from slot 2.",
             "Farthest behind over any run of this frame as it repeats: 1.25 cells, in 6 slots from slot 4.",
-            "Buffer to order for this flow, from an even source: 3 cells, with any frames that this builder makes \
-             (1 + 2p(k) + m / 2^k = 3.625, rounded down).",
-            "While this frame alone repeats: 2 cells (1 + b + m / 2^k = 2.625, rounded down, where b is the farthest behind).",
+            "Buffer to order for this flow, from an even source: 3 cells, with any frames of this builder in which it has m cells \
+             (1 \u{2212} 1 / 2^k + the bound + m / 2^k = 3.5, rounded down).",
+            "While this frame alone repeats: 2 cells (1 \u{2212} 1 / 2^k + b + m / 2^k = 2.5, rounded down, where b is the farthest \
+             behind).",
         ];
         hold_below(&course(&frame, Who::Flow(1)), &lines);
     }
@@ -383,8 +384,9 @@ mod tests {
         let words = words_below(&course(&frame, Who::Flow(225)));
         assert!(words[0].ends_with(": 137/64 \u{2248} 2.141 cells, in 11 slots from slot 8."));
         assert!(words[1].ends_with(": 137/64 \u{2248} 2.141 cells, in 53 slots from slot 19."));
-        assert!(words[2].contains(": 5 cells, with any frames"));
-        assert!(words[3].contains(": 3 cells (1 + b + m / 2^k = 206/64 \u{2248} 3.219,"));
+        assert!(words[2].contains(": 4 cells, with any frames"));
+        assert!(words[3]
+            .contains(": 3 cells (1 \u{2212} 1 / 2^k + b + m / 2^k = 205/64 \u{2248} 3.203,"));
         let one = words_below(&table7(Who::Flow(5)));
         assert!(one[0].ends_with(": 1 cell, in 2 slots from slot 4."));
     }
@@ -405,7 +407,7 @@ mod tests {
     #[test]
     fn a_whole_bound_is_a_whole_number() {
         let drawn = draw_course(&course_through(&[1, 0]));
-        assert!(drawn.contains("bound of any run: +2p(k) cells = +1<"));
+        assert!(drawn.contains("bound of any run at this load: +1<"));
         assert!(drawn.contains("bound asked for: +(2k + 1)/3 cells = +1<"));
     }
 
@@ -413,13 +415,13 @@ mod tests {
     fn a_bound_with_many_digits_is_a_fraction_too() {
         let frame = frame_of(include_str!("../../../examples/full.sheet"));
         let drawn = draw_course(&course(&frame, Who::Flow(225)));
-        assert!(drawn.contains("bound of any run: +2p(k) cells = +270/64 \u{2248} +4.219<"));
+        assert!(drawn.contains("bound of any run at this load: +214/64 \u{2248} +3.344<"));
     }
 
     #[test]
     fn a_frame_of_one_slot_has_no_room() {
         let drawn = draw_course(&course_through(&[1]));
-        assert!(drawn.contains("bound of any run: \u{b1}2p(k) cells = 0<"));
+        assert!(drawn.contains("bound of any run at this load: 0<"));
     }
 
     #[test]

@@ -1,6 +1,6 @@
 //! A flow, an input or an output, and how far it is ahead of its share along a frame.
 
-use frame_builder::{service_count, Who};
+use frame_builder::{depth, service_count, Refusal, Who};
 
 use crate::frame::Frame;
 use crate::request::ADVICE;
@@ -27,6 +27,8 @@ pub struct Course {
     /// The run that is farthest ahead of its share, and the one that is farthest behind.
     pub ahead: Run,
     pub behind: Run,
+    /// The bound of any run of built frames that have its load in the list, as a height: what Depth answers.
+    pub bound: i64,
 }
 
 impl Course {
@@ -34,10 +36,11 @@ impl Course {
         let name = name_of(frame, who)?;
         let (ports, slots) = (frame.ports(), frame.slots());
         let (list, entries) = (frame.list(), frame.entries());
+        let refused = |refusal: Refusal| format!("{who}: {refusal}; {ADVICE}");
         let count = |start, length| {
-            service_count(ports, slots, list, entries, who, start, length)
-                .map_err(|refusal| format!("{who}: {refusal}; {ADVICE}"))
+            service_count(ports, slots, list, entries, who, start, length).map_err(refused)
         };
+        let bound = depth(ports, slots, list, who).map_err(refused)?.parts as i64;
         let heights = (0..=slots).map(|length| count(1, length).map(|first| first.lead));
         let heights = heights.collect::<Result<Vec<i64>, String>>()?;
         let [ahead, behind] = [1, -1].map(|sign| farthest(&heights, sign));
@@ -56,6 +59,7 @@ impl Course {
             heights,
             ahead,
             behind,
+            bound,
         })
     }
 
@@ -64,24 +68,19 @@ impl Course {
         i64::from(self.slots.trailing_zeros())
     }
 
-    /// The bound of any run of a built frame, as a height: 2p(k) cells.
-    pub fn bound(&self) -> i64 {
-        2 * deviation(self.halvings())
-    }
-
     /// What the buffer of a flow from an even source holds at most while this frame alone repeats, as a height: `buffers-by-lead`.
     pub fn held_by_frame(&self) -> i64 {
         self.held(-self.behind.lead)
     }
 
-    /// The same with any frames of so many slots that Build makes: `buffers`.
+    /// The same with any frames of so many slots that Build makes for this load: `buffers`.
     pub fn held_by_any(&self) -> i64 {
-        self.held(self.bound())
+        self.held(self.bound)
     }
 
-    /// What came in is at most one cell ahead of its share, what was sent at most this far behind, and the slot's own share is still there.
+    /// What came in is less than a cell ahead of its share, what was sent at most this far behind, and the slot's own share is still there.
     fn held(&self, behind: i64) -> i64 {
-        self.slots + behind + self.load as i64
+        self.slots - 1 + behind + self.load as i64
     }
 
     /// Each t whose height is not that of t − 1, with its height.
@@ -159,15 +158,6 @@ fn farthest(heights: &[i64], sign: i64) -> Run {
     }
 }
 
-/// 2^k times p(k), where p(0) is 0, p(1) is 1/2, and each further p is 1/2 more than the mean of the two before it.
-fn deviation(k: i64) -> i64 {
-    match k {
-        0 => 0,
-        1 => 1,
-        _ => deviation(k - 1) + 2 * deviation(k - 2) + (1 << (k - 1)),
-    }
-}
-
 #[cfg(test)]
 pub mod tests {
     use frame_builder::Flow;
@@ -192,7 +182,7 @@ pub mod tests {
 
     /// The way of a flow through a switch of one port that has cells of it in these slots, 1, and not in the others, 0.
     pub fn course_through(entries: &[u16]) -> Course {
-        let sheet = sheet(1, entries.len(), &[Flow::new(1, 1, 0)]);
+        let sheet = sheet(1, entries.len(), &[Flow::new(1, 1, entries.iter().sum())]);
         let frame = Frame::of_entries(sheet, entries.to_vec()).unwrap();
         course(&frame, Who::Flow(1))
     }
@@ -301,37 +291,36 @@ pub mod tests {
         assert_eq!(course_through(&[1]).ahead, NONE);
     }
 
-    /// What to order for a flow of m cells, with frames of any making.
+    /// What to order for a flow of m cells, with frames of any making, which is what Depth answers.
     fn ordered(slots: usize, m: usize) -> i64 {
         let entries: Vec<u16> = (0..slots).map(|slot| u16::from(slot < m)).collect();
         let course = course_through(&entries);
         assert_eq!(course.load, m);
-        course.held_by_any() / course.slots
+        let order = course.held_by_any() / course.slots;
+        let list = [Flow::new(1, 1, m as u16)];
+        let answered = depth(1, slots, &list, Who::Flow(1)).unwrap().cells;
+        assert_eq!(order, answered as i64);
+        order
     }
 
-    /// The line of each k in the first table of docs/BUFFERS.md: a = 1 is an even source.
+    /// The lines of the first table of docs/BUFFERS.md, for 1,024 slots.
     #[test]
     fn what_to_order_is_in_the_table() {
         let page = include_str!("../../../docs/BUFFERS.md");
-        let number = |text: &str| text.replace(',', "").parse::<usize>().unwrap();
+        let number = |text: &str| text.replace(',', "").parse::<usize>();
         let mut lines = 0;
         for line in page.lines().filter(|line| line.starts_with("| ")) {
             let cells: Vec<&str> = line.trim_matches('|').split('|').map(str::trim).collect();
-            let [_, slots, _, _, _, from, below, above, _] = cells[..] else {
+            let [m, _, even, _, _] = cells[..] else {
                 continue;
             };
-            if slots == "slots" {
+            let (Ok(m), Ok(even)) = (number(m), number(even)) else {
                 continue;
-            }
-            let (slots, from) = (number(slots), number(from));
-            let even = |three: &str| number(three.split(", ").nth(1).unwrap()) as i64;
-            for m in [1, from - 1, from, slots].into_iter().filter(|&m| m > 0) {
-                let wanted = if m < from { even(below) } else { even(above) };
-                assert_eq!(ordered(slots, m), wanted, "{m} cells in {slots} slots");
-            }
+            };
+            assert_eq!(ordered(1_024, m), even as i64, "{m} cells");
             lines += 1;
         }
-        assert_eq!(lines, 11);
+        assert_eq!(lines, 45);
     }
 
     /// The cells that wait at most in the buffer of a flow whose source is even and begins with any part of a cell.
@@ -363,7 +352,7 @@ pub mod tests {
         }
         let studio = frame_of(include_str!("../../../examples/studio.sheet"));
         let course = course(&studio, Who::Flow(1));
-        assert_eq!((deepest(&course), course.held_by_frame()), (2, 8 + 10 + 3));
+        assert_eq!((deepest(&course), course.held_by_frame()), (2, 7 + 10 + 3));
     }
 
     #[test]
@@ -383,14 +372,19 @@ pub mod tests {
         assert_eq!(what, format!("flow 1: the sheet has no flows; {ADVICE}"));
     }
 
+    /// The load that strays furthest for each number of slots, as docs/BUFFERS.md has it, and no load by more.
     #[test]
     fn bounds_of_frames_of_1_to_1024_slots() {
-        let by_hand = [0, 1, 3, 9, 23, 57, 135, 313, 711, 1_593, 3_527];
+        let by_hand = [0, 2, 6, 18, 46, 114, 270, 626, 1_422, 3_186, 7_054];
         for (k, by_hand) in (0..).zip(by_hand) {
-            assert_eq!(deviation(k), by_hand);
-            assert!(6 * by_hand <= (2 * k + 1) << k);
+            let slots = 1 << k;
+            let list = |m: usize| [Flow::new(1, 1, m as u16)];
+            let bounds = (0..=slots).map(|m| depth(1, slots, &list(m), Who::Flow(1)));
+            let most = bounds.map(|bound| bound.unwrap().parts).max();
+            assert_eq!(most, Some(by_hand));
+            assert!(3 * by_hand <= (2 * k + 1) << k);
         }
-        assert_eq!(table7(Who::Flow(5)).bound(), 6);
+        assert_eq!(table7(Who::Flow(5)).bound, 4);
     }
 
     #[test]
@@ -400,11 +394,8 @@ pub mod tests {
         let ports = (1..=16).flat_map(|port| [Who::Input(port), Who::Output(port)]);
         for who in flows.chain(ports) {
             let course = course(&frame, who);
-            let bound = course.bound();
-            assert!(course
-                .heights
-                .iter()
-                .all(|height| 2 * height.abs() <= bound));
+            let within = |height: &i64| 2 * height.abs() <= course.bound;
+            assert!(course.heights.iter().all(within), "{who}");
         }
     }
 }

@@ -32,18 +32,18 @@ A flow, an input or an output: the line shows its cells ahead of its share. Afte
 t x m / 2^k, where m is the cells in the whole frame of 2^k slots. It is the lead that Service count answers for the first t
 slots, divided by 2^k. The line is level from a slot's end to the next one's.
 
-The dashed line on either side is the bound of 2p(k) cells. No flow gets farther ahead of its share or behind it, in any run of
-slots of any frames that ./frame prints, and some flow gets just as far in some run. p(0) is 0, p(1) is 1/2, and each further p is
-1/2 more than the mean of the two before it. A run that begins with a frame uses at most half of it. The thin line outside is the
-bound that the customer asked for, (2k + 1)/3 cells.
+The dashed line on either side is the bound of what has m cells a frame, as the call Depth answers it. In frames that ./frame prints,
+all with m cells of it, it gets no farther ahead of its share or behind it, in any run of slots, and in some such frames it gets just
+as far. A run that begins with a frame uses at most half of it. The thin line outside is the bound that the customer asked for,
+(2k + 1)/3 cells, whatever m is.
 
 The text below the chart says how far ahead and how far behind it gets over any run of this frame as it repeats, and names the
-first such run. Both leads are answers of Service count. For a flow, the text also says how deep a buffer to order. An even source
-is at most one cell ahead of its rate. From such a source the buffer holds at most 1 + 2p(k) + m / 2^k cells, whatever frames of 2^k
-slots follow each other, if each is from ./frame and has m cells of the flow. While this frame alone repeats, the buffer holds at
-most 1 + b + m / 2^k cells, where b is the farthest behind. Both numbers are rounded down to whole cells. Buffers are ordered for
-each flow, so the pictures of inputs and outputs have no depth. docs/BUFFERS.md covers other sources and says what these numbers
-rest on.
+first such run. Both leads are answers of Service count. For a flow, the text also says how deep a buffer to order. In no run does
+an even source send more than its share, rounded up, so that it is at most 1 - 1 / 2^k cells ahead. With that, the bound and m / 2^k,
+the buffer holds no more than the text says, whatever frames of 2^k slots follow each other, if each is from ./frame and has m cells
+of the flow. While this frame alone repeats, b stands for the bound, which is the farthest behind. Both numbers are rounded down to
+whole cells. Buffers are ordered for each flow, so the pictures of inputs and outputs have no depth. docs/BUFFERS.md covers other
+sources and says what these numbers rest on.
 
 Examples:
 
