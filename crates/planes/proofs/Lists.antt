@@ -1,4 +1,4 @@
--- The end of a loop, what is kept of numbers that rise, and zeros.
+-- The end of a loop.
 use Prim.Native.Nat.{ℕ, _≤_}
 use mathlib.Core.Path.{_≡_}
 use native.Mathlib.Omega.{arith}

@@ -1,3 +1,3 @@
--- Counts as planes of bits, and what the functions of the crate do with them.
+-- Counts as planes of bits, how they are stored, and where the odd ones are.
 pub mod Planes
 pub mod Steps

@@ -29,10 +29,6 @@ each f a (suc n) = f a ∷ each f (suc a) n
 unfoldable pub countsIn : ℕ → List ℕ → ℕ → List ℕ
 countsIn k planes n = each (countAt k planes) 0 n
 
--- Half of each of the first n counts, and one cell more where a mask has it.
-unfoldable pub halves : ℕ → List ℕ → List ℕ → ℕ → List ℕ
-halves m planes mask n = each (λ p. countAt (suc m) planes p / 2 + digitAt mask p) 0 n
-
 -- Whether the count at a position is odd, and which of the first n are, rising.
 abbrev pub oddAt : List ℕ → ℕ → Bool
 oddAt planes p = eqb (digitAt planes p) 1

@@ -16,8 +16,8 @@ use Rattle.rules.specs.Schedule.{halfOf, slotOf, frameOf}
 use Rattle.rules.proofs.Levels.{pow-less}
 use Rattle.rules.proofs.OneFrame.{frame-length}
 use Rattle.planes.specs.Planes.{countsIn}
-use Rattle.planes.specs.Steps.{HalfPlanes}
-use Rattle.planes.proofs.Halved.{halved-counts}
+use Rattle.halves.specs.Steps.{HalfPlanes}
+use Rattle.halves.proofs.Halved.{halved-counts}
 use Rattle.split.specs.Steps.{tabled, Favours}
 use Rattle.split.proofs.Divided.{half-is}
 use Rattle.schedule.specs.Steps.{InputsBelow}

@@ -19,10 +19,11 @@ use Rattle.rules.proofs.Singles.{mate}
 use Rattle.rules.proofs.Kept.{keep-every, keep-rising, keep-most}
 use Rattle.rules.proofs.Settled.{favours-law}
 use Rattle.rules.proofs.Splits.{half-at, half-length}
-use Rattle.planes.specs.Planes.{digitAt, countAt, each, countsIn, halves, oddAt, oddsIn}
-use Rattle.planes.specs.Steps.{Gathered, Marked, Others}
+use Rattle.planes.specs.Planes.{digitAt, countAt, each, countsIn, oddAt, oddsIn}
+use Rattle.planes.specs.Steps.{Gathered}
+use Rattle.halves.specs.Steps.{halves, Marked, Others}
 use Rattle.planes.proofs.Counts.{each-is, counts-length, counts-at, digit-le, odd-is, odds-are}
-use Rattle.planes.proofs.Marked.{others-mask}
+use Rattle.halves.proofs.Marked.{others-mask}
 use Rattle.split.specs.Steps.{tabled, Sides, Odds, LowEnds, OddsOf, MatedBy, ReachesAll, SettledBy, Favours, Splits}
 use Rattle.split.proofs.Lists.{every-kept}
 use Rattle.split.proofs.Favoured.{reaches-all, favoured-is}

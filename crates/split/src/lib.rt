@@ -8,7 +8,7 @@ use planes::PLANE_WORDS;
 use planes::PLANES_WORDS;
 use planes::POSITIONS;
 use planes::gather::gather;
-use planes::mark::mark;
+use halves::mark::mark;
 ghost use mathlib.Core.Path.{_≡_};
 ghost use lib.ListN.{length};
 ghost use Rattle.planes.specs.Planes.{Ends};

@@ -5,16 +5,16 @@ use native.Mathlib.Omega.{arith}
 use borrow.Fn.Kinds.{In}
 use borrow.Fn.PlainCycle.{Measures, is, falls, and}
 use Rattle.planes.proofs.Counts.{block-ends}
-use Rattle.planes.proofs.Marked.{others-mask}
-use Rattle.planes.proofs.Halved.{halved-block}
+use Rattle.halves.proofs.Marked.{others-mask}
+use Rattle.halves.proofs.Halved.{halved-block}
 use Rattle.split.proofs.Divided.{favours-second}
 use Rattle.schedule.proofs.Framed.{inputs-in, all-blank, frame-one, shorter, half-counts, mid-length, mid-fits, framed-size, front-blank, still-room, back-blank, written}
 use Rattle.schedule.proofs.Summed.{none-settled, sum-low, summed}
 use Rattle.schedule.proofs.block.Reads as block
 use Rattle.schedule.proofs.block.Kinds as block-kinds
 use Rattle.schedule.proofs.+block.Lts-block as block-lts
-use Rattle.planes.proofs.halve.halve.Reads as halve-reads
-use Rattle.planes.proofs.mark.others.Reads as others-reads
+use Rattle.halves.proofs.halve.halve.Reads as halve-reads
+use Rattle.halves.proofs.mark.others.Reads as others-reads
 use Rattle.schedule.proofs.slots.write.Reads as write-reads
 use Rattle.split.proofs.split.Reads as split-reads
 use Rattle.schedule.proofs.+block.{statement}

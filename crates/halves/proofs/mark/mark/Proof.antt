@@ -1,9 +1,9 @@
 use Prim.Native.Nat.{_≤_, _-_}
 use borrow.Author.Needs.{needs}
 use native.Mathlib.Omega.{arith}
-use Rattle.planes.proofs.Marked.{Marking, marking-start, marking-below, marking-on, marking-end}
-use Rattle.planes.proofs.mark.mark.Statement.{statement}
-use Rattle.planes.proofs.mark.mark.Tie as tie
+use Rattle.halves.proofs.Marked.{Marking, marking-start, marking-below, marking-on, marking-end}
+use Rattle.halves.proofs.mark.mark.Statement.{statement}
+use Rattle.halves.proofs.mark.mark.Tie as tie
 
 abbrev Inv-loop : tie.InvT-loop
 Inv-loop planes n favoured mask₀ words w₀ mask w = (w ≤ words) × Marking planes favoured mask₀ w mask

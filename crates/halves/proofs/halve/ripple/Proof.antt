@@ -1,9 +1,9 @@
 use Prim.Native.Nat.{_≤_, _-_}
 use borrow.Author.Needs.{needs}
 use native.Mathlib.Omega.{arith}
-use Rattle.planes.proofs.Halved.{Rippling, rippling-start, rippling-on, rippling-end}
-use Rattle.planes.proofs.halve.ripple.Statement.{statement}
-use Rattle.planes.proofs.halve.ripple.Tie as tie
+use Rattle.halves.proofs.Halved.{Rippling, rippling-start, rippling-on, rippling-end}
+use Rattle.halves.proofs.halve.ripple.Statement.{statement}
+use Rattle.halves.proofs.halve.ripple.Tie as tie
 
 abbrev Inv-loop : tie.InvT-loop
 Inv-loop planes m w extra half₀ carry₀ b₀ half carry b = (b ≤ m) × Rippling planes w extra b half₀ half carry

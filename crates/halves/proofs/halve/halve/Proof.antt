@@ -1,9 +1,9 @@
 use Prim.Native.Nat.{_≤_, _-_}
 use borrow.Author.Needs.{needs}
 use native.Mathlib.Omega.{arith}
-use Rattle.planes.proofs.Halved.{Halving, halving-start, halving-on, halving-end}
-use Rattle.planes.proofs.halve.halve.Statement.{statement}
-use Rattle.planes.proofs.halve.halve.Tie as tie
+use Rattle.halves.proofs.Halved.{Halving, halving-start, halving-on, halving-end}
+use Rattle.halves.proofs.halve.halve.Statement.{statement}
+use Rattle.halves.proofs.halve.halve.Tie as tie
 
 abbrev Inv-loop : tie.InvT-loop
 Inv-loop planes m n mask half₀ words w₀ half w = (w ≤ words) × Halving m n planes mask half₀ w half

@@ -1,12 +1,12 @@
 // Half of every count.
-use crate::PLANE_WORDS;
-use crate::PLANES_WORDS;
-use crate::words::words_of;
+use planes::PLANE_WORDS;
+use planes::PLANES_WORDS;
+use planes::words::words_of;
 ghost use mathlib.Core.Path.{_≡_};
 ghost use Prim.Native.Nat.{_<_, _≤_};
 ghost use lib.ListN.{length};
 ghost use Rattle.planes.specs.Planes.{BlockPlanes, Mask};
-ghost use Rattle.planes.specs.Steps.{Grown, HalfPlanes};
+ghost use Rattle.halves.specs.Steps.{Grown, HalfPlanes};
 
 // One word of every plane: the planes above the lowest, with one word added.
 fn ripple(

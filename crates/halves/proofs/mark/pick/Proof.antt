@@ -1,9 +1,9 @@
 use borrow.Author.Needs.{needs}
 use native.Mathlib.Omega.{arith}
 use Rattle.bits.proofs.Lowest.{rest-less}
-use Rattle.planes.proofs.Marked.{Picking, picking-start, picking-zeros, picking-below, picking-on, picking-end}
-use Rattle.planes.proofs.mark.pick.Statement.{statement}
-use Rattle.planes.proofs.mark.pick.Tie as tie
+use Rattle.halves.proofs.Marked.{Picking, picking-start, picking-zeros, picking-below, picking-on, picking-end}
+use Rattle.halves.proofs.mark.pick.Statement.{statement}
+use Rattle.halves.proofs.mark.pick.Tie as tie
 
 abbrev Inv-loop : tie.InvT-loop
 Inv-loop x base favoured rest₀ picked₀ rest picked = Picking x base favoured rest picked

@@ -1,16 +1,16 @@
 // Masks of the odd counts that favour a half.
-use crate::PLANE_WORDS;
-use crate::PLANES_WORDS;
-use crate::POSITIONS;
-use crate::words::words_of;
+use planes::PLANE_WORDS;
+use planes::PLANES_WORDS;
+use planes::POSITIONS;
+use planes::words::words_of;
 use bits::put_digit;
 ghost use mathlib.Core.Path.{_≡_};
 ghost use Prim.Native.Nat.{_%_, _<_, _≤_};
 ghost use lib.ListN.{length};
 ghost use Rattle.rules.specs.Words.{Every};
 ghost use Rattle.bits.specs.Digits.{places};
 ghost use Rattle.planes.specs.Planes.{Ends, Mask};
-ghost use Rattle.planes.specs.Steps.{Picked, Marked, Others};
+ghost use Rattle.halves.specs.Steps.{Picked, Marked, Others};
 
 // 1 for a count that favours the first half, 0 for any other.
 fn first_half(favoured: u8) -> u64

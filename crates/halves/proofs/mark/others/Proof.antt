@@ -1,9 +1,9 @@
 use Prim.Native.Nat.{_≤_, _-_}
 use borrow.Author.Needs.{needs}
 use native.Mathlib.Omega.{arith}
-use Rattle.planes.proofs.Marked.{Complementing, complementing-start, complementing-on, complementing-end}
-use Rattle.planes.proofs.mark.others.Statement.{statement}
-use Rattle.planes.proofs.mark.others.Tie as tie
+use Rattle.halves.proofs.Marked.{Complementing, complementing-start, complementing-on, complementing-end}
+use Rattle.halves.proofs.mark.others.Statement.{statement}
+use Rattle.halves.proofs.mark.others.Tie as tie
 
 abbrev Inv-loop : tie.InvT-loop
 Inv-loop planes n mask₀ words w₀ mask w = (w ≤ words) × Complementing n planes mask₀ w mask

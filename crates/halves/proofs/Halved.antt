@@ -11,11 +11,11 @@ use lib.ListN.{length, getD, set, length-set}
 use lib.Seq.{getD-set-same, getD-set-other}
 use Rattle.rules.proofs.Cases.{byEq, byLt}
 use Rattle.bits.specs.Digits.{digit, binary}
-use Rattle.planes.specs.Planes.{digitIn, digitAt, countAt, countsIn, halves, wordsOf, spanOf, BlockPlanes, Mask}
-use Rattle.planes.specs.Steps.{Grown, HalfPlanes}
+use Rattle.planes.specs.Planes.{digitIn, digitAt, countAt, countsIn, wordsOf, spanOf, BlockPlanes, Mask}
+use Rattle.halves.specs.Steps.{halves, Grown, HalfPlanes}
 use Rattle.planes.proofs.Lists.{at-end}
 use Rattle.bits.proofs.Digits.{digit-most, digit-sum, twice-pow, binary-suc, binary-same, scaled}
 use Rattle.planes.proofs.Counts.{each-same, digit-le, count-parts, count-odd}
 
 -- ---- one word
 -- what the planes above the lowest have at a position

@@ -12,11 +12,11 @@ use Rattle.rules.specs.Words.{Every}
 use Rattle.rules.proofs.Cases.{byEq}
 use Rattle.rules.proofs.Lists.{every-map}
 use Rattle.bits.specs.Digits.{digit, places, PutAt}
 use Rattle.planes.specs.Planes.{digitAt, wordsOf, spanOf, Ends, Mask}
-use Rattle.planes.specs.Steps.{Picked, Marked, Others}
+use Rattle.halves.specs.Steps.{Picked, Marked, Others}
 use Rattle.bits.proofs.Digits.{digit-most, digit-none, digit-sum, if-same, if-other}
 use Rattle.bits.proofs.Lowest.{rest, next-place, next-zeros, next-digit, next-fits}
 use Rattle.planes.proofs.Placed.{word-below}
 
 -- ---- one word
 pub record Picking (x base : ℕ) (favoured : List ℕ) (left r : ℕ) : Type 0 where

@@ -1,0 +1,3 @@
+-- Laws of each step.
+pub mod Marked
+pub mod Halved

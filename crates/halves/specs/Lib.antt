@@ -1,0 +1,2 @@
+-- The counts of the two halves of a block.
+pub mod Steps
