@@ -1,9 +1,9 @@
 // Masks of the odd counts that favour a half.
+use bits::put_digit;
 use planes::PLANE_WORDS;
 use planes::PLANES_WORDS;
 use planes::POSITIONS;
 use planes::words::words_of;
-use bits::put_digit;
 ghost use mathlib.Core.Path.{_≡_};
 ghost use Prim.Native.Nat.{_%_, _<_, _≤_};
 ghost use lib.ListN.{length};

@@ -18,7 +18,7 @@ use Rattle.rules.proofs.SamePorts.{frame-same}
 use Rattle.planes.specs.Planes.{countsIn, BlockPlanes}
 use Rattle.planes.specs.Steps.{Loaded}
 use Rattle.planes.proofs.Counts as in-planes
-use Rattle.split.specs.Steps.{tabled}
+use Rattle.planes.specs.Tables.{tabled}
 use Rattle.schedule.specs.Steps.{Fillable, Tabled}
 
 module _ {ports slots : ℕ} {list buffer : List ℕ} (f : Fillable ports slots list buffer) where

@@ -18,7 +18,8 @@ use Rattle.rules.proofs.OneFrame.{frame-length}
 use Rattle.planes.specs.Planes.{countsIn}
 use Rattle.halves.specs.Steps.{HalfPlanes}
 use Rattle.halves.proofs.Halved.{halved-counts}
-use Rattle.split.specs.Steps.{tabled, Favours}
+use Rattle.planes.specs.Tables.{tabled}
+use Rattle.split.specs.Steps.{Favours}
 use Rattle.split.proofs.Divided.{half-is}
 use Rattle.schedule.specs.Steps.{InputsBelow}
 

@@ -14,7 +14,8 @@ use Rattle.calls.specs.Demand2.{Ported, Linked}
 use Rattle.checks.specs.Lists.{ListFits}
 use Rattle.bits.specs.Digits.{digit, PutAt}
 use Rattle.bits.proofs.Digits.{digit-none, if-same, if-other}
-use Rattle.split.specs.Steps.{WideEnds, tabled, Outputs, Sides}
+use Rattle.planes.specs.Tables.{WideEnds, tabled}
+use Rattle.split.specs.Steps.{Outputs, Sides}
 use Rattle.schedule.specs.Steps.{Tables, Tabled}
 
 -- ---- one more flow

@@ -19,7 +19,7 @@ use Rattle.planes.specs.Planes.{countsIn, oddsIn, wordsOf, Ends}
 use Rattle.bits.proofs.Lowest.{rest, places-none, next-place, next-zeros, next-fits}
 use Rattle.planes.proofs.Placed.{word-below, words-odds, odds-past}
 use Rattle.planes.proofs.Counts.{counts-length, odds-are}
-use Rattle.split.specs.Steps.{tabled}
+use Rattle.planes.specs.Tables.{tabled}
 use Rattle.schedule.specs.Steps.{InputsBelow, AtSlot, PutBy}
 
 -- ---- clear

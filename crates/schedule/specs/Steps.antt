@@ -7,7 +7,8 @@ use Rattle.rules.specs.Words.{Every}
 use Rattle.rules.specs.Flows.{End, inputs, flows, portOf, countsOf, Fits}
 use Rattle.rules.specs.Schedule.{put}
 use Rattle.calls.specs.Demand2.{WellFormed}
-use Rattle.split.specs.Steps.{tabled, Sides}
+use Rattle.planes.specs.Tables.{tabled}
+use Rattle.split.specs.Steps.{Sides}
 
 -- ---- what is built
 -- A well-formed load that fits, and a frame of the right size.

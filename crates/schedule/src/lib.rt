@@ -4,13 +4,13 @@ mod slots;
 
 use checks::levels_of;
 use flows::flows_of;
+use halves::halve::halve;
+use halves::mark::others;
+use planes::ENDS;
 use planes::PLANE_WORDS;
 use planes::PLANES_WORDS;
 use planes::POSITIONS;
-use halves::halve::halve;
-use halves::mark::others;
 use planes::store::store_list;
-use split::ENDS;
 use split::split;
 ghost use mathlib.Core.Path.{_≡_};
 ghost use Prim.Native.Nat.{suc, _*_, _^_, _≤_};
@@ -21,7 +21,7 @@ ghost use Rattle.rules.specs.Schedule.{frameOf};
 ghost use Rattle.rules.specs.OddShares.{settled};
 ghost use Rattle.calls.specs.Build.{frameFor};
 ghost use Rattle.planes.specs.Planes.{countsIn, BlockPlanes};
-ghost use Rattle.split.specs.Steps.{Wide, WideEnds, tabled};
+ghost use Rattle.planes.specs.Tables.{Wide, WideEnds, tabled};
 ghost use Rattle.schedule.specs.Steps.{Fillable, Tables};
 
 // A block of 2^m slots, which are idle before: its length falls by half with each call, down to a single slot, which is written. The

@@ -3,16 +3,17 @@ use bits::put_digit;
 use flows::flows_of;
 use flows::link_of;
 use flows::number_of;
-use split::ENDS;
-use split::INPUTS;
-use split::LINKS;
+use planes::ENDS;
+use planes::INPUTS;
+use planes::LINKS;
 ghost use mathlib.Core.Path.{_≡_};
 ghost use Prim.Native.Nat.{_%_, _≤_};
 ghost use lib.Dec.{eqb};
 ghost use Rattle.rules.specs.Words.{if};
 ghost use Rattle.rules.specs.Flows.{flows};
 ghost use Rattle.checks.specs.Lists.{ListFits};
-ghost use Rattle.split.specs.Steps.{WideEnds, Sides};
+ghost use Rattle.planes.specs.Tables.{WideEnds};
+ghost use Rattle.split.specs.Steps.{Sides};
 ghost use Rattle.schedule.specs.Steps.{Tabled};
 
 // 0 for the first link of an output, 1 for any other.

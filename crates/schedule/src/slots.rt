@@ -1,16 +1,16 @@
 // Slots: the counts of a block of one slot as entries.
 use bits::byte;
+use planes::ENDS;
+use planes::INPUTS;
 use planes::PLANES_WORDS;
 use planes::words::words_of;
-use split::ENDS;
-use split::INPUTS;
 ghost use mathlib.Core.Path.{_≡_};
 ghost use Prim.Native.Nat.{_*_, _≤_};
 ghost use lib.ListN.{length, replicate};
 ghost use Rattle.rules.specs.Schedule.{slotOf};
 ghost use Rattle.bits.specs.Digits.{places};
 ghost use Rattle.planes.specs.Planes.{countsIn, Ends};
-ghost use Rattle.split.specs.Steps.{tabled};
+ghost use Rattle.planes.specs.Tables.{tabled};
 ghost use Rattle.schedule.specs.Steps.{InputsBelow, AtSlot, PutBy};
 
 // Every entry is idle until a cell is written.

@@ -24,7 +24,9 @@ use Rattle.planes.specs.Steps.{Gathered}
 use Rattle.halves.specs.Steps.{halves, Marked, Others}
 use Rattle.planes.proofs.Counts.{each-is, counts-length, counts-at, digit-le, odd-is, odds-are}
 use Rattle.halves.proofs.Marked.{others-mask}
-use Rattle.split.specs.Steps.{tabled, Sides, Odds, LowEnds, OddsOf, MatedBy, ReachesAll, SettledBy, Favours, Splits}
+use Rattle.planes.specs.Tables.{tabled}
+use Rattle.groups.specs.Steps.{ReachesAll, SettledBy}
+use Rattle.split.specs.Steps.{Sides, Odds, LowEnds, OddsOf, MatedBy, Favours, Splits}
 use Rattle.split.proofs.Lists.{every-kept}
 use Rattle.split.proofs.Favoured.{reaches-all, favoured-is}
 

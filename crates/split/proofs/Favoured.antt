@@ -20,8 +20,10 @@ use Rattle.rules.proofs.Singles.{output-odd, mate}
 use Rattle.rules.proofs.Kept.{keep-every}
 use Rattle.rules.proofs.Favouring.{none-favour, settled-less, unsettled-most}
 use Rattle.rules.proofs.Walks.{walk-on, walk-off, walk-length}
-use Rattle.split.specs.Steps.{tabled, Sides, OddsOf, MatedBy, reached, ReachesBoth, walked, bothWays, groupSettled, allSettled, SettledBy}
-use Rattle.split.proofs.Walked.{walk-end}
+use Rattle.planes.specs.Tables.{tabled}
+use Rattle.groups.specs.Steps.{reached, ReachesBoth, walked, bothWays, groupSettled, allSettled, SettledBy}
+use Rattle.split.specs.Steps.{Sides, OddsOf, MatedBy}
+use Rattle.groups.proofs.Walked.{walk-end}
 
 -- ---- walks
 none-zero : (c : List ℕ) (q : ℕ) → favouring 0 c ≤ 0 → q < length c → getD c q 0 ≢ 0

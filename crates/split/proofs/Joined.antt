@@ -21,7 +21,8 @@ use Rattle.rules.proofs.Singles.{every-both, Single, singles-every, singles-apa
 use Rattle.bits.specs.Digits.{digit}
 use Rattle.bits.proofs.Digits.{digit-most, digit-none, if-same, if-other}
 use Rattle.bits.proofs.Lowest.{rest, next-zeros, next-digit, next-fits}
-use Rattle.split.specs.Steps.{WideEnds, tabled, Outputs, Sides, Odds, thoseAt, mateAmong, MatedIn, Pends, pendsAt, Latest, PendingBy, paired, AllMated, pendingAt, pendingFrom, Joins, OddsOf, MatedBy}
+use Rattle.planes.specs.Tables.{WideEnds, tabled}
+use Rattle.split.specs.Steps.{Outputs, Sides, Odds, thoseAt, mateAmong, MatedIn, Pends, pendsAt, Latest, PendingBy, paired, AllMated, pendingAt, pendingFrom, Joins, OddsOf, MatedBy}
 use Rattle.split.proofs.Lists.{every-kept, apart-last}
 use Rattle.split.proofs.Mated.{paired-length, paired-here, paired-aside, mated-next, pends-next, choice-low}
 

@@ -2,8 +2,5 @@
 pub mod Lists
 pub mod Mated
 pub mod Joined
-pub mod Stepped
-pub mod Walked
-pub mod Settled
 pub mod Favoured
 pub mod Divided

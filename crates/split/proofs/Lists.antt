@@ -5,7 +5,7 @@ use mathlib.Core.Logic.{_≢_}
 use mathlib.Core.List.{List, [], _∷_, _++_}
 use mathlib.Core.Bool.{Bool, true}
 use native.Mathlib.Omega.{arith}
-use lib.ListN.{length, getD, take}
+use lib.ListN.{take}
 use Rattle.rules.specs.Words.{if, upFrom, keep, Every}
 use Rattle.rules.proofs.Cases.{byBool, byEq}
 use Rattle.rules.proofs.Lists.{every-map, Apart}
@@ -24,12 +24,6 @@ every-last P [] p al = (tt, al .0)
 every-last P (y ∷ l) p al = let r = every-last P l p (al .1) in ((al .0, r .0), r .1)
 
 -- ---- what holds of each
-pub every-get : (P : ℕ → Type 0) (j k : ℕ) (l : List ℕ) → Every P (take k l) → j < k → j < length l → P (getD l j 0)
-every-get P j zero l a h g = absurd (omega arith)
-every-get P j (suc k) [] a h g = absurd (omega arith)
-every-get P zero (suc k) (x ∷ l) a h g = a .0
-every-get P (suc j) (suc k) (x ∷ l) a h g = every-get P j k l (a .1) (omega arith) (omega arith)
-
 pub every-take : (P : ℕ → Type 0) (j k : ℕ) (l : List ℕ) → j ≤ k → Every P (take k l) → Every P (take j l)
 every-take P zero k l h a = tt
 every-take P (suc j) zero l h a = absurd (omega arith)

@@ -20,9 +20,10 @@ use Rattle.rules.proofs.Partners.{in-none, in-first, in-second, in-rest}
 use Rattle.rules.proofs.Singles.{single-every, every-both}
 use Rattle.bits.specs.Digits.{digit, FlippedAt}
 use Rattle.bits.proofs.Digits.{digit-most, digit-none}
-use Rattle.planes.proofs.Lists.{at-end}
-use Rattle.split.specs.Steps.{WideEnds, lookup, tabled, Odds, LowEnds, thoseAt, mateAmong, MatedIn, Pends, pendsAt, Latest, PendingBy, paired, MatedAt, AllMated}
-use Rattle.split.proofs.Lists.{keep-snoc, every-snoc, every-last, every-get, every-take, every-keep, apart-last, apart-take, apart-keep}
+use Rattle.planes.proofs.Lists.{at-end, every-get}
+use Rattle.planes.specs.Tables.{WideEnds, lookup, tabled}
+use Rattle.split.specs.Steps.{Odds, LowEnds, thoseAt, mateAmong, MatedIn, Pends, pendsAt, Latest, PendingBy, paired, MatedAt, AllMated}
+use Rattle.split.proofs.Lists.{keep-snoc, every-snoc, every-last, every-take, every-keep, apart-last, apart-take, apart-keep}
 
 -- ---- one more, by whether one is left single
 no-cons : (a : ℕ) (l : List ℕ) → a ∷ l ≡ [] → ⊥

@@ -1,2 +1,2 @@
--- What the functions of the crate do, in the words of the model.
+-- What the functions of the crate do with the lists that they are lent.
 pub mod Steps

@@ -1,27 +1,19 @@
 // The split: which half of a block each odd count favours, by the rules, over planes of counts.
-mod groups;
 mod partners;
 
 use groups::settle;
+use halves::mark::mark;
 use partners::mate;
+use planes::ENDS;
 use planes::PLANE_WORDS;
 use planes::PLANES_WORDS;
 use planes::POSITIONS;
 use planes::gather::gather;
-use halves::mark::mark;
 ghost use mathlib.Core.Path.{_≡_};
 ghost use lib.ListN.{length};
 ghost use Rattle.planes.specs.Planes.{Ends};
-ghost use Rattle.split.specs.Steps.{Wide, WideEnds, Sides, Splits};
-
-// Ends of positions, two to each: a table of ends has those of all inputs first, and then those of all links.
-pub const ENDS: usize = 2 * POSITIONS;
-
-// Where the places of inputs begin in such a table.
-pub const INPUTS: usize = 0;
-
-// Where the places of links begin.
-pub const LINKS: usize = POSITIONS;
+ghost use Rattle.planes.specs.Tables.{Wide, WideEnds};
+ghost use Rattle.split.specs.Steps.{Sides, Splits};
 
 // The split knows of inputs and links by the table alone, and by a word which outputs have more than their first link. Its answer is
 // how many counts were odd, and so settled; the mask has those that favour the first half. The lists are lent, for clearing them in

@@ -1,19 +1,20 @@
 // Partners: the odd counts of an input, or of a link, first with second, third with fourth, and so on; and of those that the links of an
 // output leave single, by rising link, the same.
-use crate::ENDS;
-use crate::INPUTS;
-use crate::LINKS;
 use bits::byte;
 use bits::flip_digit;
 use bits::has_digit;
 use bits::number;
+use planes::ENDS;
+use planes::INPUTS;
+use planes::LINKS;
 use planes::POSITIONS;
 ghost use mathlib.Core.Path.{_≡_};
 ghost use mathlib.Core.Bool.{not};
 ghost use Prim.Native.Nat.{_*_, _≤_, _<_};
 ghost use lib.ListN.{take};
 ghost use Rattle.rules.specs.Words.{if};
-ghost use Rattle.split.specs.Steps.{WideEnds, lookup, Outputs, Odds, LowEnds, Latest, paired, MatedAt, AllMated, pendingFrom, Joins, MatedBy};
+ghost use Rattle.planes.specs.Tables.{WideEnds, lookup};
+ghost use Rattle.split.specs.Steps.{Outputs, Odds, LowEnds, Latest, paired, MatedAt, AllMated, pendingFrom, Joins, MatedBy};
 
 // The count that waits for a partner at the port. Where none does, a count is its own partner until another comes.
 fn pending_or_own(pending: bool, latest: u16, own: u16) -> u16

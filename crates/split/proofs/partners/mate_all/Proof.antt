@@ -22,7 +22,7 @@ mate-all-spec =
     (λ c. search needs)
     (λ c. search needs)
     (λ c κs. (omega arith, search (needs, next-low), search (needs, next-at-inputs), search needs))
-    (λ c κs. (omega arith, search (needs, next-low), search (needs, next-at-inputs, next-at-links), search needs))
+    (λ c κs. (omega arith, search (needs, next-low), search (needs, next-at-links), search needs))
     (λ c. search needs)
     (λ c. search needs)
     (λ c. (omega arith, search (needs, mating-on)))

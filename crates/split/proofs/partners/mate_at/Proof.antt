@@ -2,7 +2,7 @@ use Prim.Native.Nat.{_<_}
 use mathlib.Core.Path.{_≡_}
 use borrow.Author.Needs.{needs}
 use native.Mathlib.Omega.{arith}
-use Rattle.split.specs.Steps.{lookup}
+use Rattle.planes.specs.Tables.{lookup}
 use Rattle.split.proofs.Mated.{choice-low, port-at, mates-at}
 use Rattle.split.proofs.partners.mate_at.Statement.{statement}
 use Rattle.split.proofs.partners.mate_at.Tie as tie

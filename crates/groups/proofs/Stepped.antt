@@ -13,7 +13,8 @@ use borrow.Author.Tests.{eq-eqb, ne-eqb}
 use Rattle.rules.specs.Words.{if}
 use Rattle.rules.proofs.Cases.{byBool, byEq}
 use Rattle.rules.proofs.Shares.{Alike, alike-set}
-use Rattle.split.specs.Steps.{Wide, reached, Reaches, stepped}
+use Rattle.planes.specs.Tables.{Wide}
+use Rattle.groups.specs.Steps.{reached, Reaches, stepped}
 
 -- ---- one step more, after an even number and after an odd one
 module _ (near far : ℕ → ℕ) (p n : ℕ) where

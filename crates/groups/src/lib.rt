@@ -1,14 +1,15 @@
 // Groups: who is joined by partnership favours the two halves in turn. A count has 0 until it is settled.
-use crate::ENDS;
-use crate::INPUTS;
-use crate::LINKS;
 use bits::number;
+use planes::ENDS;
+use planes::INPUTS;
+use planes::LINKS;
 use planes::POSITIONS;
 ghost use mathlib.Core.Path.{_≡_};
 ghost use Prim.Native.Nat.{_≤_};
 ghost use lib.ListN.{replicate};
 ghost use Rattle.rules.specs.Flows.{inputs, links};
-ghost use Rattle.split.specs.Steps.{Wide, lookup, tabled, Reaches, ReachesBoth, ReachesAll, stepped, Walks, Next, Settles, SettledBy, otherHalf, largerHalf};
+ghost use Rattle.planes.specs.Tables.{Wide, lookup, tabled};
+ghost use Rattle.groups.specs.Steps.{Reaches, ReachesBoth, ReachesAll, stepped, Walks, Next, Settles, SettledBy, otherHalf, largerHalf};
 
 // The half that a count does not favour.
 fn other_half(half: u8) -> u8
@@ -107,7 +108,7 @@ fn settle_group(p: usize, next: u8, mates: &[u16; ENDS], favoured: &mut [u8; POS
 }
 
 // Only the odd counts are scanned; the first larger share goes to the first half.
-pub(crate) fn settle(
+pub fn settle(
     odds: &[u16; POSITIONS],
     k: usize,
     mates: &[u16; ENDS],

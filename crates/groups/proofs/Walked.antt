@@ -10,8 +10,9 @@ use Rattle.rules.proofs.Favouring.{settled-less, unsettled-most, favouring-more
 use Rattle.rules.proofs.Shares.{Alike}
 use Rattle.rules.proofs.Walks.{walk-on, walk-off}
 use Rattle.planes.proofs.Lists.{at-end}
-use Rattle.split.specs.Steps.{Wide, reached, Reaches, stepped, walked, WalkedBy, Walks}
-use Rattle.split.proofs.Stepped.{reached-near, reached-far, stepped-near, stepped-far, stepped-alike}
+use Rattle.planes.specs.Tables.{Wide}
+use Rattle.groups.specs.Steps.{reached, Reaches, stepped, walked, WalkedBy, Walks}
+use Rattle.groups.proofs.Stepped.{reached-near, reached-far, stepped-near, stepped-far, stepped-alike}
 
 walk-one : (go back : ℕ → ℕ) (p h q d : ℕ) (c : List ℕ) → q ≡ go p → q < length c → getD c q 0 ≡ 0 → h < 3
     → walk (favouring 0 c + d) go back p h c ≡ walk (favouring 0 (set c q (3 - h)) + d) back go q (3 - h) (set c q (3 - h))

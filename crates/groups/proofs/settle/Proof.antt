@@ -2,10 +2,11 @@ use Prim.Native.Nat.{_≤_, _-_}
 use borrow.Author.Needs.{needs}
 use native.Mathlib.Omega.{arith}
 use Rattle.rules.specs.Flows.{inputs, links}
-use Rattle.split.specs.Steps.{tabled, Next, SettledBy}
-use Rattle.split.proofs.Settled.{next-start, settled-start, reaches-next, settled-on, settled-end}
-use Rattle.split.proofs.groups.settle.Statement.{statement}
-use Rattle.split.proofs.groups.settle.Tie as tie
+use Rattle.planes.specs.Tables.{tabled}
+use Rattle.groups.specs.Steps.{Next, SettledBy}
+use Rattle.groups.proofs.Settled.{next-start, settled-start, reaches-next, settled-on, settled-end}
+use Rattle.groups.proofs.settle.Statement.{statement}
+use Rattle.groups.proofs.settle.Tie as tie
 
 abbrev Inv-loop : tie.InvT-loop
 Inv-loop odds k mates favoured₀ next₀ i₀ favoured next i = (i ≤ k) × Next next favoured × SettledBy (tabled mates inputs) (tabled mates links) odds i favoured₀ favoured

@@ -13,10 +13,10 @@ use Rattle.rules.specs.Schedule.{favouring, level}
 use Rattle.rules.proofs.Cases.{byEq, within-yes, within-below, within-above}
 use Rattle.rules.proofs.Favouring.{favouring-more, favouring-same}
 use Rattle.rules.proofs.Shares.{Alike, alike-set, same-shares}
-use Rattle.split.specs.Steps.{Wide, Reaches, ReachesBoth, ReachesAll, stepped, walked, WalkedBy, Walks, otherHalf, bothWays, groupSettled, largerHalf, Next, Settles, allSettled, SettledBy}
-use Rattle.planes.proofs.Lists.{at-end}
-use Rattle.split.proofs.Lists.{every-get}
-use Rattle.split.proofs.Stepped.{stepped-alike, ways, ways-length, ways-again}
+use Rattle.planes.specs.Tables.{Wide}
+use Rattle.groups.specs.Steps.{Reaches, ReachesBoth, ReachesAll, stepped, walked, WalkedBy, Walks, otherHalf, bothWays, groupSettled, largerHalf, Next, Settles, allSettled, SettledBy}
+use Rattle.planes.proofs.Lists.{at-end, every-get}
+use Rattle.groups.proofs.Stepped.{stepped-alike, ways, ways-length, ways-again}
 
 -- ---- whose turn it is
 next-level : (half : ℕ) (c : List ℕ) → Next half c → level c ≡ true

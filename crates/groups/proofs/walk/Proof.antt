@@ -1,10 +1,10 @@
 use borrow.Author.Needs.{needs}
 use native.Mathlib.Omega.{arith}
 use Rattle.rules.specs.Schedule.{favouring}
-use Rattle.split.specs.Steps.{lookup}
-use Rattle.split.proofs.Walked.{Walking, walking-start, walking-at, walking-stop, walking-room, walking-at-2, walking-stop-2, walking-room-2, walking-on, walking-less}
-use Rattle.split.proofs.groups.walk.Statement.{statement}
-use Rattle.split.proofs.groups.walk.Tie as tie
+use Rattle.planes.specs.Tables.{lookup}
+use Rattle.groups.proofs.Walked.{Walking, walking-start, walking-at, walking-stop, walking-room, walking-at-2, walking-stop-2, walking-room-2, walking-on, walking-less}
+use Rattle.groups.proofs.walk.Statement.{statement}
+use Rattle.groups.proofs.walk.Tie as tie
 
 abbrev Inv-loop : tie.InvT-loop
 Inv-loop start near far mates favoured₀ steps₀ p₀ favoured steps p = Walking (lookup mates near) (lookup mates far) start favoured₀ p steps favoured

@@ -1,10 +1,10 @@
 use Prim.Native.Nat.{_-_, _≤_}
 use borrow.Author.Needs.{needs}
 use native.Mathlib.Omega.{arith}
-use Rattle.split.specs.Steps.{lookup}
-use Rattle.split.proofs.Walked.{Flipping, flipping-start, flipping-at, flipping-stop, flipping-at-2, flipping-on, flipping-end}
-use Rattle.split.proofs.groups.flip_walk.Statement.{statement}
-use Rattle.split.proofs.groups.flip_walk.Tie as tie
+use Rattle.planes.specs.Tables.{lookup}
+use Rattle.groups.proofs.Walked.{Flipping, flipping-start, flipping-at, flipping-stop, flipping-at-2, flipping-on, flipping-end}
+use Rattle.groups.proofs.flip_walk.Statement.{statement}
+use Rattle.groups.proofs.flip_walk.Tie as tie
 
 abbrev Inv-loop : tie.InvT-loop
 Inv-loop start near far steps mates favoured₀ p₀ i₀ favoured p i = (i ≤ steps) × Flipping (lookup mates near) (lookup mates far) start i favoured₀ favoured p

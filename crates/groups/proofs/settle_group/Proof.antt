@@ -2,9 +2,9 @@ use Prim.Native.Nat.{_+_, _%_}
 use mathlib.Core.Path.{_≡_}
 use borrow.Author.Needs.{needs}
 use native.Mathlib.Omega.{arith}
-use Rattle.split.proofs.Settled.{group-off, group-even, group-right, group-flipped}
-use Rattle.split.proofs.groups.settle_group.Statement.{statement}
-use Rattle.split.proofs.groups.settle_group.Tie as tie
+use Rattle.groups.proofs.Settled.{group-off, group-even, group-right, group-flipped}
+use Rattle.groups.proofs.settle_group.Statement.{statement}
+use Rattle.groups.proofs.settle_group.Tie as tie
 
 -- from the second walk to the first, and to the start
 module _ (c : tie.After-walk2) where

@@ -1,0 +1,2 @@
+-- How the groups of odd counts are settled.
+pub mod Steps
