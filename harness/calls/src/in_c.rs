@@ -4,7 +4,9 @@ use std::io::{BufReader, Read, Write};
 use std::process::{Child, ChildStdin, ChildStdout, Command, Stdio};
 use std::sync::Mutex;
 
-use crate::{Answer, Built, Calls, Class, Count, Inspection, Limits, Refusal, Service};
+use crate::{
+    Answer, Bounded, Built, Calls, Class, Count, Depth, Inspection, Limits, Refusal, Service,
+};
 
 /// The calls as `harness/c/calls.c` numbers them.
 #[derive(Clone, Copy, Default)]
@@ -17,6 +19,9 @@ enum Call {
     CountFlow,
     CountInput,
     CountOutput,
+    DepthFlow,
+    DepthInput,
+    DepthOutput,
 }
 
 /// A call as the C program reads it.
@@ -32,7 +37,7 @@ struct Record<'r> {
     /// Service count: the start.
     slot: u64,
     length: u64,
-    /// The flow or the port that is counted.
+    /// The flow or the port that is counted, or asked about.
     whose: u64,
 }
 
@@ -93,7 +98,8 @@ impl InC {
         }
     }
 
-    /// The answer's number and its three values, a count's cells and lead; a frame lent for writing is written.
+    /// The answer's number and its three values, a count's cells and lead, a depth's parts and cells; a frame lent for writing is
+    /// written.
     fn make(&self, record: &[u8], written: &mut [u16]) -> [u64; 4] {
         let idle = self.idle.lock().expect("no thread panics here").pop();
         let mut process = idle.unwrap_or_else(|| Process::start(self.program));
@@ -296,6 +302,26 @@ impl Calls for InC {
                 // The same 64 bits, read with a sign.
                 lead: lead as i64,
             }),
+            refused => Err(refusal_of(refused)),
+        }
+    }
+
+    fn depth(&self, ports: u64, slots: u64, list: &[u16], class: Class) -> Bounded {
+        let (call, whose) = match class {
+            Class::Flow { number } => (Call::DepthFlow, number),
+            Class::Input { port } => (Call::DepthInput, port),
+            Class::Output { port } => (Call::DepthOutput, port),
+        };
+        let record = Record {
+            call,
+            ports,
+            slots,
+            list,
+            whose,
+            ..Record::default()
+        };
+        match self.make(&record.bytes(), &mut []) {
+            [0, parts, cells, 0] => Ok(Depth { parts, cells }),
             refused => Err(refusal_of(refused)),
         }
     }

@@ -4,18 +4,21 @@
 
 mod admission;
 mod build;
+mod depth;
 mod flow;
 mod inspect;
 mod query;
 pub mod queue;
 mod refusal;
 mod sheet;
+pub mod stray;
 pub mod wait;
 pub mod wire;
 pub mod work;
 
 pub use admission::admit;
 pub use build::build;
+pub use depth::{depth, Depth};
 pub use flow::{slots_each, Limits, LINKS, MOST_FLOWS};
 pub use inspect::{inspect, Inspection};
 pub use query::{service_count, slot_view, Class, Count, LONGEST_RUN};
