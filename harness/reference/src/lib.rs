@@ -10,6 +10,7 @@ mod query;
 pub mod queue;
 mod refusal;
 mod sheet;
+pub mod stray;
 pub mod wait;
 pub mod wire;
 pub mod work;
