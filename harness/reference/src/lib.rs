@@ -6,6 +6,8 @@ mod admission;
 mod build;
 mod flow;
 mod inspect;
+pub mod order;
+pub mod page;
 mod query;
 pub mod queue;
 mod refusal;

@@ -134,7 +134,7 @@ fn rows_as_deep_as_allowed() {
         let mut arrivals = vec![0; 3 * slots];
         arrivals[slots - turn] = 3 * seam.slots;
         let second = &pass_row(&row, &arrivals)[1];
-        let depth = second.depth(ahead_behind_a_switch(seam.k));
+        let depth = second.depth(ahead_behind_a_switch(seam.k, seam.cells.into()));
         assert_eq!(depth.after, 0, "{seam:?}");
     }
 }

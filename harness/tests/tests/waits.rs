@@ -57,7 +57,7 @@ fn the_longest_wait_of_both_bounds() {
         };
         let w = course.cells(run) as u64 + 1;
         let [sharp, demanded] =
-            [Allowed::sharp(k, m), Allowed::demanded(k, m)].map(|allowed| allowed.longest(w));
+            [Allowed::by_load(k, m), Allowed::demanded(k, m)].map(|allowed| allowed.longest(w));
         let found = longest(&course, w).expect("the flow has cells in both frames");
         let (slots, wait) = (of.slots, found.1);
         println!("{k:>3} {slots:>6} {m:>5} {w:>5} {wait:>9} {sharp:>9} {demanded:>9}");
@@ -83,7 +83,7 @@ fn the_longest_wait_of_an_even_source() {
         let longest = waits.iter().map(|cell| cell.slots).max();
         let allowed = paced(k, m, source.ahead);
         assert_eq!(longest.map(u128::from), Some(allowed), "{of:?}");
-        assert_eq!(allowed, Allowed::sharp(k, m).longest(1), "{of:?}");
+        assert_eq!(allowed, Allowed::by_load(k, m).longest(1), "{of:?}");
     }
 }
 
@@ -95,7 +95,7 @@ fn the_longest_wait_of_the_first_in_the_queue() {
     for k in 0..=10 {
         let slots = 1_u64 << k;
         let wait = |m: u64| by_blocks(k, m, 1);
-        let allowed = |m: u64| Allowed::sharp(k, m).longest(1);
+        let allowed = |m: u64| Allowed::by_load(k, m).longest(1);
         for m in 1..=slots {
             assert_eq!(longest(&seam(k, m), 1), Some((m, wait(m))), "k = {k}");
             assert!(wait(m) <= allowed(m), "k = {k}, m = {m}");
