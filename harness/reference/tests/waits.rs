@@ -53,6 +53,8 @@ fn examples() -> Vec<String> {
     let strays = 2 * stray(10, 100);
     let ahead = ahead_behind_a_switch(10, 100);
     assert!(rate(3)[0] > blocks(3) && rate(4)[0] < blocks(4));
+    let exact = |&m: &u64| by_rate(10, m, 1)[0] == at_head(10, m);
+    assert!([1, 3, 64, 96].iter().all(exact));
     vec![
         format!(
             "has a frame of 1,024 slots and a flow with 100 cells reserved in each frame. Its source sends evenly. Then every cell has left after **{} more slots** at most",
@@ -83,6 +85,7 @@ fn examples() -> Vec<String> {
             (2 * strays - 1_024) as f64 / 100.0,
             paced(10, 100, ahead)
         ),
+        "the difference of two powers of two, such as 1, 3, 64 or 96, and where it is 2^k".into(),
         "a block is 16 slots, since 64 is the largest power of two that is not above 100, and 1,024/64 is 16".into(),
         format!(
             "the third cell has ({} + 2 × 1,024)/100 = {:.2}, which makes {} slots by the rate ({} by (2k + 1)/3) and {} by blocks; from the fourth on, with {} and {}, the rate is better",
@@ -112,6 +115,12 @@ fn sound_and_picture() -> Vec<String> {
         format!("the sound has its {} slots", even(1)),
         format!("with 2 cells a frame for the sound it is {}.", even(2)),
     ]
+}
+
+/// The smallest case of a source that may be a whole cell ahead.
+fn slowest() -> Vec<String> {
+    assert_eq!(paced(1, 1, 2), 3);
+    vec!["k = 1, m = 1 and a = 2: the last of two cells waits three slots".into()]
 }
 
 /// So many slots, and the same in frames of 2^k slots.
@@ -212,7 +221,7 @@ fn tables() {
 
 #[test]
 fn sentences() {
-    let sentences = [examples(), sound_and_picture()].concat();
+    let sentences = [examples(), sound_and_picture(), slowest()].concat();
     // k goes up to 10, and what is over 2^k is named.
     page::holds(TEXT, &sentences, &["10", "1/2"]);
 }
