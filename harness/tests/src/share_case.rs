@@ -5,7 +5,7 @@ use loads::{Followed, Random};
 use reference::wire::{self, deviation, Course, Frame, Run, Whose};
 use reference::LINKS;
 
-use crate::hits::{Hits, RUN_REACHED, TOTAL_REACHED};
+use crate::hits::{Hits, Used, BOUND_COMPARED, BOUND_REACHED, RUN_REACHED, TOTAL_REACHED};
 use crate::verdict::{expect, Verdict};
 
 /// Fails where the frames are of several shapes.
@@ -13,27 +13,53 @@ pub fn expect_chain(chain: &[Frame]) -> Verdict {
     expect(wire::is_chain(chain), || "frames of several shapes".into())
 }
 
-/// Holds any run of a chain of built frames, the furthest of all and the furthest that begins with a frame to their bounds. The
-/// total has half the bound of a class: its extra cell always goes to the first half.
+/// Holds every run of a chain of built frames to its bounds, and once more any run and the furthest that begins with a frame. The
+/// total is ahead only by what a run ends in, and behind only by what it begins in: its extra cell always goes to the first half.
 pub fn check_share(course: &Course, whose: Whose, random: &mut Random, hits: &mut Hits) -> Verdict {
-    let furthest = course.furthest_run();
-    let others = [random_run(course, random), course.furthest_from_a_frame()];
-    for run in [furthest].into_iter().chain(others) {
+    expect_every_run(course, whose)?;
+    for run in [random_run(course, random), course.furthest_from_a_frame()] {
         expect_share(course, whose, run)?;
     }
-    let (lead, k) = (course.lead(furthest).abs(), course.k());
+    let (lead, k) = (course.lead(course.furthest_run()).abs(), course.k());
     if lead == 2 * deviation(k) {
         hits.add_at(RUN_REACHED, k);
     }
     if whose == Whose::Total {
-        expect(lead <= deviation(k), || {
-            format!("the total of built frames strays by {lead} parts in {furthest:?}")
-        })?;
+        expect_total(course)?;
         if lead == deviation(k) {
             hits.add_at(TOTAL_REACHED, k);
         }
     }
     Ok(())
+}
+
+/// Fails where some run is too far from its share: the furthest of all by demand 3, or the one nearest to its bound by that.
+pub fn expect_every_run(course: &Course, whose: Whose) -> Verdict {
+    expect_share(course, whose, course.furthest_run())?;
+    expect_share(course, whose, course.nearest_run())
+}
+
+/// Fails where some run of all cells of built frames is too far from its share.
+pub fn expect_total(course: &Course) -> Verdict {
+    let run = course.nearest_of_total();
+    expect(course.total_has_its_share(run), || {
+        let lead = course.lead(run);
+        format!("the total of built frames strays by {lead} parts in {run:?}")
+    })
+}
+
+/// Notes how much of the bound of its loads a run uses that begins and ends inside frames, the one that comes nearest to it.
+pub fn note_bound(course: &Course, hits: &mut Hits) {
+    let (run, k) = (course.nearest_inside_frames(), course.k());
+    let (lead, bound) = (course.lead(run).abs(), course.bound(run));
+    if bound == 0 {
+        return;
+    }
+    hits.add_at(BOUND_COMPARED, k);
+    hits.part(k, Used::Run, lead, bound);
+    if lead == bound {
+        hits.add_at(BOUND_REACHED, k);
+    }
 }
 
 /// Fails where the run is too far from its share.

@@ -437,7 +437,7 @@ fn second_of_two(builders: [&Broken; 2]) -> Depth {
     });
     let mut arrivals = vec![0; row[0].course.given.len()];
     arrivals[0] = 1_000;
-    pass_row(&row, &arrivals)[1].depth(ahead_behind_a_switch(5))
+    pass_row(&row, &arrivals)[1].depth(ahead_behind_a_switch(5, 16))
 }
 
 #[test]
@@ -484,7 +484,7 @@ fn a_bunched_flow_waits_too_long() {
             "{cells} cells or more in each frame has fewer than 1 in Run {{ start: {cells}, length: {idle} }}"
         );
         assert!(complaint.contains(&said), "{complaint}");
-        let allowed = Allowed::sharp(4, cells.into()).longest(1);
+        let allowed = Allowed::by_load(4, cells.into()).longest(1);
         assert!(u128::from(idle) + 1 > allowed, "{complaint}");
     }
 }
@@ -541,7 +541,7 @@ fn a_total_waits_too_long() {
         let complaint = waits(&chain, Whose::Total).unwrap_err();
         let said = "4 cells or more in each frame has fewer than 1 in Run { start: 1, length: 3 }";
         assert!(complaint.contains(said), "{complaint}");
-        assert_eq!(Allowed::sharp(2, 4).longest(1), 2);
+        assert_eq!(Allowed::by_load(2, 4).longest(1), 1);
     }
 }
 
