@@ -18,7 +18,8 @@ use Rattle.rules.proofs.Cases.{byEq}
 use Rattle.rules.proofs.Lists.{zero-at}
 use Rattle.rules.proofs.Sums.{sum-none, sum-more, sum-ext, sum-zero}
 use Rattle.rules.proofs.Flows.{counts-length, counts-at}
-use Rattle.checks.specs.Lists.{ListFits}
+use Rattle.checks.specs.Fits.{ListFits}
+use Rattle.checks.proofs.Fits.{fits-sixteen, input-below, link-below}
 use Rattle.admission.specs.Overloads.{valueAt, Given, EveryLoad}
 
 -- the cells of those of the first f flows that are of port or link x of a kind
@@ -74,19 +75,6 @@ kind-end kind size places list sums off a =
       none = λ x h. a .each x ∙ sum-zero (flows list) _ (λ f l. rw (off x f h l));
     }
 
--- ---- the ports and the link of a flow of a list that is taken
-module _ {ports : ℕ} {list : List ℕ} (t : ListFits ports list) (f : ℕ) (here : f < flows list) where
-  taken-input : portOf list inputs f < ports
-  unfolding portOf
-  taken-input = let w = t .ported inputs f here in omega arith
-
-  taken-link : portOf list links f < ports * 4
-  unfolding portOf
-  taken-link = let w = t .ported links f here in omega (arith, t .linked f here .0, t .linked f here .1)
-
-  pub taken-output-number : Within 1 16 (numberOf 1 list f)
-  taken-output-number = let w = t .ported links f here in (w .0, omega (arith, w .1, t .most))
-
 -- ---- all kinds
 pub record Summed (list : List ℕ) (n f : ℕ) (ins outs lines : List ℕ) : Type 0 where
   pub all : n ≡ flows list
@@ -117,7 +105,7 @@ module _ {ports n f : ℕ} {list ins outs lines : List ℕ} (t : ListFits ports 
   input-low {x} {p} e d = omega (arith, e, t .ported inputs f (summed-in a here) .1, t .ported inputs f (summed-in a here) .0, t .most)
 
   pub summed-output : Within 1 16 (numberOf 1 list f)
-  summed-output = taken-output-number t f (summed-in a here)
+  summed-output = fits-sixteen t .ported links f (summed-in a here)
 
   pub summed-link : Within 1 4 (numberOf 3 list f)
   summed-link = t .linked f (summed-in a here)
@@ -160,9 +148,9 @@ summed-end {ports} {n} {f} {list} {ins} {outs} {lines} t a h =
     let e : f ≡ flows list = omega (arith, a .most, a .all) in
     record {
       of-inputs = kind-end (portOn input) 16 ports list ins
-          (λ x g l k. ne-eqb (portOf list inputs g) x (omega (arith, taken-input t g k))) (rw e at (a .of-inputs));
+          (λ x g l k. ne-eqb (portOf list inputs g) x (omega (arith, input-below t g k))) (rw e at (a .of-inputs));
       of-outputs = kind-end (portOn output) 16 ports list outs
-          (λ x g l k. ne-eqb (outputOf (portOf list links g)) x (omega (arith, taken-link t g k))) (rw e at (a .of-outputs));
+          (λ x g l k. ne-eqb (outputOf (portOf list links g)) x (omega (arith, link-below t g k))) (rw e at (a .of-outputs));
       of-links = kind-end link 64 (ports * 4) list lines
-          (λ x g l k. ne-eqb (portOf list links g) x (omega (arith, taken-link t g k))) (rw e at (a .of-links));
+          (λ x g l k. ne-eqb (portOf list links g) x (omega (arith, link-below t g k))) (rw e at (a .of-links));
     }

@@ -7,9 +7,9 @@ use Rattle.calls.specs.declared.Refusal.{Refusal}
 use Rattle.calls.specs.declared.Answer.{Answer}
 use Rattle.calls.specs.declared.Answer.the-variants.{Accepted, Refused}
 use Rattle.calls.proofs.Demand2.{past-load}
-use Rattle.checks.specs.Lists.{ListAnswer, ListFits}
+use Rattle.checks.specs.Lists.{ListAnswer}
 use Rattle.admission.specs.Overloads.{EveryLoad, decided}
-use Rattle.checks.proofs.Listed.{list-refused, list-well, well-taken}
+use Rattle.checks.proofs.Listed.{list-refused, list-well, list-fits}
 use Rattle.admission.proofs.Deciding.{decided-loads}
 
 module _ {ports slots : ℕ} {list : List ℕ} {a : Answer} (l : ListAnswer ports slots list (answered a)) where
@@ -17,12 +17,9 @@ module _ {ports slots : ℕ} {list : List ℕ} {a : Answer} (l : ListAnswer port
   unfolding admitted
   admit-refused e limits = list-refused l e (overloads ports slots list limits) accepted
 
-  pub admit-taken : a ≡ Accepted → ListFits ports list
-  admit-taken e = well-taken (list-well l e)
-
   pub admit-decided : a ≡ Accepted → {ins outs lines : List ℕ} → EveryLoad ports list ins outs lines
       → (limits : List ℕ) → {answer : List ℕ} → answer ≡ decided slots ins outs lines limits → answer ≡ admitted ports slots list limits
   unfolding admitted
   admit-decided e {ins} {outs} {lines} loads limits d =
-      d ∙ decided-loads slots ins outs lines limits (admit-taken e) loads
+      d ∙ decided-loads slots ins outs lines limits (list-fits l e) loads
       ∙ sym (past-load ports slots list (list-well l e) (overloads ports slots list limits) accepted)

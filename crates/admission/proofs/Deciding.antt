@@ -12,7 +12,7 @@ use Rattle.calls.specs.declared.Answer.{Answer}
 use Rattle.calls.specs.declared.Answer.the-variants.{Accepted, Refused}
 use Rattle.calls.proofs.Overloads.{above-found, above-none, above-same, past-found, past-none, past-same}
 use Rattle.calls.proofs.Reports.{report-found, report-on, report-then, report-stops, clear-none}
-use Rattle.checks.specs.Lists.{ListFits}
+use Rattle.checks.specs.Fits.{ListFits}
 use Rattle.admission.specs.Overloads.{valueAt, EveryLoad, decidedPorts, decided}
 
 -- ---- 5 and 6

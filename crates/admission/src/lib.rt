@@ -3,7 +3,7 @@ ghost use mathlib.Core.Path.{_≡_};
 ghost use Prim.Native.Nat.{_<_};
 ghost use lib.ListN.{length};
 ghost use Rattle.calls.specs.Refusals.{lowestAbove, lowestPast, answered, admitted};
-ghost use Rattle.checks.specs.Lists.{ListFits};
+ghost use Rattle.checks.specs.Fits.{ListFits};
 ghost use Rattle.admission.specs.Overloads.{valueAt, EveryLoad, decidedPorts, decided};
 use calls::Answer;
 use calls::Refusal;

@@ -19,6 +19,7 @@ use Rattle.calls.specs.Inspect.{unbalanced, unbalancedNumber, firstAt, unbalanc
 use Rattle.rules.proofs.Searches.{Passed, passed-start, passed-on, passed-found, passed-done, first-low, first-found, first-before}
 use Rattle.rules.proofs.Levels.{levels-power, depth-half, depth-fill, double}
 use Rattle.calls.proofs.Inspected.{InList, nearFor, unbalanced-yes, unbalanced-no}
+use Rattle.checks.proofs.Fits.{slots-within, level-low}
 use Rattle.tally.specs.Tally.{place, RightFrame, tallyOf}
 use Rattle.tally.proofs.Tallies.{tally-class}
 use Rattle.balance.specs.Balance.{far}
@@ -50,10 +51,10 @@ module _ (ports slots half count b : ℕ) (list frame : List ℕ) (r : RightFram
   block-ends = let k = mul-le-mul-right {m = suc b} {n = count} (2 * half) l in omega arith
 
   pub half-fits : Fits w64 (2 * half)
-  half-fits = record { fits = (let k = block-ends in let m = r .slots-most in omega arith) }
+  half-fits = record { fits = (let k = block-ends in let m = slots-within (r .framed) in omega arith) }
 
   pub block-fits : Fits w64 (b * (2 * half))
-  block-fits = record { fits = (let k = block-ends in let m = r .slots-most in omega arith) }
+  block-fits = record { fits = (let k = block-ends in let m = slots-within (r .framed) in omega arith) }
 
 module _ (ports half count b : ℕ) (list frame : List ℕ) (u : Bool) where
   pub number-on : Passed (unbalancedNumber ports list frame half) 0 count b → b < count → u ≡ unbalanced ports list frame (b * (2 * half)) half → u ≡ false
@@ -71,7 +72,7 @@ module _ (ports slots start half : ℕ) (list frame a b : List ℕ) (r : RightFr
     (yb : b ≡ tallyOf ports list (runOf ports (start + half) half frame)) where
   far-class : (c : Class) → InList ports list c → far a b (place c) ≡ not (nearFor ports list frame start half c)
   unfolding far
-  far-class c of = rw (tally-class ports list (runOf ports start half frame) a (r .switch) ya c of, tally-class ports list (runOf ports (start + half) half frame) b (r .switch) yb c of)
+  far-class c of = rw (tally-class ports list (runOf ports start half frame) a (r .listed) ya c of, tally-class ports list (runOf ports (start + half) half frame) b (r .listed) yb c of)
 
   class-far : (c : Class) → InList ports list c → far a b (place c) ≡ true → true ≡ unbalanced ports list frame start half
   class-far c of e = sym (unbalanced-yes ports list frame start half c of (not-true _ (sym (far-class c of) ∙ e)))
@@ -125,17 +126,17 @@ module _ (ports slots start half : ℕ) (list frame a b : List ℕ) (r : RightFr
       near-at total of = first-before (far a b) 1 608 608 (omega arith) (omega arith)
 
 pub count-most : {ports slots n : ℕ} {list frame : List ℕ} → RightFrame ports slots list frame → n ≡ flows list → 0 + n ≤ 609
-count-most r e = omega (arith, r .switch .few)
+count-most r e = omega (arith, r .listed .few)
 
 module _ {ports slots : ℕ} {list frame : List ℕ} (r : RightFrame ports slots list frame) where
   pub links-most : 544 + ports * 4 ≤ 609
-  links-most = omega (arith, r .switch .high)
+  links-most = omega (arith, r .listed .most)
 
   pub links-fit : Fits w64 (ports * 4)
-  links-fit = record { fits = omega (arith, r .switch .high) }
+  links-fit = record { fits = omega (arith, r .listed .most) }
 
   pub links-end : Fits w64 (544 + ports * 4)
-  links-end = record { fits = omega (arith, r .switch .high) }
+  links-end = record { fits = omega (arith, r .listed .most) }
 
 -- ---- depths
 pub record Depths (ports slots k : ℕ) (list frame : List ℕ) (t count half : ℕ) : Type 0 where
@@ -147,9 +148,12 @@ pub record Depths (ports slots k : ℕ) (list frame : List ℕ) (t count half : 
 pub depths-start : (ports slots k : ℕ) (list frame : List ℕ) → Depths ports slots k list frame 0 1 (slots / 2)
 depths-start ports slots k list frame = record { most = omega arith; number = refl; size = refl; passed = passed-start (unbalancedAt ports slots list frame) 0 k }
 
-module _ (ports slots k t count half : ℕ) (list frame : List ℕ) (e : k ≡ levels slots) (l : k < 11) (d : Depths ports slots k list frame t count half) (h : t < k) where
+module _ (ports slots k t count half : ℕ) (list frame : List ℕ) (e : k ≡ levels slots) (r : RightFrame ports slots list frame) (d : Depths ports slots k list frame t count half) (h : t < k) where
+  low : k < 11
+  low = omega (arith, level-low (r .framed))
+
   power : slots ≡ 2 ^ k
-  power = rw e (levels-power slots (omega arith))
+  power = rw e (levels-power slots (omega (arith, low)))
 
   pub blocks-room : count * (2 * half) ≤ slots
   blocks-room =
@@ -158,14 +162,11 @@ module _ (ports slots k t count half : ℕ) (list frame : List ℕ) (e : k ≡ l
       let c : 2 * half ≡ 2 ^ k / 2 ^ t = ap (λ z. 2 * z) (d .size ∙ ap (λ z. z / 2 ^ suc t) power) ∙ a in
       omega (arith, ap (λ z. z * (2 * half)) (d .number), ap (λ z. 2 ^ t * z) c, power)
 
-  slots-low : slots ≤ 1024
-  slots-low = rw power (pow-le-pow-right (omega arith) {j = 10} (omega arith))
-
   pub size-fits : Fits w64 (2 * half)
-  size-fits = record { fits = (let r = blocks-room in let q = slots-low in let n = d .number in let o = pow-pos t in let w = mul-le-mul-right {m = 1} {n = count} (2 * half) (omega arith) in omega arith) }
+  size-fits = record { fits = (let room = blocks-room in let q = slots-within (r .framed) in let n = d .number in let o = pow-pos t in let w = mul-le-mul-right {m = 1} {n = count} (2 * half) (omega arith) in omega arith) }
 
   pub count-fits : Fits w64 (2 * count)
-  count-fits = record { fits = (let n = d .number in let w : 2 ^ t ≤ 2 ^ 10 = pow-le-pow-right (omega arith) {j = 10} (omega arith) in omega arith) }
+  count-fits = record { fits = (let n = d .number in let w : 2 ^ t ≤ 2 ^ 10 = pow-le-pow-right (omega arith) {j = 10} (omega (arith, low)) in omega arith) }
 
   module _ (b : ℕ) (f : b ≡ first (unbalancedNumber ports list frame half) 0 count) where
     at-depth : b ≡ firstAt ports slots list frame t
@@ -193,10 +194,10 @@ module _ (ports slots k t count half : ℕ) (list frame : List ℕ) (e : k ≡ l
         rw (m, lt-ltb t (levels slots) (omega arith), ← s, ← at-depth, add-one)
 
     pub start-fits : b < count → Fits w64 (b * (2 * half))
-    start-fits g = record { fits = (let r = blocks-room in let q = slots-low in let w = mul-le-mul-right {m = b} {n = count} (2 * half) (omega arith) in omega arith) }
+    start-fits g = record { fits = (let room = blocks-room in let q = slots-within (r .framed) in let w = mul-le-mul-right {m = b} {n = count} (2 * half) (omega arith) in omega arith) }
 
     pub number-fits : b < count → Fits w64 (b * (2 * half) + 1)
-    number-fits g = record { fits = (let r = blocks-room in let q = slots-low in let w = mul-le-mul-right {m = b} {n = count} (2 * half) (omega arith) in omega arith) }
+    number-fits g = record { fits = (let room = blocks-room in let q = slots-within (r .framed) in let w = mul-le-mul-right {m = b} {n = count} (2 * half) (omega arith) in omega arith) }
 
 pub depths-none : (ports slots k t count half : ℕ) (list frame : List ℕ) → k ≡ levels slots → Depths ports slots k list frame t count half → k ≤ t → 0 ∷ [] ≡ report (unbalancedBlock ports slots list frame ∷ []) (0 ∷ [])
 depths-none ports slots k t count half list frame e d h =

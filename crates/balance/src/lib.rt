@@ -114,7 +114,7 @@ pub fn unbalanced_block(
     list: &[u16],
     frame: &[u16],
 ) -> Inspection
-    requires { ⌜ RightFrame ports slots (now list) (now frame) × (depths ≡ levels slots) × (depths < 11) ⌝ }
+    requires { ⌜ RightFrame ports slots (now list) (now frame) × (depths ≡ levels slots) ⌝ }
     ensures { λ r. ⌜ finding r ≡ report (unbalancedBlock ports slots (now (list .entry)) (now (frame .entry)) ∷ []) (0 ∷ []) ⌝ }
 {
     let mut depth: usize = 0;

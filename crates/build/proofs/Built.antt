@@ -7,7 +7,6 @@ use mathlib.Core.Bool.{Bool, true, false, not}
 use native.Mathlib.Omega.{arith}
 use lib.Dec.{eqb}
 use lib.ListN.{length, getD}
-use borrow.Author.Tests.{eqb-true, not-false}
 use Rattle.rules.specs.Flows.{countsOf}
 use Rattle.calls.specs.Refusals.{report, refusal, accepted, answered, bad-frame, overloads}
 use Rattle.rules.specs.Frames.{levels}
@@ -21,9 +20,10 @@ use Rattle.calls.proofs.Reports.{report-clear, report-stops, clear-none, clear-
 use Rattle.calls.proofs.Demand2.{past-load, past-frame, clear-allows, accepts-yes}
 use Rattle.calls.specs.Demand2.{Accepts}
 use Rattle.calls.proofs.Work.{work-built}
-use Rattle.checks.specs.Lists.{ListAnswer, ListFits}
+use Rattle.checks.specs.Lists.{ListAnswer}
+use Rattle.checks.specs.Fits.{FrameFits}
 use Rattle.admission.specs.Overloads.{EveryLoad, decided}
-use Rattle.checks.proofs.Listed.{list-refused, list-well, well-taken}
+use Rattle.checks.proofs.Listed.{list-refused, list-well, list-fits, frame-fits}
 use Rattle.admission.proofs.Deciding.{decided-loads}
 use Rattle.schedule.specs.Steps.{Fillable}
 
@@ -49,9 +49,6 @@ module _ {ports slots : ℕ} {list : List ℕ} (limits buffer : List ℕ) where
     unfolding buildChecks
     list-done {x} e = refused x (list-refused is e (bad-frame ports slots buffer ∷ overloads ports slots list limits) (acceptance ports slots list limits buffer))
 
-    pub taken : a ≡ Accepted → ListFits ports list
-    taken well = well-taken (list-well is well)
-
     module _ (well : a ≡ Accepted) {t : Bool} (t-is : t ≡ not (eqb (length buffer) (slots * ports))) where
       pub frame-done : t ≡ true → Done ports slots list limits buffer (4 ∷ []) buffer
       unfolding buildChecks
@@ -59,28 +56,28 @@ module _ {ports slots : ℕ} {list : List ℕ} (limits buffer : List ℕ) where
           refused FrameLength (sym (past-load ports slots list (list-well is well) (bad-frame ports slots buffer ∷ overloads ports slots list limits) (acceptance ports slots list limits buffer) ∙ rw (sym t-is ∙ h)))
 
       module _ (no : t ≡ false) {ins outs lines : List ℕ} (loads : EveryLoad ports list ins outs lines) (b : Answer) (decides : answered b ≡ decided slots ins outs lines limits) where
-        size : length buffer ≡ slots * ports
-        size = eqb-true (length buffer) (slots * ports) (not-false (eqb (length buffer) (slots * ports)) (sym t-is ∙ no))
+        framed : FrameFits ports slots buffer
+        framed = frame-fits is well t-is no
 
         -- 5, 6 and 24 are decided by the loads and the limits
         loads-decide : answered b ≡ report (overloads ports slots list limits) accepted
-        loads-decide = decides ∙ decided-loads slots ins outs lines limits (taken well) loads
+        loads-decide = decides ∙ decided-loads slots ins outs lines limits (list-fits is well) loads
 
         pub load-done : {x : Refusal} → b ≡ Refused x → Done ports slots list limits buffer (refusal x) buffer
         unfolding buildChecks
         load-done {x} d =
             refused x
             (report-stops (overloads ports slots list limits) [] (acceptance ports slots list limits buffer) x (sym (ap answered d) ∙ loads-decide)
-            ∙ sym (past-frame ports slots list (list-well is well) buffer size (overloads ports slots list limits) (acceptance ports slots list limits buffer)))
+            ∙ sym (past-frame ports slots list (list-well is well) buffer (framed .size) (overloads ports slots list limits) (acceptance ports slots list limits buffer)))
 
         accepts : b ≡ Accepted → Accepts ports slots list limits buffer
         accepts d =
             let e : getD (report (overloads ports slots list limits) accepted) 0 0 ≡ 0 = ap (λ (l : List ℕ). getD l 0 0) (sym loads-decide ∙ ap answered d) in
             let c = clear-allows ports slots list limits (clear-none (overloads ports slots list limits) accepted (omega arith, (omega arith, (omega arith, tt))) e) in
-            record { well = list-well is well; size = size; fits = c .0; allowed = c .1 }
+            record { well = list-well is well; size = framed .size; fits = c .0; allowed = c .1 }
 
         pub fillable : b ≡ Accepted → Fillable ports slots list buffer
-        fillable d = let a = accepts d in record { well = a .well; size = a .size; fits = a .fits }
+        fillable d = record { listed = list-fits is well; framed = framed; fits = accepts d .fits }
 
         pub fills : b ≡ Accepted → {entries : List ℕ} {n : ℕ} → (n ≡ settled (levels slots) (countsOf list)) × (entries ≡ frameFor ports slots list)
             → Done ports slots list limits buffer (0 ∷ n ∷ []) entries

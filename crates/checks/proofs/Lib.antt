@@ -1,4 +1,5 @@
 -- Laws of the checks.
+pub mod Fits
 pub mod Lengths
 pub mod Listed
 pub mod Ports

@@ -1,2 +1,3 @@
--- What the checks of a list promise.
+-- What the checks of a list promise, and what holds where they let it pass.
+pub mod Fits
 pub mod Lists

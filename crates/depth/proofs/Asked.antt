@@ -21,9 +21,10 @@ use Rattle.calls.specs.declared.Answer.{Answer}
 use Rattle.calls.specs.declared.Answer.the-variants.{Accepted, Refused}
 use Rattle.calls.specs.declared.Who.{Who}
 use Rattle.calls.specs.declared.Who.the-variants.{Flow, Input, Output}
-use Rattle.checks.specs.Lists.{ListAnswer, ListFits}
+use Rattle.checks.specs.Lists.{ListAnswer}
+use Rattle.checks.specs.Fits.{ListFits}
 use Rattle.admission.specs.Overloads.{EveryLoad, decidedPorts}
-use Rattle.depth.specs.Steps.{Room, Loaded}
+use Rattle.depth.specs.Steps.{Room, PortLoads}
 use Rattle.rules.proofs.Cases.{within-true}
 use Rattle.rules.proofs.Halves.{load-flow}
 use Rattle.rules.proofs.Flows.{counts-at}
@@ -32,15 +33,15 @@ use Rattle.strays.proofs.Earliest.{earliest-most}
 use Rattle.strays.proofs.Strays.{stray-most}
 use Rattle.calls.proofs.Reports.{report-then, report-stops, clear-none}
 use Rattle.calls.proofs.Demand2.{past-load, clear-fits, cells-most}
-use Rattle.checks.proofs.Listed.{list-refused, list-well, well-taken}
+use Rattle.checks.proofs.Listed.{list-refused, list-well, list-fits}
 use Rattle.admission.proofs.Deciding.{ports-decided}
 use Rattle.depth.proofs.Peaks.{whole-low}
 
 -- ---- the load of whom is asked about
-module _ {list : List ℕ} {who : Who} {ins outs : List ℕ} (l : Loaded list who ins outs) where
+module _ {list : List ℕ} {who : Who} {ins outs : List ℕ} (l : PortLoads list who ins outs) where
   module _ {f : ℕ} (is : who ≡ Flow f) where
     flow-within : (1 ≤ f) × (f ≤ flows list)
-    flow-within = within-true 1 (flows list) f (sym (ap (whoWithin (l .ports) list) is) ∙ l .within)
+    flow-within = within-true 1 (flows list) f (sym (ap (whoWithin (l .ports) list) is) ∙ l .asked .is-within)
 
     pub flow-from-one : 1 ≤ f
     flow-from-one = flow-within .0
@@ -55,13 +56,13 @@ module _ {list : List ℕ} {who : Who} {ins outs : List ℕ} (l : Loaded list wh
 
   module _ {i : ℕ} (is : who ≡ Input i) where
     input-within : (1 ≤ i) × (i ≤ l .ports)
-    input-within = within-true 1 (l .ports) i (sym (ap (whoWithin (l .ports) list) is) ∙ l .within)
+    input-within = within-true 1 (l .ports) i (sym (ap (whoWithin (l .ports) list) is) ∙ l .asked .is-within)
 
     pub input-from-one : 1 ≤ i
     input-from-one = input-within .0
 
     pub input-in : i - 1 < 16
-    input-in = let w = input-within in omega (arith, l .few)
+    input-in = let w = input-within in omega (arith, l .asked .listed .most)
 
     pub input-fits : Fits w64 ((i - 1) * 8)
     input-fits = record { fits = omega (arith, input-in) }
@@ -73,13 +74,13 @@ module _ {list : List ℕ} {who : Who} {ins outs : List ℕ} (l : Loaded list wh
 
   module _ {o : ℕ} (is : who ≡ Output o) where
     output-within : (1 ≤ o) × (o ≤ l .ports)
-    output-within = within-true 1 (l .ports) o (sym (ap (whoWithin (l .ports) list) is) ∙ l .within)
+    output-within = within-true 1 (l .ports) o (sym (ap (whoWithin (l .ports) list) is) ∙ l .asked .is-within)
 
     pub output-from-one : 1 ≤ o
     output-from-one = output-within .0
 
     pub output-in : o - 1 < 16
-    output-in = let w = output-within in omega (arith, l .few)
+    output-in = let w = output-within in omega (arith, l .asked .listed .most)
 
     pub output-fits : Fits w64 ((o - 1) * 8)
     output-fits = record { fits = omega (arith, output-in) }
@@ -172,20 +173,19 @@ module _ {ports slots : ℕ} {list : List ℕ} {a : Answer} (l : ListAnswer port
     pub ports-shut : {x : Refusal} → b ≡ Refused x → refusal x ≡ depth ports slots list who
     ports-shut {x} d =
         report-stops (portOverloads ports slots list) (bad-who ports list who ∷ []) (bound ports slots list who) x
-        (sym (ap answered d) ∙ ports-is slots b (well-taken (list-well l e)) loads over)
+        (sym (ap answered d) ∙ ports-is slots b (list-fits l e) loads over)
         ∙ past-list ports slots list who (list-well l e)
 
     module _ (d : b ≡ Accepted) {q : Bool} (bad : q ≡ not (whoWithin ports list who)) where
       pub who-shut : q ≡ true → 12 ∷ [] ≡ depth ports slots list who
-      who-shut t = sym (rw (sym bad ∙ t)) ∙ past-ports ports slots list who (list-well l e) (ports-clear slots b (well-taken (list-well l e)) loads over d)
+      who-shut t = sym (rw (sym bad ∙ t)) ∙ past-ports ports slots list who (list-well l e) (ports-clear slots b (list-fits l e) loads over d)
 
       module _ (good : q ≡ false) where
-        pub who-open : Loaded list who ins outs
+        pub who-open : PortLoads list who ins outs
         who-open =
             record {
               ports = ports;
-              within = not-false (whoWithin ports list who) (sym bad ∙ good);
-              few = list-well l e .rack .1;
+              asked = record { listed = list-fits l e; is-within = not-false (whoWithin ports list who) (sym bad ∙ good) };
               of-inputs = loads .of-inputs;
               of-outputs = loads .of-outputs;
             }
@@ -195,14 +195,11 @@ module _ {ports slots : ℕ} {list : List ℕ} {a : Answer} (l : ListAnswer port
             record {
               power = list-well l e .power;
               fits = rw is (load-under ports slots list who (list-well l e)
-                  (clear-fits ports slots list (ports-clear slots b (well-taken (list-well l e)) loads over d)) (not-false (whoWithin ports list who) (sym bad ∙ good)));
+                  (clear-fits ports slots list (ports-clear slots b (list-fits l e) loads over d)) (not-false (whoWithin ports list who) (sym bad ∙ good)));
             }
 
         pub bound-is : {m : ℕ} {given : List ℕ} → m ≡ load (classOf who) list → given ≡ 0 ∷ farthest slots m ∷ mostWaiting slots m ∷ []
             → given ≡ depth ports slots list who
         bound-is {m} is g =
             g ∙ ap (λ z. 0 ∷ farthest slots z ∷ mostWaiting slots z ∷ []) is ∙ sym (rw (sym bad ∙ good))
-            ∙ past-ports ports slots list who (list-well l e) (ports-clear slots b (well-taken (list-well l e)) loads over d)
-
-pub list-open : {ports slots : ℕ} {list : List ℕ} {a : Answer} → ListAnswer ports slots list (answered a) → a ≡ Accepted → ListFits ports list
-list-open l e = well-taken (list-well l e)
+            ∙ past-ports ports slots list who (list-well l e) (ports-clear slots b (list-fits l e) loads over d)

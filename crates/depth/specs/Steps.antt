@@ -2,11 +2,10 @@
 use Prim.Native.Nat.{ℕ, suc, _+_, _*_, _-_, _/_, _^_, _≤_}
 use mathlib.Core.Path.{_≡_}
 use mathlib.Core.List.{List}
-use mathlib.Core.Bool.{true}
 use Rattle.rules.specs.Flows.{portOn, input, output, load}
 use Rattle.rules.specs.Frames.{Power}
-use Rattle.calls.specs.Service.{whoWithin}
 use Rattle.calls.specs.declared.Who.{Who}
+use Rattle.checks.specs.Fits.{WhoFits}
 use Rattle.admission.specs.Overloads.{Given}
 use Rattle.strays.specs.Stray.{earliest, largest}
 
@@ -28,9 +27,8 @@ pub record BothPeaks (slots m size low high : ℕ) : Type 0 where
   pub high-is : high ≡ peak slots m j (m * size / slots + 1)
 
 -- Two rows of sixteen numbers have the loads of the ports, and whom is asked about is a flow of the list or one of the ports.
-pub record Loaded (list : List ℕ) (who : Who) (ins outs : List ℕ) : Type 0 where
+pub record PortLoads (list : List ℕ) (who : Who) (ins outs : List ℕ) : Type 0 where
   pub ports : ℕ
-  pub within : whoWithin ports list who ≡ true
-  pub few : ports ≤ 16
+  pub asked : WhoFits ports list who
   pub of-inputs : Given 16 ports (λ i. load (portOn input i) list) ins
   pub of-outputs : Given 16 ports (λ o. load (portOn output o) list) outs

@@ -7,7 +7,7 @@ ghost use Rattle.rules.specs.Frames.{levels};
 ghost use Rattle.strays.specs.Stray.{stray};
 ghost use Rattle.calls.specs.Service.{classOf};
 ghost use Rattle.calls.specs.Depth.{farthest, mostWaiting, depthNumbers, depth};
-ghost use Rattle.depth.specs.Steps.{Room, BothPeaks, Loaded};
+ghost use Rattle.depth.specs.Steps.{Room, BothPeaks, PortLoads};
 use calls::Answer;
 use calls::Depth;
 use calls::Refusal;
@@ -67,7 +67,7 @@ fn stray_of(slots: usize, m: usize) -> usize
 
 // The load of whom is asked about: a flow's cells, or what is added up for its port.
 fn load_of<'a>(list: &[u16], who: Who, inputs: &'a [usize; 16], outputs: &'a [usize; 16]) -> usize
-    requires { ⌜ Loaded (now list) who (now inputs) (now outputs) ⌝ }
+    requires { ⌜ PortLoads (now list) who (now inputs) (now outputs) ⌝ }
     ensures { λ r. ⌜ r ≡ load (classOf who) (now (list .entry)) ⌝ }
 {
     match who {

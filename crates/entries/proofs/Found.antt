@@ -4,7 +4,7 @@ use mathlib.Core.Path.{_≡_, sym, ap, _∙_}
 use mathlib.Core.List.{List}
 use mathlib.Core.Bool.{Bool, true, false, not}
 use native.Mathlib.Omega.{arith}
-use native.Mathlib.Nat.{mul-le-mul-right, mul-le-mul, pow-le-pow-right}
+use native.Mathlib.Nat.{mul-le-mul-right}
 use lib.Arith.{digits-div, digits-mod}
 use lib.Dec.{eqb}
 use lib.ListN.{length, getD}
@@ -17,17 +17,17 @@ use Rattle.rules.specs.Frames.{right, cells, runOf}
 use Rattle.calls.specs.Inspect.{isWrong, twiceIn, usedTwice}
 use Rattle.rules.proofs.Cases.{byEq, byLt, within-yes, within-above}
 use Rattle.rules.proofs.Searches.{Passed, passed-start, passed-on, passed-found, passed-done, first-found, first-before}
-use Rattle.rules.proofs.Levels.{levels-power}
-use Rattle.calls.specs.Demand2.{Ported}
+use Rattle.checks.specs.Fits.{ListFits, FrameFits}
+use Rattle.checks.proofs.Fits.{frame-most}
 use Rattle.tally.specs.Tally.{RightFrame, tallyOf}
 use Rattle.tally.proofs.Tallies.{tally-class}
-use Rattle.entries.specs.Entries.{Lent, wrongIn}
+use Rattle.entries.specs.Entries.{wrongIn}
 
 -- ---- one entry
 pub idle-right : (list : List ℕ) (i e : ℕ) → e ≡ 0 → false ≡ not (right list i e)
 idle-right list i e z = rw z
 
-module _ (i e n : ℕ) (list : List ℕ) (ported : Ported 16 list) (some : e ≡ 0 → ⊥) (is : n ≡ flows list) where
+module _ (i e n : ℕ) (list : List ℕ) (fits : ListFits 16 list) (some : e ≡ 0 → ⊥) (is : n ≡ flows list) where
   pub above-wrong : n < e → true ≡ not (right list i e)
   above-wrong h = rw (ne-eqb e 0 some, within-above 1 (flows list) e (omega arith) (omega arith))
 
@@ -38,7 +38,7 @@ module _ (i e n : ℕ) (list : List ℕ) (ported : Ported 16 list) (some : e ≡
   same-input : e ≤ n → {x : ℕ} → x ≡ numberOf 0 list (e - 1) → eqb x (i + 1) ≡ eqb (portOf list inputs (e - 1)) i
   unfolding portOf
   same-input h {x} d =
-      let w = ported inputs (e - 1) (flow-in h) in
+      let w = fits .ported inputs (e - 1) (flow-in h) in
       byEq x (i + 1)
       (λ q. eq-eqb x (i + 1) q ∙ sym (eq-eqb (numberOf 0 list (e - 1) - 1) i (omega arith)))
       (λ q. ne-eqb x (i + 1) q ∙ sym (ne-eqb (numberOf 0 list (e - 1) - 1) i (λ z. q (omega arith))))
@@ -48,51 +48,37 @@ module _ (i e n : ℕ) (list : List ℕ) (ported : Ported 16 list) (some : e ≡
       let flow-here : eqb (portOf list inputs (e - 1)) i ≡ right list i e = sym (rw (ne-eqb e 0 some, within-yes 1 (flows list) e (omega arith) (omega arith))) in
       ap not (same-input h d ∙ flow-here)
 
--- ---- sizes
-pub slots-low : {ports slots : ℕ} {list entries : List ℕ} → Lent ports slots list entries → slots ≤ 1024
-slots-low {ports} {slots} l = let h = l .power in rw (levels-power slots (omega arith)) (pow-le-pow-right (omega arith) {j = 10} (omega arith))
-
-lent-low : {ports slots : ℕ} {list entries : List ℕ} → Lent ports slots list entries → slots * ports ≤ 16384
-lent-low {ports} {slots} l = let k : slots * ports ≤ 1024 * 16 = mul-le-mul (slots-low l) (l .switch .high) in omega arith
-
-pub frame-low : {ports slots : ℕ} {list frame : List ℕ} → RightFrame ports slots list frame → slots * ports ≤ 16384
-frame-low {ports} {slots} r = let k : slots * ports ≤ 1024 * 16 = mul-le-mul (r .slots-most) (r .switch .high) in omega arith
-
--- the ports of its flows are of the largest switch too
-pub lent-ported : {ports slots : ℕ} {list entries : List ℕ} → Lent ports slots list entries → Ported 16 list
-lent-ported l s f h = let w = l .switch .ported s f h in (w .0, omega (arith, w .1, l .switch .high))
-
 -- ---- the entries of a slot
-module _ {ports slots slot : ℕ} {list frame : List ℕ} (l : Lent ports slots list frame) (h : slot < slots) where
+module _ {ports slots slot : ℕ} {frame : List ℕ} (f : FrameFits ports slots frame) (h : slot < slots) where
   pub from-fits : Fits w64 (slot * ports)
-  from-fits = record { fits = (let m = mul-le-mul-right {m = slot} {n = slots} ports (omega arith) in let k = lent-low l in omega arith) }
+  from-fits = record { fits = (let m = mul-le-mul-right {m = slot} {n = slots} ports (omega arith) in let k = frame-most f in omega arith) }
 
   module _ {i : ℕ} (at : i < ports) where
     pub input-low : i < 16
-    input-low = omega (arith, l .switch .high)
+    input-low = omega (arith, f .most)
 
     pub place-low : slot * ports + i < length frame
-    place-low = let m = mul-le-mul-right {m = suc slot} {n = slots} ports h in omega (arith, l .size)
+    place-low = let m = mul-le-mul-right {m = suc slot} {n = slots} ports h in omega (arith, f .size)
 
     pub place-fits : Fits w64 (slot * ports + i)
-    place-fits = record { fits = (let m = place-low in let k = lent-low l in omega (arith, l .size)) }
+    place-fits = record { fits = (let m = place-low in let k = frame-most f in omega (arith, f .size)) }
 
     pub offset-fits : Fits w64 ((slot * ports + i) * 2)
-    offset-fits = record { fits = (let m = place-low in let k = lent-low l in omega (arith, l .size)) }
+    offset-fits = record { fits = (let m = place-low in let k = frame-most f in omega (arith, f .size)) }
 
-    module _ {e : ℕ} {r : Bool} (is : e ≡ getD frame (slot * ports + i) 0) (told : r ≡ not (right list i e)) where
+    module _ (list : List ℕ) {e : ℕ} {r : Bool} (is : e ≡ getD frame (slot * ports + i) 0) (told : r ≡ not (right list i e)) where
       pub wrong-on : Passed (wrongIn ports list frame slot) 0 ports i → r ≡ false → Passed (wrongIn ports list frame slot) 0 ports (i + 1)
       unfolding wrongIn
-      wrong-on p f = passed-on p (omega arith) (rw (sym is) (sym told ∙ f))
+      wrong-on p good = passed-on p (omega arith) (rw (sym is) (sym told ∙ good))
 
       pub wrong-found : Passed (wrongIn ports list frame slot) 0 ports i → r ≡ true → i ≡ first (wrongIn ports list frame slot) 0 ports
       unfolding wrongIn
-      wrong-found p f = passed-found p (omega arith) (rw (sym is) (sym told ∙ f))
+      wrong-found p bad = passed-found p (omega arith) (rw (sym is) (sym told ∙ bad))
 
 -- ---- outputs used twice in a slot
 module _ (ports slots o : ℕ) (list frame slot tally : List ℕ) (r : RightFrame ports slots list frame) (y : tally ≡ tallyOf ports list slot) where
   uses : o < ports → getD tally (528 + o) 0 ≡ cells (portOn output o) ports list slot
-  uses h = tally-class ports list slot tally (r .switch) y (portOn output o) h
+  uses h = tally-class ports list slot tally (r .listed) y (portOn output o) h
 
   pub twice-on : Passed (twiceIn ports list slot) 0 ports o → o < ports → getD tally (528 + o) 0 ≤ 1 → Passed (twiceIn ports list slot) 0 ports (o + 1)
   unfolding twiceIn
@@ -145,7 +131,7 @@ module _ (ports slots s o : ℕ) (low : slots * ports ≤ 16384) (h : s < slots)
   column-fits l = record { fits = (let m = mul-le-mul-right {m = suc s} {n = slots} ports h in omega arith) }
 
 -- ---- wrong entries, and outputs used twice
-module _ {ports slots s o : ℕ} {list frame : List ℕ} (l : Lent ports slots list frame) (h : s < slots) (e : o ≡ first (wrongIn ports list frame s) 0 ports) where
+module _ {ports slots s o : ℕ} (list : List ℕ) {frame : List ℕ} (f : FrameFits ports slots frame) (h : s < slots) (e : o ≡ first (wrongIn ports list frame s) 0 ports) where
   in-place : (s u : ℕ) → u < ports → isWrong ports list frame (s * ports + u) ≡ wrongIn ports list frame s u
   unfolding isWrong wrongIn
   in-place s u k = rw (digits-mod s k)
@@ -157,10 +143,10 @@ module _ {ports slots s o : ℕ} {list frame : List ℕ} (l : Lent ports slots l
   entries-found = found ports slots (isWrong ports list frame) (wrongIn ports list frame) in-place s o h e
 
   pub entries-row : Fits w64 (s * ports)
-  entries-row = row-fits ports slots s o (lent-low l) h
+  entries-row = row-fits ports slots s o (frame-most f) h
 
   pub entries-fits : o < ports → Fits w64 (s * ports + o)
-  entries-fits k = column-fits ports slots s o (lent-low l) h k
+  entries-fits k = column-fits ports slots s o (frame-most f) h k
 
 module _ {ports slots s o : ℕ} {list frame : List ℕ} (r : RightFrame ports slots list frame) (h : s < slots) (e : o ≡ first (twiceIn ports list (runOf ports s 1 frame)) 0 ports) where
   in-slot : (s u : ℕ) → u < ports → usedTwice ports list frame (s * ports + u) ≡ twiceIn ports list (runOf ports s 1 frame) u
@@ -174,13 +160,10 @@ module _ {ports slots s o : ℕ} {list frame : List ℕ} (r : RightFrame ports s
   outputs-found = found ports slots (usedTwice ports list frame) (λ s. twiceIn ports list (runOf ports s 1 frame)) in-slot s o h e
 
   pub outputs-row : Fits w64 (s * ports)
-  outputs-row = row-fits ports slots s o (frame-low r) h
+  outputs-row = row-fits ports slots s o (frame-most (r .framed)) h
 
   pub outputs-fits : o < ports → Fits w64 (s * ports + o)
-  outputs-fits k = column-fits ports slots s o (frame-low r) h k
+  outputs-fits k = column-fits ports slots s o (frame-most (r .framed)) h k
 
-pub whole-fits : {ports slots : ℕ} {list frame : List ℕ} → RightFrame ports slots list frame → Fits w64 (slots * ports)
-whole-fits r = record { fits = (let k = frame-low r in omega arith) }
-
-pub lent-fits : {ports slots : ℕ} {list frame : List ℕ} → Lent ports slots list frame → Fits w64 (slots * ports)
-lent-fits l = record { fits = (let k = lent-low l in omega arith) }
+pub whole-fits : {ports slots : ℕ} {frame : List ℕ} → FrameFits ports slots frame → Fits w64 (slots * ports)
+whole-fits f = record { fits = omega (arith, frame-most f) }

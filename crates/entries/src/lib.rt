@@ -5,9 +5,9 @@ ghost use Prim.Native.Nat.{_*_, _<_};
 ghost use Rattle.rules.specs.Words.{first};
 ghost use Rattle.rules.specs.Frames.{right, runOf};
 ghost use Rattle.calls.specs.Inspect.{isWrong, twiceIn, usedTwice};
-ghost use Rattle.calls.specs.Demand2.{Ported};
+ghost use Rattle.checks.specs.Fits.{ListFits, FrameFits};
 ghost use Rattle.tally.specs.Tally.{RightFrame};
-ghost use Rattle.entries.specs.Entries.{Lent, wrongIn};
+ghost use Rattle.entries.specs.Entries.{wrongIn};
 use flows::flows_of;
 use flows::number_of;
 use tally::OUTPUTS_AT;
@@ -16,7 +16,7 @@ use tally::tally_run;
 
 // An entry of an input is neither 0 nor the number of a flow of that input.
 fn is_wrong(list: &[u16], input: usize, entry: usize) -> bool
-    requires { ⌜ Ported 16 (now list) × (input < 16) ⌝ }
+    requires { ⌜ ListFits 16 (now list) × (input < 16) ⌝ }
     ensures { λ r. ⌜ r ≡ not (right (now (list .entry)) input entry) ⌝ }
 {
     if entry == 0 {
@@ -30,7 +30,7 @@ fn is_wrong(list: &[u16], input: usize, entry: usize) -> bool
 
 // The lowest input of a slot whose entry is wrong; ports where there is none.
 fn lowest_wrong(ports: usize, slots: usize, list: &[u16], frame: &[u16], slot: usize) -> usize
-    requires { ⌜ Lent ports slots (now list) (now frame) × (slot < slots) ⌝ }
+    requires { ⌜ ListFits ports (now list) × FrameFits ports slots (now frame) × (slot < slots) ⌝ }
     ensures { λ r. ⌜ r ≡ first (wrongIn ports (now (list .entry)) (now (frame .entry)) slot) 0 ports ⌝ }
 {
     let from = slot * ports;
@@ -47,7 +47,7 @@ fn lowest_wrong(ports: usize, slots: usize, list: &[u16], frame: &[u16], slot: u
 
 // The place of the first wrong entry; the frame's length where there is none.
 pub fn first_wrong(ports: usize, slots: usize, list: &[u16], frame: &[u16]) -> usize
-    requires { ⌜ Lent ports slots (now list) (now frame) ⌝ }
+    requires { ⌜ ListFits ports (now list) × FrameFits ports slots (now frame) ⌝ }
     ensures { λ r. ⌜ r ≡ first (isWrong ports (now (list .entry)) (now (frame .entry))) 0 (slots * ports) ⌝ }
 {
     let mut s: usize = 0;

@@ -31,12 +31,12 @@ module _ {ports slots n f : ℕ} {list frame tally : List ℕ} (r : RightFrame p
   counting-in = omega (arith, c .all)
 
   pub counting-low : f < 609
-  counting-low = omega (arith, c .all, r .switch .few)
+  counting-low = omega (arith, c .all, r .listed .few)
 
   count-is : getD tally f 0 ≡ cells (flow f) ports list frame
   count-is =
-      tally-class ports list (runOf ports 0 slots frame) tally (r .switch) (c .tallied) (flow f) counting-in
-      ∙ ap (cells (flow f) ports list) (run-all ports slots frame (r .size))
+      tally-class ports list (runOf ports 0 slots frame) tally (r .listed) (c .tallied) (flow f) counting-in
+      ∙ ap (cells (flow f) ports list) (run-all ports slots frame (r .framed .size))
 
   load-is : numberOf 2 list f ≡ load (flow f) list
   load-is = sym (load-flow f (portOf list) (countsOf list) ∙ counts-at list f counting-in)

@@ -4,13 +4,13 @@ use mathlib.Core.Path.{_≡_, sym, _∙_}
 use mathlib.Core.List.{List, [], _∷_}
 use mathlib.Core.Bool.{Bool, true, false, not}
 use native.Mathlib.Omega.{arith}
-use native.Mathlib.Nat.{div-le-self, mod-le, mul-le-mul}
+use native.Mathlib.Nat.{div-le-self, mod-le}
 use native.Mathlib.Numerals.{add-one}
 use mir.Syntax.{w64}
 use mir.Val.{Fits}
 use lib.Dec.{eqb}
 use lib.ListN.{length}
-use borrow.Author.Tests.{lt-ltb, le-ltb, not-false, eqb-true}
+use borrow.Author.Tests.{lt-ltb, le-ltb, not-false}
 use Rattle.rules.specs.Words.{first}
 use Rattle.rules.specs.Flows.{flows}
 use Rattle.calls.specs.Refusals.{Check, report, refusal, answered, bad-frame}
@@ -19,14 +19,13 @@ use Rattle.rules.proofs.Searches.{first-before}
 use Rattle.calls.specs.declared.Refusal.{Refusal}
 use Rattle.calls.specs.declared.Answer.{Answer}
 use Rattle.calls.specs.declared.Answer.the-variants.{Accepted, Refused}
-use Rattle.rules.proofs.Levels.{power-level}
 use Rattle.calls.proofs.Demand2.{past-load, past-frame}
 use Rattle.checks.specs.Lists.{ListAnswer}
-use Rattle.checks.proofs.Listed.{list-refused, list-well}
+use Rattle.checks.specs.Fits.{ListFits, FrameFits}
+use Rattle.checks.proofs.Fits.{entries-most}
+use Rattle.checks.proofs.Listed.{list-refused, list-well, frame-fits}
 use Rattle.tally.specs.Tally.{RightFrame}
-use Rattle.entries.specs.Entries.{Lent}
 use Rattle.inspection.specs.Faults.{faults}
-use Rattle.entries.proofs.Found.{slots-low}
 
 -- ---- one fault that is a place
 module _ (number width n q : ℕ) (wrong : ℕ → Bool) (e : q ≡ first wrong 0 n) (cs : List Check) (asked : List ℕ) where
@@ -36,10 +35,7 @@ module _ (number width n q : ℕ) (wrong : ℕ → Bool) (e : q ≡ first wrong 
   place-none : n ≤ q → report (firstPlace number wrong width n ∷ cs) asked ≡ report cs asked
   place-none h = rw (← e, le-ltb q n h)
 
-module _ (ports slots : ℕ) (list frame : List ℕ) (l : Lent ports slots list frame) where
-  frame-low : length frame ≤ 16384
-  frame-low = let k : slots * ports ≤ 1024 * 16 = mul-le-mul (slots-low l) (l .switch .high) in omega (arith, l .size)
-
+module _ (ports slots : ℕ) (list frame : List ℕ) (l : ListFits ports list) (f : FrameFits ports slots frame) where
   -- the checks after the first fault, and after the second
   abbrev after-one : List Check
   after-one = outputTwice ports slots list frame ∷ flowCount ports list frame ∷ unbalancedBlock ports slots list frame ∷ []
@@ -48,38 +44,37 @@ module _ (ports slots : ℕ) (list frame : List ℕ) (l : Lent ports slots list 
   after-two = flowCount ports list frame ∷ unbalancedBlock ports slots list frame ∷ []
 
   pub row-fits : (q : ℕ) → q < length frame → Fits w64 (q / ports + 1)
-  row-fits q h = record { fits = (let k = frame-low in let d = div-le-self q ports in omega arith) }
+  row-fits q h = record { fits = (let k = entries-most f in let d = div-le-self q ports in omega arith) }
 
   pub column-fits : (q : ℕ) → q < length frame → Fits w64 (q % ports + 1)
-  column-fits q h = record { fits = (let k = frame-low in let d = mod-le q ports in omega arith) }
+  column-fits q h = record { fits = (let k = entries-most f in let d = mod-le q ports in omega arith) }
 
-  pub flow-fits : (f n : ℕ) → n ≡ flows list → f < n → Fits w64 (f + 1)
-  flow-fits f n e h = record { fits = omega (arith, l .switch .few) }
+  pub flow-fits : (g n : ℕ) → n ≡ flows list → g < n → Fits w64 (g + 1)
+  flow-fits g n e h = record { fits = omega (arith, l .few) }
 
   module _ (q : ℕ) (e : q ≡ first (isWrong ports list frame) 0 (slots * ports)) where
     pub wrong-entry : q < length frame → 101 ∷ (q / ports + 1) ∷ (q % ports + 1) ∷ [] ≡ faults ports slots list frame
-    wrong-entry h = place-found 101 ports (slots * ports) q (isWrong ports list frame) e after-one (0 ∷ []) (omega (arith, l .size))
+    wrong-entry h = place-found 101 ports (slots * ports) q (isWrong ports list frame) e after-one (0 ∷ []) (omega (arith, f .size))
 
     pub readable : length frame ≤ q → RightFrame ports slots list frame
     unfolding isWrong
     readable h =
         record {
-          switch = l .switch;
-          slots-most = slots-low l;
-          size = l .size;
-          each-right = λ x k. not-false _ (first-before (isWrong ports list frame) (slots * ports) 0 x (omega arith) (omega (arith, l .size)));
+          listed = l;
+          framed = f;
+          each-right = λ x k. not-false _ (first-before (isWrong ports list frame) (slots * ports) 0 x (omega arith) (omega (arith, f .size)));
         }
 
-    module _ (none : length frame ≤ q) (s : ℕ) (f : s ≡ first (usedTwice ports list frame) 0 (slots * ports)) where
+    module _ (none : length frame ≤ q) (s : ℕ) (twos : s ≡ first (usedTwice ports list frame) 0 (slots * ports)) where
       first-off : faults ports slots list frame ≡ report after-one (0 ∷ [])
-      first-off = place-none 101 ports (slots * ports) q (isWrong ports list frame) e after-one (0 ∷ []) (omega (arith, l .size))
+      first-off = place-none 101 ports (slots * ports) q (isWrong ports list frame) e after-one (0 ∷ []) (omega (arith, f .size))
 
       pub twice : s < length frame → 102 ∷ (s / ports + 1) ∷ (s % ports + 1) ∷ [] ≡ faults ports slots list frame
-      twice h = place-found 102 ports (slots * ports) s (usedTwice ports list frame) f after-two (0 ∷ []) (omega (arith, l .size)) ∙ sym first-off
+      twice h = place-found 102 ports (slots * ports) s (usedTwice ports list frame) twos after-two (0 ∷ []) (omega (arith, f .size)) ∙ sym first-off
 
       module _ (once : length frame ≤ s) (p n : ℕ) (g : p ≡ first (wrongCount ports list frame) 0 (flows list)) (is : n ≡ flows list) where
         second-off : faults ports slots list frame ≡ report after-two (0 ∷ [])
-        second-off = first-off ∙ place-none 102 ports (slots * ports) s (usedTwice ports list frame) f after-two (0 ∷ []) (omega (arith, l .size))
+        second-off = first-off ∙ place-none 102 ports (slots * ports) s (usedTwice ports list frame) twos after-two (0 ∷ []) (omega (arith, f .size))
 
         pub wrong-count : p < n → 103 ∷ (p + 1) ∷ [] ≡ faults ports slots list frame
         wrong-count h = rw (add-one p) (sym (rw (sym g, lt-ltb p (flows list) (omega arith)))) ∙ sym second-off
@@ -103,16 +98,7 @@ module _ {ports slots : ℕ} {list : List ℕ} (frame : List ℕ) {a : Answer} (
     unfolding inspected
     inspect-frame e = sym (past-load ports slots list (list-well is yes) (bad-frame ports slots frame ∷ frameChecks ports slots list frame) (0 ∷ []) ∙ rw (sym length-is ∙ e))
 
-    pub lent : t ≡ false → Lent ports slots list frame
-    lent e =
-        let w = list-well is yes in
-        record {
-          switch = record { low = w .rack .0; high = w .rack .1; few = w .few; ported = w .ported; linked = w .linked };
-          power = omega (arith, power-level (w .power), w .power .most);
-          size = eqb-true (length frame) (slots * ports) (not-false _ (sym length-is ∙ e));
-        }
-
     pub inspect-faults : t ≡ false → {r : List ℕ} → r ≡ faults ports slots list frame → r ≡ inspected ports slots list frame
     unfolding inspected
     inspect-faults e d =
-        d ∙ sym (past-frame ports slots list (list-well is yes) frame (lent e .size) (frameChecks ports slots list frame) (0 ∷ []))
+        d ∙ sym (past-frame ports slots list (list-well is yes) frame (frame-fits is {frame = frame} yes length-is e .size) (frameChecks ports slots list frame) (0 ∷ []))

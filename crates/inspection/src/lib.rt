@@ -4,8 +4,8 @@ ghost use Prim.Native.Nat.{_<_};
 ghost use Rattle.rules.specs.Words.{first};
 ghost use Rattle.rules.specs.Flows.{flows};
 ghost use Rattle.calls.specs.Inspect.{finding, wrongCount, inspected};
+ghost use Rattle.checks.specs.Fits.{ListFits, FrameFits};
 ghost use Rattle.tally.specs.Tally.{RightFrame};
-ghost use Rattle.entries.specs.Entries.{Lent};
 ghost use Rattle.inspection.specs.Faults.{faults};
 use balance::unbalanced_block;
 use calls::Answer;
@@ -39,7 +39,7 @@ fn first_wrong_count(ports: usize, slots: usize, list: &[u16], frame: &[u16]) ->
 
 // The faults, in their order over the whole frame.
 fn first_fault(ports: usize, slots: usize, list: &[u16], frame: &[u16]) -> Inspection
-    requires { ⌜ Lent ports slots (now list) (now frame) ⌝ }
+    requires { ⌜ ListFits ports (now list) × FrameFits ports slots (now frame) ⌝ }
     ensures { λ r. ⌜ finding r ≡ faults ports slots (now (list .entry)) (now (frame .entry)) ⌝ }
 {
     let q = first_wrong(ports, slots, list, frame);

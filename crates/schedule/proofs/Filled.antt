@@ -13,7 +13,7 @@ use Rattle.calls.specs.Build.{frameFor}
 use Rattle.rules.proofs.Levels.{pow-less, power-level}
 use Rattle.rules.proofs.Flows.{counts-length, counts-at}
 use Rattle.rules.proofs.Halves.{load-has}
-use Rattle.calls.proofs.Demand2.{well-placed}
+use Rattle.checks.proofs.Fits.{input-below, level-low}
 use Rattle.rules.proofs.SamePorts.{frame-same}
 use Rattle.planes.specs.Planes.{countsIn, BlockPlanes}
 use Rattle.planes.specs.Steps.{Loaded}
@@ -25,14 +25,14 @@ module _ {ports slots : ℕ} {list buffer : List ℕ} (f : Fillable ports slots 
   -- the cells of a flow are at most the load of its input
   cells-most : (q : ℕ) → q < flows list → numberOf 2 list q ≤ slots
   cells-most q h =
-      let i-lt = well-placed (f .well) q h in
+      let i-lt = input-below (f .listed) q h in
       omega (arith, f .fits (portOf list inputs q) i-lt .0, load-has (portOn input (portOf list inputs q)) (portOf list) (countsOf list) q (omega (arith, counts-length list)) (eq-eqb (portOf list inputs q) (portOf list inputs q) refl), counts-at list q h)
 
   power : slots ≡ 2 ^ levels slots
-  power = f .well .power .is ∙ ap (λ (k : ℕ). 2 ^ k) (sym (power-level (f .well .power)))
+  power = f .framed .power .is ∙ ap (λ (k : ℕ). 2 ^ k) (sym (power-level (f .framed .power)))
 
   pub levels-low : levels slots ≤ 10
-  levels-low = omega (arith, power-level (f .well .power), f .well .power .most)
+  levels-low = omega (arith, level-low (f .framed))
 
   pub cells-room : (q : ℕ) → q < flows list → numberOf 2 list q < 2 ^ 11
   cells-room q h = omega (arith, cells-most q h, power, pow-less (levels slots) 11 (omega (arith, levels-low)))
@@ -43,7 +43,7 @@ module _ {ports slots : ℕ} {list buffer : List ℕ} (f : Fillable ports slots 
 
   pub loaded-block : {m n : ℕ} {planes : List ℕ} → m ≡ levels slots → n ≡ flows list → Loaded list planes → BlockPlanes m n planes
   loaded-block {m} {n} {planes} e d g =
-      let few = f .well .few in
+      let few = f .listed .few in
       record {
         few = omega arith;
         most = λ p h.
@@ -60,7 +60,7 @@ module _ {ports slots : ℕ} {list buffer : List ℕ} (f : Fillable ports slots 
       }
 
   pub frame-blank : {m : ℕ} {entries : List ℕ} → m ≡ levels slots → entries ≡ replicate (length buffer) 0 → entries ≡ replicate (2 ^ m * ports) 0
-  frame-blank e d = d ∙ ap (λ (n : ℕ). replicate n 0) (f .size ∙ ap (λ (x : ℕ). x * ports) (power ∙ ap (λ (k : ℕ). 2 ^ k) (sym e)))
+  frame-blank e d = d ∙ ap (λ (n : ℕ). replicate n 0) (f .framed .size ∙ ap (λ (x : ℕ). x * ports) (power ∙ ap (λ (k : ℕ). 2 ^ k) (sym e)))
 
   -- what the planes and the tables give is what the list gives
   module _ {m n : ℕ} {planes : List ℕ} (e : m ≡ levels slots) (d : n ≡ flows list) (g : Loaded list planes) where

@@ -10,8 +10,7 @@ use borrow.Author.Tests.{ne-eqb}
 use Rattle.rules.specs.Words.{if, Within}
 use Rattle.rules.specs.Flows.{End, inputs, links, flows, outputOf, numberOf, portOf}
 use Rattle.rules.proofs.Cases.{byEq}
-use Rattle.calls.specs.Demand2.{Ported, Linked}
-use Rattle.checks.specs.Lists.{ListFits}
+use Rattle.checks.specs.Fits.{ListFits}
 use Rattle.bits.specs.Digits.{digit, PutAt}
 use Rattle.bits.proofs.Digits.{digit-none, if-same, if-other}
 use Rattle.planes.specs.Tables.{WideEnds, tabled}
@@ -21,9 +20,7 @@ use Rattle.schedule.specs.Steps.{Tables, Tabled}
 -- ---- one more flow
 pub record Tabling (list : List ℕ) (n f multi : ℕ) (ends : List ℕ) : Type 0 where
   pub all : n ≡ flows list
-  pub few : flows list ≤ 512
-  pub ported : Ported 16 list
-  pub linked : Linked list
+  pub listed : ListFits 16 list
   pub most : f ≤ n
   pub len : WideEnds ends
   pub has : (s : End) (q : ℕ) → q < f → tabled ends s q ≡ portOf list s q
@@ -34,9 +31,7 @@ pub tabling-start : {list ends : List ℕ} {n : ℕ} → n ≡ flows list → Li
 tabling-start e t l =
     record {
       all = e;
-      few = t .few;
-      ported = t .ported;
-      linked = t .linked;
+      listed = t;
       most = omega arith;
       len = l;
       has = λ s q h. absurd (omega arith);
@@ -49,17 +44,17 @@ module _ {list ends : List ℕ} {n f multi : ℕ} (t : Tabling list n f multi en
   tabling-in = omega (arith, t .all)
 
   pub tabling-low : f < 512
-  tabling-low = omega (arith, t .all, t .few)
+  tabling-low = omega (arith, t .all, t .listed .few)
 
   -- the number of an input, from 1
   pub in-low : {x : ℕ} → x ≡ numberOf 0 list f → (1 ≤ x) × (x ≤ 16)
-  in-low e = let p = t .ported inputs f tabling-in in (omega arith, omega arith)
+  in-low e = let p = t .listed .ported inputs f tabling-in in (omega arith, omega arith)
 
   pub out-in : Within 1 16 (numberOf 1 list f)
-  out-in = t .ported links f tabling-in
+  out-in = t .listed .ported links f tabling-in
 
   pub link-in : Within 1 4 (numberOf 3 list f)
-  link-in = t .linked f tabling-in
+  link-in = t .listed .linked f tabling-in
 
   pub tabling-on : {x y d r : ℕ} → x ≡ numberOf 0 list f → y ≡ portOf list links f → y < 64 → d ≡ if (eqb (y % 4) 0) 0 1 → PutAt multi (outputOf y) d r
       → Tabling list n (f + 1) r (set (set ends (0 + f) (x - 1)) (528 + f) y)
@@ -67,9 +62,7 @@ module _ {list ends : List ℕ} {n f multi : ℕ} (t : Tabling list n f multi en
   tabling-on {x} {y} {d} {r} ex ey low ed put =
       record {
         all = t .all;
-        few = t .few;
-        ported = t .ported;
-        linked = t .linked;
+        listed = t .listed;
         most = omega arith;
         len = length-set half (528 + f) y ∙ length-set ends (0 + f) (x - 1) ∙ t .len;
         has = has;
@@ -112,8 +105,8 @@ module _ {list ends : List ℕ} {n f multi : ℕ} (t : Tabling list n f multi en
   sides-end = record { low = low; few = t .outputs; others = λ p k. rw (tabling-end .has links p k) (t .firsts p (omega (arith, all-tabled))) }
     where
       low : (s : End) (p : ℕ) → p < flows list → tabled ends s p < 64
-      low inputs p k = let a = t .ported inputs p k in omega (arith, tabling-end .has inputs p k)
-      low links p k = let a = t .ported links p k in let b = t .linked p k in omega (arith, tabling-end .has links p k)
+      low inputs p k = let a = t .listed .ported inputs p k in omega (arith, tabling-end .has inputs p k)
+      low links p k = let a = t .listed .ported links p k in let b = t .listed .linked p k in omega (arith, tabling-end .has links p k)
 
 -- ---- the table of a list
 pub tables-of : {ports n multi : ℕ} {list ends : List ℕ} → ListFits ports list → Tabled list ends → Sides (flows list) multi ends → n ≡ flows list → Tables ports n multi ends
@@ -123,14 +116,4 @@ tables-of t h s e =
       few = t .most;
       at-inputs = λ p l. let a = t .ported inputs p (omega arith) in omega (arith, h .has inputs p (omega arith));
       sides = rw e s;
-    }
-
--- a list's ports are among 16
-pub taken-most : {ports : ℕ} {list : List ℕ} → ListFits ports list → ListFits 16 list
-taken-most t =
-    record {
-      most = omega arith;
-      few = t .few;
-      ported = λ s f h. let p = t .ported s f h in let m = t .most in (omega arith, omega arith);
-      linked = t .linked;
     }

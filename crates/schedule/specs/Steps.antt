@@ -1,20 +1,20 @@
 -- The steps of a frame, as functions of the lists that they are lent.
-use Prim.Native.Nat.{ℕ, _*_, _≤_, _<_}
+use Prim.Native.Nat.{ℕ, _≤_, _<_}
 use mathlib.Core.Path.{_≡_}
 use mathlib.Core.List.{List}
 use lib.ListN.{length}
 use Rattle.rules.specs.Words.{Every}
 use Rattle.rules.specs.Flows.{End, inputs, flows, portOf, countsOf, Fits}
 use Rattle.rules.specs.Schedule.{put}
-use Rattle.calls.specs.Demand2.{WellFormed}
+use Rattle.checks.specs.Fits.{ListFits, FrameFits}
 use Rattle.planes.specs.Tables.{tabled}
 use Rattle.split.specs.Steps.{Sides}
 
 -- ---- what is built
--- A well-formed load that fits, and a frame of the right size.
+-- A list whose loads fit the slots of a frame.
 pub record Fillable (ports slots : ℕ) (list buffer : List ℕ) : Type 0 where
-  pub well : WellFormed ports slots list
-  pub size : length buffer ≡ slots * ports
+  pub listed : ListFits ports list
+  pub framed : FrameFits ports slots buffer
   pub fits : Fits ports slots (portOf list) (countsOf list)
 
 -- ---- ports

@@ -11,7 +11,7 @@ ghost use Prim.Native.Nat.{_%_, _≤_};
 ghost use lib.Dec.{eqb};
 ghost use Rattle.rules.specs.Words.{if};
 ghost use Rattle.rules.specs.Flows.{flows};
-ghost use Rattle.checks.specs.Lists.{ListFits};
+ghost use Rattle.checks.specs.Fits.{ListFits};
 ghost use Rattle.planes.specs.Tables.{WideEnds};
 ghost use Rattle.split.specs.Steps.{Sides};
 ghost use Rattle.schedule.specs.Steps.{Tabled};

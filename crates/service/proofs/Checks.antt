@@ -6,13 +6,11 @@ use mathlib.Core.Bool.{Bool, true, false, not}
 use native.Mathlib.Omega.{arith}
 use lib.Dec.{eqb, ltb}
 use lib.ListN.{length}
-use lib.Pow.{pow-pos}
-use borrow.Author.Tests.{ltb-false, not-false, eqb-true}
+use borrow.Author.Tests.{ltb-false, not-false}
 use Rattle.rules.specs.Words.{within}
 use Rattle.calls.specs.Refusals.{Check, report, none-holds, refusal, answered, listChecks, bad-frame, bad-slot}
 use Rattle.calls.specs.Service.{classOf, whoWithin, bad-who, bad-length, lead, served, countChecks, service}
 use Rattle.rules.specs.Frames.{repeated, cells}
-use Rattle.rules.specs.Flows.{links}
 use Rattle.calls.specs.declared.Answer.{Answer}
 use Rattle.calls.specs.declared.Answer.the-variants.{Accepted}
 use Rattle.calls.specs.declared.Answer.the-variants as answer
@@ -21,13 +19,12 @@ use Rattle.calls.specs.declared.Refusal.the-variants.{FrameLength, SlotNumber, 
 use Rattle.calls.specs.declared.Who.{Who}
 use Rattle.calls.specs.declared.Count.{Count}
 use Rattle.calls.specs.declared.Service.the-variants.{Counted, Refused}
-use Rattle.rules.proofs.Levels.{power-most}
 use Rattle.calls.proofs.Reports.{clear-then, refusal-number, within-known}
 use Rattle.calls.proofs.Replies.{count, reply-refused, reply-counted}
 use Rattle.calls.proofs.Demand2.{past-load, well-clear}
 use Rattle.checks.specs.Lists.{ListAnswer}
-use Rattle.checks.proofs.Listed.{list-refused, list-well}
-use Rattle.service.specs.Whom.{Sent, CountAsked}
+use Rattle.checks.proofs.Listed.{list-refused, list-well, list-fits, frame-fits}
+use Rattle.service.specs.Whom.{CountAsked}
 
 -- what comes after the checks of the list
 abbrev restOf : ℕ → ℕ → List ℕ → List ℕ → Who → ℕ → ℕ → List Check
@@ -67,17 +64,10 @@ module _ {ports slots : ℕ} {list : List ℕ} {a : Answer} (frame : List ℕ) (
             module _ (m' : f ≡ false) where
               pub asked : CountAsked ports slots list frame who (start - 1) len
               asked =
-                  let w = list-well is yes in
-                  let sent : Sent list = record { from-one = λ f h. w .ported links f h .0; linked = w .linked } in
                   let t = within-known {n = start} {most = slots} s s' in
                   record {
-                    framed = record {
-                      ports-most = w .rack .1;
-                      slot = omega (arith, w .power .is, pow-pos (w .power .k));
-                      slots-most = omega (arith, w .power .is, power-most (w .power));
-                      size = eqb-true (length frame) (slots * ports) (not-false _ (sym l ∙ l'));
-                    };
-                    named = record { within-is = not-false (whoWithin ports list who) (sym p ∙ p'); sent = sent };
+                    framed = frame-fits is yes l l';
+                    asked = record { listed = list-fits is yes; is-within = not-false (whoWithin ports list who) (sym p ∙ p') };
                     start-is = omega (arith, t .0, t .1);
                     length-is = ltb-false 1000000 len (sym m ∙ m');
                   }

@@ -11,7 +11,9 @@ use Rattle.rules.specs.Frames.{cells, runOf, repeated}
 use Rattle.calls.specs.Service.{classOf, lead}
 use Rattle.calls.specs.declared.Who.{Who}
 use Rattle.rules.proofs.Runs.{cells-most, repeated-most, cells-turns}
-use Rattle.service.specs.Whom.{Framed, CountAsked}
+use Rattle.checks.specs.Fits.{FrameFits}
+use Rattle.checks.proofs.Fits.{entries-most}
+use Rattle.service.specs.Whom.{CountAsked}
 
 -- the entries of a run inside a frame
 pub part-run : (ports start len : ℕ) (entries : List ℕ) → take (start * ports + len * ports - start * ports) (drop (start * ports) entries) ≡ runOf ports start len entries
@@ -20,12 +22,9 @@ part-run ports start len entries =
     let e : start * ports + len * ports - start * ports ≡ len * ports = omega arith in
     ap (λ z. take z (drop (start * ports) entries)) e
 
-module _ {ports slots : ℕ} {entries : List ℕ} (f : Framed ports slots entries) where
-  pub frame-short : length entries ≤ 16384
-  frame-short = omega (arith, f .size, mul-le-mul (f .slots-most) (f .ports-most))
-
+module _ {ports slots : ℕ} {entries : List ℕ} (f : FrameFits ports slots entries) where
   pub part-short : (n m : ℕ) → length (take n (drop m entries)) ≤ 16384
-  part-short n m = omega (arith, frame-short, length-take n (drop m entries), length-drop m entries)
+  part-short n m = omega (arith, entries-most f, length-take n (drop m entries), length-drop m entries)
 
   pub run-inside : (start len : ℕ) → start + len ≤ slots → start * ports + len * ports ≤ length entries
   run-inside start len h = omega (arith, f .size, mul-le-mul-right ports h)
@@ -33,11 +32,11 @@ module _ {ports slots : ℕ} {entries : List ℕ} (f : Framed ports slots entrie
 module _ {ports slots : ℕ} {list entries : List ℕ} {who : Who} {start len : ℕ} (a : CountAsked ports slots list entries who start len) where
   -- what the whole frame holds, and a run of at most 1,000,000 slots
   pub whole-fits : {n : ℕ} → n ≡ cells (classOf who) ports list entries → n ≤ 16384
-  whole-fits e = omega (arith, e, cells-most (classOf who) ports list entries, frame-short (a .framed))
+  whole-fits e = omega (arith, e, cells-most (classOf who) ports list entries, entries-most (a .framed))
 
   pub run-fits : {n : ℕ} → n ≡ cells (classOf who) ports list (repeated ports slots entries start len) → n ≤ 16000000
   run-fits e =
-      omega (arith, e, repeated-most (classOf who) ports slots list entries start len, mul-le-mul (a .length-is) (a .framed .ports-most))
+      omega (arith, e, repeated-most (classOf who) ports slots list entries start len, mul-le-mul (a .length-is) (a .framed .most))
 
   -- whole turns, the part before the frame's end, and the part after it
   pub parts-run : (head tail : ℕ) {whole before after : ℕ} → head ≡ min (len % slots) (slots - start) → head + tail ≡ len % slots

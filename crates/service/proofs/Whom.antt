@@ -7,7 +7,7 @@ use native.Mathlib.Omega.{arith}
 use lib.Dec.{eqb}
 use borrow.Author.Tests.{eq-eqb, ne-eqb}
 use Rattle.rules.specs.Words.{bit}
-use Rattle.rules.specs.Flows.{flows, numberOf, Class, flow, portOn, input, output, link, total, OnSwitch}
+use Rattle.rules.specs.Flows.{flows, numberOf, links, Class, flow, portOn, input, output, link, total, OnSwitch}
 use Rattle.rules.specs.Frames.{counts}
 use Rattle.calls.specs.Service.{classOf, whoWithin}
 use Rattle.calls.specs.declared.Who.{Who}
@@ -15,7 +15,9 @@ use Rattle.calls.specs.declared.Who.the-variants.{Flow, Input, Output}
 use Rattle.rules.proofs.Cases.{byEq, within-true, within-yes, within-above}
 use Rattle.rules.proofs.Flows.{output-is, flow-counts}
 use Rattle.calls.proofs.Replies.{who-of}
-use Rattle.service.specs.Whom.{Sent, whoNumber, WhoNumbered, Named, firstEntry, nextEntry}
+use Rattle.checks.specs.Fits.{ListFits, WhoFits}
+use Rattle.checks.proofs.Fits.{fits-sixteen}
+use Rattle.service.specs.Whom.{whoNumber, WhoNumbered, firstEntry, nextEntry}
 
 -- ---- what is known where 12 does not hold
 named-low : (ports : ℕ) (list : List ℕ) (who : Who) → whoWithin ports list who ≡ true → 1 ≤ whoNumber who
@@ -23,16 +25,16 @@ named-low ports list (Flow f) e = within-true 1 (flows list) f e .0
 named-low ports list (Input i) e = within-true 1 ports i e .0
 named-low ports list (Output o) e = within-true 1 ports o e .0
 
-module _ {ports : ℕ} {list : List ℕ} {who : Who} (n : Named ports list who) where
+module _ {ports : ℕ} {list : List ℕ} {who : Who} (n : WhoFits ports list who) where
   pub named-from-one : 1 ≤ whoNumber who
-  named-from-one = named-low ports list who (n .within-is)
+  named-from-one = named-low ports list who (n .is-within)
 
   pub named-numbered : WhoNumbered list who
   named-numbered =
       record {
         from-one = named-from-one;
-        listed = λ f is. within-true 1 (flows list) f (ap (whoWithin ports list) (sym is) ∙ n .within-is) .1;
-        sent = n .sent;
+        most = λ f is. within-true 1 (flows list) f (ap (whoWithin ports list) (sym is) ∙ n .is-within) .1;
+        listed = fits-sixteen (n .listed);
       }
 
 module _ {who : Who} (low : 1 ≤ whoNumber who) where
@@ -56,9 +58,9 @@ next-low ports (Flow f) l = omega arith
 next-low ports (Input i) l = omega arith
 next-low ports (Output o) l = omega arith
 
-pub who-placed : (ports : ℕ) (list : List ℕ) (who : Who) → ports ≤ 16 → Named ports list who
+pub who-placed : (ports : ℕ) (list : List ℕ) (who : Who) → WhoFits ports list who
     → (firstEntry (classOf who) < nextEntry ports (classOf who)) × (nextEntry ports (classOf who) ≤ 16)
-who-placed ports list who l n = (first-low ports (classOf who) (who-of ports list who (n .within-is)), next-low ports who l)
+who-placed ports list who n = (first-low ports (classOf who) (who-of ports list who (n .is-within)), next-low ports who (n .listed .most))
 
 module _ (who : Who) where
   pub flow-first : {f : ℕ} → who ≡ Flow f → 0 ≡ firstEntry (classOf who)
@@ -82,10 +84,10 @@ module _ (list : List ℕ) (e to : ℕ) where
     pub flow-in : e ≤ n → e - 1 < flows list
     flow-in h = omega arith
 
-    pub flow-sends : Sent list → 1 ≤ to → e ≤ n → {x : ℕ} → x ≡ numberOf 1 list (e - 1) → eqb x to ≡ counts (portOn output (to - 1)) list 0 e
-    flow-sends sent low h {x} d =
-        let w = sent .from-one (e - 1) (flow-in h) in
-        rw (within-yes 1 (flows list) e (omega arith) (omega arith), output-is list (e - 1) (sent .linked (e - 1) (flow-in h)))
+    pub flow-sends : ListFits 16 list → 1 ≤ to → e ≤ n → {x : ℕ} → x ≡ numberOf 1 list (e - 1) → eqb x to ≡ counts (portOn output (to - 1)) list 0 e
+    flow-sends listed low h {x} d =
+        let w = listed .ported links (e - 1) (flow-in h) in
+        rw (within-yes 1 (flows list) e (omega arith) (omega arith), output-is list (e - 1) (listed .linked (e - 1) (flow-in h)))
         (byEq x to
         (λ q. eq-eqb x to q ∙ sym (eq-eqb (numberOf 1 list (e - 1) - 1) (to - 1) (omega arith)))
         (λ q. ne-eqb x to q ∙ sym (ne-eqb (numberOf 1 list (e - 1) - 1) (to - 1) (λ z. q (omega arith)))))
@@ -98,7 +100,7 @@ module _ {list : List ℕ} (who : Who) (e : ℕ) (n : WhoNumbered list who) {r :
   pub flow-of-counts : {f : ℕ} → who ≡ Flow f → r ≡ bit (eqb e f) → r ≡ bit (counts (classOf who) list (firstEntry (classOf who)) e)
   flow-of-counts {f} is d =
       let low : 1 ≤ f = subst (λ (w : Who). 1 ≤ whoNumber w) is (n .from-one) in
-      let high = n .listed f is in
+      let high = n .most f is in
       rw is (d ∙ ap (λ z. bit (eqb e z)) (back f low) ∙ sym (flow-counts list (f - 1) 0 e (omega arith)))
 
   pub input-counts : {i : ℕ} → who ≡ Input i → r ≡ bit (not (eqb e 0)) → r ≡ bit (counts (classOf who) list (firstEntry (classOf who)) e)

@@ -8,7 +8,8 @@ ghost use Rattle.rules.specs.Words.{bit};
 ghost use Rattle.rules.specs.Flows.{portOn, output};
 ghost use Rattle.rules.specs.Frames.{counts, cells, runOf, repeated};
 ghost use Rattle.calls.specs.Service.{classOf, lead, served, service};
-ghost use Rattle.service.specs.Whom.{Sent, whoNumber, WhoNumbered, Named, firstEntry, nextEntry, Framed, CountAsked};
+ghost use Rattle.checks.specs.Fits.{ListFits, FrameFits, WhoFits};
+ghost use Rattle.service.specs.Whom.{whoNumber, WhoNumbered, firstEntry, nextEntry, CountAsked};
 use calls::Answer;
 use calls::Count;
 use calls::Refusal;
@@ -63,7 +64,7 @@ fn next_entry(ports: usize, who: Who) -> usize
 
 // An entry is a flow of an output.
 fn sends_to(list: &[u16], entry: usize, to: usize) -> bool
-    requires { ⌜ Sent (now list) × (1 ≤ to) ⌝ }
+    requires { ⌜ ListFits 16 (now list) × (1 ≤ to) ⌝ }
     ensures { λ r. ⌜ r ≡ counts (portOn output (to - 1)) (now (list .entry)) 0 entry ⌝ }
 {
     if entry == 0 {
@@ -89,7 +90,7 @@ fn counted(list: &[u16], who: Who, entry: usize) -> usize
 
 // The cells of whole slots.
 fn slot_cells(ports: usize, list: &[u16], who: Who, entries: &[u16]) -> usize
-    requires { ⌜ (ports ≤ 16) × Named ports (now list) who × (length (now entries) ≤ 16384) ⌝ }
+    requires { ⌜ WhoFits ports (now list) who × (length (now entries) ≤ 16384) ⌝ }
     ensures { λ r. ⌜ r ≡ cells (classOf who) ports (now (list .entry)) (now (entries .entry)) ⌝ }
 {
     let step = next_entry(ports, who);
@@ -112,7 +113,7 @@ fn inside_cells(
     start: usize,
     len: usize,
 ) -> usize
-    requires { ⌜ Framed ports slots (now frame) × Named ports (now list) who × (start + len ≤ slots) ⌝ }
+    requires { ⌜ FrameFits ports slots (now frame) × WhoFits ports (now list) who × (start + len ≤ slots) ⌝ }
     ensures { λ r. ⌜ r ≡ cells (classOf who) ports (now (list .entry)) (runOf ports start len (now (frame .entry))) ⌝ }
 {
     let from = start * ports;

@@ -5,7 +5,7 @@ use mathlib.Core.List.{List}
 use mathlib.Core.Logic.{_≢_}
 use mathlib.Core.Bool.{false, true≢false}
 use native.Mathlib.Omega.{arith}
-use native.Mathlib.Nat.{mul-le-mul-right, mul-le-mul, mul-add-mod-self-right, mod-eq-of-lt}
+use native.Mathlib.Nat.{mul-le-mul-right, mul-add-mod-self-right, mod-eq-of-lt}
 use native.Mathlib.Numerals.{add-one}
 use mir.Syntax.{w16, w64}
 use mir.Val.{Fits}
@@ -22,7 +22,9 @@ use Rattle.rules.proofs.Lists.{zero-at}
 use Rattle.rules.proofs.Flows.{map-length, map-at, output-low, by-entry, idle-counts, own-counts, flow-counts}
 use Rattle.calls.proofs.Inspected.{InList}
 use Rattle.rules.proofs.Cells.{cells-slot, cells-none, cells-run, run-none, run-length}
-use Rattle.tally.specs.Tally.{place, Vacant, Switch, RightFrame, RightAt, Room, Adds, ofEntry, partly, cellsOf, ofSlot, numberAt, tallyOf}
+use Rattle.checks.specs.Fits.{ListFits}
+use Rattle.checks.proofs.Fits.{fits-sixteen, link-below, entries-most}
+use Rattle.tally.specs.Tally.{place, Vacant, RightFrame, RightAt, Room, Adds, ofEntry, partly, cellsOf, ofSlot, numberAt, tallyOf}
 
 -- ---- one more at a place
 abbrev pub raised : List ℕ → ℕ → List ℕ
@@ -69,22 +71,21 @@ module _ {ports i e : ℕ} {list : List ℕ} (r : RightAt ports list i e) (n : e
   one-cell = let d : e ≡ suc (e - 1) = omega arith in sym (ap (λ z. bit (counts total list i z)) d ∙ own-counts list total i (e - 1) (own .0) (own .1))
 
   pub output-number : Within 1 16 (numberOf 1 list (e - 1))
-  output-number = let w = r .switch .ported links (e - 1) (own .0) in (w .0, omega (arith, w .1, r .switch .high))
+  output-number = fits-sixteen (r .listed) .ported links (e - 1) (own .0)
 
   pub link-number : Within 1 4 (numberOf 3 list (e - 1))
-  link-number = r .switch .linked (e - 1) (own .0)
+  link-number = r .listed .linked (e - 1) (own .0)
 
   pub flow-place : e - 1 < 609
-  flow-place = omega (arith, own .0, r .switch .few)
+  flow-place = omega (arith, own .0, r .listed .few)
 
   link-low : portOf list links (e - 1) < ports * 4
-  unfolding portOf
-  link-low = let w = r .switch .ported links (e - 1) (own .0) in omega (arith, w .0, w .1, link-number .0, link-number .1)
+  link-low = link-below (r .listed) (e - 1) (own .0)
 
 pub input-place : {ports i e : ℕ} {list : List ℕ} → RightAt ports list i e → 512 + i < 609
-input-place r = omega (arith, r .at, r .switch .high)
+input-place r = omega (arith, r .at, r .listed .most)
 
-module _ (ports i f x : ℕ) (list : List ℕ) (sw : Switch ports list) (hi : i < ports) (hf : f < flows list) (pi : portOf list inputs f ≡ i)
+module _ (ports i f x : ℕ) (list : List ℕ) (sw : ListFits ports list) (hi : i < ports) (hf : f < flows list) (pi : portOf list inputs f ≡ i)
     (px : portOf list links f ≡ x) (hx : x < ports * 4) where
   -- what a cell of flow f adds at a place
   abbrev added : ℕ → ℕ
@@ -103,7 +104,7 @@ module _ (ports i f x : ℕ) (list : List ℕ) (sw : Switch ports list) (hi : i 
       (λ n. omega (arith, k, is-no g f n, is-no (suc f) (suc g) (λ z. n (omega arith))))
   adds-at (portOn input j) of =
       let w = sw .few in
-      let h = sw .high in
+      let h = sw .most in
       let a = is-no (512 + j) f (omega arith) in
       let b = is-no (512 + j) (528 + outputOf x) (omega arith) in
       let d = is-no (512 + j) (544 + x) (omega arith) in
@@ -112,7 +113,7 @@ module _ (ports i f x : ℕ) (list : List ℕ) (sw : Switch ports list) (hi : i 
       (λ n. rw (ne-eqb i j n) (let z = is-no (512 + j) (512 + i) (λ k. n (omega arith)) in omega arith))
   adds-at (portOn output u) of =
       let w = sw .few in
-      let h = sw .high in
+      let h = sw .most in
       let o = outputOf x in
       let a = is-no (528 + u) f (omega arith) in
       let b = is-no (528 + u) (512 + i) (omega arith) in
@@ -123,7 +124,7 @@ module _ (ports i f x : ℕ) (list : List ℕ) (sw : Switch ports list) (hi : i 
       (λ n. omega (arith, k, is-no o u n, is-no (528 + u) (528 + o) (λ z. n (omega arith))))
   adds-at (link y) of =
       let w = sw .few in
-      let h = sw .high in
+      let h = sw .most in
       let a = is-no (544 + y) f (omega arith) in
       let b = is-no (544 + y) (512 + i) (omega arith) in
       let d = is-no (544 + y) (528 + outputOf x) (omega arith) in
@@ -133,7 +134,7 @@ module _ (ports i f x : ℕ) (list : List ℕ) (sw : Switch ports list) (hi : i 
       (λ n. omega (arith, k, is-no x y n, is-no (544 + y) (544 + x) (λ z. n (omega arith))))
   adds-at total of =
       let w = sw .few in
-      let h = sw .high in
+      let h = sw .most in
       let a = is-no 608 f (omega arith) in
       let b = is-no 608 (512 + i) (omega arith) in
       omega (arith, a, b, is-no 608 (528 + outputOf x) (omega arith), is-no 608 (544 + x) (omega arith))
@@ -142,7 +143,7 @@ module _ (ports i f x : ℕ) (list : List ℕ) (sw : Switch ports list) (hi : i 
   adds-most : (y : ℕ) → added y ≤ 1
   adds-most y =
       let w = sw .few in
-      let h = sw .high in
+      let h = sw .most in
       let o = outputOf x in
       byEq y f
       (λ e. omega (arith, is-yes y f e, is-no y (512 + i) (omega arith), is-no y (528 + o) (omega arith), is-no y (544 + x) (omega arith)))
@@ -161,7 +162,7 @@ module _ (ports i f x : ℕ) (list : List ℕ) (sw : Switch ports list) (hi : i 
     counted-at : (y : ℕ) → getD counted y 0 ≡ getD old y 0 + added y
     counted-at y =
         let w = sw .few in
-        let h = sw .high in
+        let h = sw .most in
         let a = raised old f in
         let b = raised a (512 + i) in
         let c = raised b (528 + outputOf x) in
@@ -208,9 +209,9 @@ adds-cell {ports} {i} {e} {x} {list} {old} {t1} {t2} {t3} {t4} r room n d e1 e2 
     let k : e ≡ suc f = omega arith in
     let w = own r n in
     let low : x < ports * 4 = omega (arith, link-low r n) in
-    let new = counted ports i f x list (r .switch) (r .at) (w .0) (w .1) (sym d) low old (room .size) in
+    let new = counted ports i f x list (r .listed) (r .at) (w .0) (w .1) (sym d) low old (room .size) in
     rw (e4, e3, e2, e1) (subst (λ z. Adds ports list 1 (ofEntry list i z) old new) (sym k)
-    (adds-all ports i f x list (r .switch) (r .at) (w .0) (w .1) (sym d) low old (room .size)))
+    (adds-all ports i f x list (r .listed) (r .at) (w .0) (w .1) (sym d) low old (room .size)))
 
 -- ---- the room that the code asks for
 room-within : {n : ℕ} {l : List ℕ} → n ≤ 65534 → Room n l → Room 65534 l
@@ -275,7 +276,7 @@ unfolding cellsOf
 cells-most list slot n = let s = sum-most n 1 (λ i. bit (counts total list i (getD slot i 0))) (λ i h. byBool (counts total list i (getD slot i 0)) (λ e. rw e (omega arith)) (λ e. rw e (omega arith))) in omega arith
 
 pub cells-fit : (ports i n : ℕ) (list slot : List ℕ) → RightFrame ports 1 list slot → i < length slot → n ≡ cellsOf list slot i → (r : ℕ) → r ≤ 1 → Fits w16 (n + r)
-cells-fit ports i n list slot d h e r l = record { fits = (let s = d .size in let w = d .switch .high in omega (arith, cells-most list slot i)) }
+cells-fit ports i n list slot d h e r l = record { fits = (let s = d .framed .size in let w = d .listed .most in omega (arith, cells-most list slot i)) }
 
 module _ (ports i n : ℕ) (list slot old mid : List ℕ) (a : Adds ports list i (partly list slot i) old mid) (r : RightFrame ports 1 list slot) (e : n ≡ cellsOf list slot i) where
   total-same : getD mid 608 0 ≡ getD old 608 0
@@ -284,11 +285,11 @@ module _ (ports i n : ℕ) (list slot old mid : List ℕ) (a : Adds ports list i
 
   pub total-fits : Room 65000 old → i ≤ length slot → (x : ℕ) → Fits w16 (getD mid x 0 + n)
   total-fits room l x =
-      record { fits = (let s = r .size in let w = r .switch .high in omega (arith, a .bound x, cells-most list slot i, room .each x)) }
+      record { fits = (let s = r .framed .size in let w = r .listed .most in omega (arith, a .bound x, cells-most list slot i, room .each x)) }
 
   module _ (l : i ≤ length slot) (g : length slot ≤ i) where
     all : i ≡ ports
-    all = let s = r .size in omega arith
+    all = let s = r .framed .size in omega arith
 
     at-other : (x : ℕ) → x ≢ 608 → getD (set mid 608 (getD mid 608 0 + n)) x 0 ≡ getD mid x 0
     at-other x d = getD-set-other mid 608 x (getD mid 608 0 + n) 0 d
@@ -297,7 +298,7 @@ module _ (ports i n : ℕ) (list slot old mid : List ℕ) (a : Adds ports list i
     at-total = getD-set-same mid 608 (getD mid 608 0 + n) 0 (let s = a .size in omega arith)
 
     slot-cells : (c : Class) → cells c ports list slot ≡ sumTo ports (λ j. bit (counts c list j (getD slot j 0)))
-    slot-cells c = cells-slot ports list c slot (let s = r .size in s ∙ omega arith)
+    slot-cells c = cells-slot ports list c slot (let s = r .framed .size in s ∙ omega arith)
 
     port-each : (c : Class) → InList ports list c → place c ≢ 608 → cells c ports list slot ≡ partly list slot ports c
         → getD (set mid 608 (getD mid 608 0 + n)) (place c) 0 ≡ getD old (place c) 0 + cells c ports list slot
@@ -305,10 +306,10 @@ module _ (ports i n : ℕ) (list slot old mid : List ℕ) (a : Adds ports list i
 
     slot-each : (c : Class) → InList ports list c → getD (set mid 608 (getD mid 608 0 + n)) (place c) 0 ≡ getD old (place c) 0 + ofSlot ports list slot c
     unfolding partly ofEntry cellsOf ofSlot
-    slot-each (flow f) of = port-each (flow f) of (let h = r .switch .few in omega arith) (slot-cells (flow f))
-    slot-each (portOn input j) of = port-each (portOn input j) of (let h = r .switch .high in omega arith) (slot-cells (portOn input j))
-    slot-each (portOn output o) of = port-each (portOn output o) of (let h = r .switch .high in omega arith) (slot-cells (portOn output o))
-    slot-each (link x) of = port-each (link x) of (let h = r .switch .high in omega arith) (slot-cells (link x))
+    slot-each (flow f) of = port-each (flow f) of (let h = r .listed .few in omega arith) (slot-cells (flow f))
+    slot-each (portOn input j) of = port-each (portOn input j) of (let h = r .listed .most in omega arith) (slot-cells (portOn input j))
+    slot-each (portOn output o) of = port-each (portOn output o) of (let h = r .listed .most in omega arith) (slot-cells (portOn output o))
+    slot-each (link x) of = port-each (link x) of (let h = r .listed .most in omega arith) (slot-cells (link x))
     slot-each total of = omega (arith, at-total, total-same, ap (cellsOf list slot) all, slot-cells total)
 
     pub slot-end : Adds ports list ports (ofSlot ports list slot) old (set mid 608 (getD mid 608 0 + n))
@@ -325,14 +326,14 @@ module _ (ports i n : ℕ) (list slot old mid : List ℕ) (a : Adds ports list i
 -- the room for one entry more
 pub slot-room : (ports i : ℕ) (list slot old mid : List ℕ) → Adds ports list i (partly list slot i) old mid → Room 65000 old → RightFrame ports 1 list slot → i < length slot → Room 65531 mid
 slot-room ports i list slot old mid a r d h =
-    let s = d .size in
-    let w = d .switch .high in
+    let s = d .framed .size in
+    let w = d .listed .most in
     record { size = a .size; each = λ x. omega (arith, a .bound x, r .each x) }
 
 pub entry-right : {ports i e : ℕ} {list slot : List ℕ} → RightFrame ports 1 list slot → i < length slot → e ≡ getD slot i 0 → RightAt ports list i e
 entry-right {ports} {i} {e} {list} {slot} d h z =
-    let l : i < ports = (let s = d .size in omega arith) in
-    record { switch = d .switch; at = l; is = rw z (rw (mod-eq-of-lt l) at (d .each-right i h)) }
+    let l : i < ports = (let s = d .framed .size in omega arith) in
+    record { listed = d .listed; at = l; is = rw z (rw (mod-eq-of-lt l) at (d .each-right i h)) }
 
 pub one-fits : (x : ℕ) (tally : List ℕ) → Room 65534 tally → Fits w16 (getD tally x 0 + 1)
 one-fits x tally r = record { fits = omega (arith, r .each x) }
@@ -357,19 +358,16 @@ tally-start ports start list frame tally e =
 
 module _ (ports slots start len t : ℕ) (list frame : List ℕ) (r : RightFrame ports slots list frame) (h : start + len ≤ slots) (l : t < len) where
   pub part-ends : (start + t) * ports + ports ≤ length frame
-  part-ends = let k = mul-le-mul-right {m = start + t + 1} {n = slots} ports (omega arith) in omega (arith, r .size)
-
-  pub frame-most : length frame ≤ 16384
-  frame-most = let k : slots * ports ≤ 1024 * 16 = mul-le-mul (r .slots-most) (r .switch .high) in omega (arith, r .size)
+  part-ends = let k = mul-le-mul-right {m = start + t + 1} {n = slots} ports (omega arith) in omega (arith, r .framed .size)
 
   pub from-fits : Fits w64 ((start + t) * ports)
-  from-fits = record { fits = (let a = part-ends in let b = frame-most in omega arith) }
+  from-fits = record { fits = (let a = part-ends in let b = entries-most (r .framed) in omega arith) }
 
   pub end-fits : Fits w64 ((start + t) * ports + ports)
-  end-fits = record { fits = (let a = part-ends in let b = frame-most in omega arith) }
+  end-fits = record { fits = (let a = part-ends in let b = entries-most (r .framed) in omega arith) }
 
   pub offset-fits : Fits w64 ((start + t) * ports * 2)
-  offset-fits = record { fits = (let a = part-ends in let b = frame-most in omega arith) }
+  offset-fits = record { fits = (let a = part-ends in let b = entries-most (r .framed) in omega arith) }
 
   -- the part of the frame that the code lends
   abbrev pub part : List ℕ
@@ -385,9 +383,12 @@ module _ (ports slots start len t : ℕ) (list frame : List ℕ) (r : RightFrame
   pub part-readable : RightFrame ports 1 list part
   part-readable =
       record {
-        switch = r .switch;
-        slots-most = omega arith;
-        size = part-length ∙ omega arith;
+        listed = r .listed;
+        framed = record {
+          most = r .listed .most;
+          power = record { k = 0; most = omega arith; is = refl };
+          size = part-length ∙ omega arith;
+        };
         each-right = λ q k.
             let lp = part-length in
             let a = part-ends in
@@ -397,23 +398,23 @@ module _ (ports slots start len t : ℕ) (list frame : List ℕ) (r : RightFrame
       }
 
   run-size : length (runOf ports start t frame) ≡ t * ports
-  run-size = run-length ports start t frame (let k = mul-le-mul-right {m = start + t} {n = slots} ports (omega arith) in omega (arith, r .size))
+  run-size = run-length ports start t frame (let k = mul-le-mul-right {m = start + t} {n = slots} ports (omega arith) in omega (arith, r .framed .size))
 
   pub tally-room : (mid : List ℕ) → Tally ports list (runOf ports start t frame) mid → Room 65000 mid
   tally-room mid y =
       let k = mul-le-mul-right {m = start + t} {n = slots} ports (omega arith) in
-      record { size = y .size; each = λ x. omega (arith, y .bound x, run-size, frame-most, r .size) }
+      record { size = y .size; each = λ x. omega (arith, y .bound x, run-size, entries-most (r .framed), r .framed .size) }
 
   pub tally-on : (mid new : List ℕ) → Tally ports list (runOf ports start t frame) mid → Adds ports list ports (ofSlot ports list part) mid new → Tally ports list (runOf ports start (t + 1) frame) new
   unfolding ofSlot
   tally-on mid new y a =
       let k = mul-le-mul-right {m = start + t} {n = slots} ports (omega arith) in
       let more : length (runOf ports start (t + 1) frame) ≡ (t + 1) * ports
-      = run-length ports start (t + 1) frame (let g = mul-le-mul-right {m = start + (t + 1)} {n = slots} ports (omega arith) in omega (arith, r .size)) in
+      = run-length ports start (t + 1) frame (let g = mul-le-mul-right {m = start + (t + 1)} {n = slots} ports (omega arith) in omega (arith, r .framed .size)) in
       record {
         size = a .size;
         each = λ c of.
-            a .each c of ∙ omega (arith, y .each c of, ap (cells c ports list) part-is, cells-run ports list c start t 1 frame (omega (arith, r .size)));
+            a .each c of ∙ omega (arith, y .each c of, ap (cells c ports list) part-is, cells-run ports list c start t 1 frame (omega (arith, r .framed .size)));
         none = λ x v. a .none x v ∙ y .none x v;
         bound = λ x. omega (arith, a .bound x, y .bound x, run-size);
       }
@@ -429,7 +430,7 @@ tally-at ports list entries x h = map-at (numberAt ports list entries) 0 609 x h
 
 module _ (ports : ℕ) (list entries : List ℕ) where
   -- what the places of the classes and the others have
-  number-class : Switch ports list → (c : Class) → InList ports list c → numberAt ports list entries (place c) ≡ cells c ports list entries
+  number-class : ListFits ports list → (c : Class) → InList ports list c → numberAt ports list entries (place c) ≡ cells c ports list entries
   unfolding numberAt
   number-class s (flow f) of = rw (lt-ltb f (flows list) of)
   number-class s (portOn input i) of =
@@ -437,22 +438,22 @@ module _ (ports : ℕ) (list entries : List ℕ) where
       rw (le-ltb (512 + i) (flows list) (omega (arith, s .few)), within-yes 512 (511 + ports) (512 + i) (omega arith) (omega arith), e)
   number-class s (portOn output o) of =
       let e : 528 + o - 528 ≡ o = omega arith in
-      rw (le-ltb (528 + o) (flows list) (omega (arith, s .few)), within-above 512 (511 + ports) (528 + o) (omega arith) (omega (arith, s .high)), within-yes 528 (527 + ports) (528 + o) (omega arith) (omega arith), e)
+      rw (le-ltb (528 + o) (flows list) (omega (arith, s .few)), within-above 512 (511 + ports) (528 + o) (omega arith) (omega (arith, s .most)), within-yes 528 (527 + ports) (528 + o) (omega arith) (omega arith), e)
   number-class s (link x) of =
       let e : 544 + x - 544 ≡ x = omega arith in
       rw (
         le-ltb (544 + x) (flows list) (omega (arith, s .few)),
-        within-above 512 (511 + ports) (544 + x) (omega arith) (omega (arith, s .high)),
-        within-above 528 (527 + ports) (544 + x) (omega arith) (omega (arith, s .high)),
+        within-above 512 (511 + ports) (544 + x) (omega arith) (omega (arith, s .most)),
+        within-above 528 (527 + ports) (544 + x) (omega arith) (omega (arith, s .most)),
         within-yes 544 (543 + ports * 4) (544 + x) (omega arith) (omega arith),
         e,
       )
   number-class s total of =
       rw (
         le-ltb 608 (flows list) (omega (arith, s .few)),
-        within-above 512 (511 + ports) 608 (omega arith) (omega (arith, s .high)),
-        within-above 528 (527 + ports) 608 (omega arith) (omega (arith, s .high)),
-        within-above 544 (543 + ports * 4) 608 (omega arith) (omega (arith, s .high)),
+        within-above 512 (511 + ports) 608 (omega arith) (omega (arith, s .most)),
+        within-above 528 (527 + ports) 608 (omega arith) (omega (arith, s .most)),
+        within-above 544 (543 + ports * 4) 608 (omega arith) (omega (arith, s .most)),
       )
 
   module _ (tally : List ℕ) (y : Tally ports list entries tally) (x : ℕ) where
@@ -499,14 +500,14 @@ pub tally-size : (ports : ℕ) (list entries tally : List ℕ) → tally ≡ tal
 tally-size ports list entries tally e = ap length e ∙ tally-length ports list entries
 
 -- what a tally has for each class
-pub tally-class : (ports : ℕ) (list entries tally : List ℕ) → Switch ports list → tally ≡ tallyOf ports list entries → (c : Class) → InList ports list c
+pub tally-class : (ports : ℕ) (list entries tally : List ℕ) → ListFits ports list → tally ≡ tallyOf ports list entries → (c : Class) → InList ports list c
     → getD tally (place c) 0 ≡ cells c ports list entries
 tally-class ports list entries tally s e c of =
     ap (λ z. getD z (place c) 0) e ∙ tally-at ports list entries (place c) (low c of) ∙ number-class ports list entries s c of
   where
     low : (c : Class) → InList ports list c → place c < 609
     low (flow f) of = omega (arith, s .few)
-    low (portOn input i) of = omega (arith, s .high)
-    low (portOn output o) of = omega (arith, s .high)
-    low (link x) of = omega (arith, s .high)
+    low (portOn input i) of = omega (arith, s .most)
+    low (portOn output o) of = omega (arith, s .most)
+    low (link x) of = omega (arith, s .most)
     low total of = omega arith

@@ -9,8 +9,8 @@ use lib.ListN.{length, getD}
 use Rattle.rules.specs.Words.{if, bit, within, upFrom, sumTo}
 use Rattle.rules.specs.Flows.{flows, Class, flow, portOn, input, output, link, total}
 use Rattle.rules.specs.Frames.{right, counts, cells}
-use Rattle.calls.specs.Demand2.{Ported, Linked}
 use Rattle.calls.proofs.Inspected.{InList}
+use Rattle.checks.specs.Fits.{ListFits, FrameFits}
 
 -- The flows stand in the order of the list, with room for 512, then the sixteen inputs, then the sixteen outputs,
 -- then their links, then the total.
@@ -25,24 +25,15 @@ place total = 608
 abbrev pub Vacant : ℕ → List ℕ → ℕ → Type 0
 Vacant ports list x = (c : Class) → InList ports list c → x ≢ place c
 
--- The switch and the list are of a size that a tally has places for.
-pub record Switch (ports : ℕ) (list : List ℕ) : Type 0 where
-  pub low : 1 ≤ ports
-  pub high : ports ≤ 16
-  pub few : flows list ≤ 512
-  pub ported : Ported ports list
-  pub linked : Linked list
-
--- The frame has its size, and no entry is wrong.
+-- A frame of a list has no wrong entry.
 pub record RightFrame (ports slots : ℕ) (list entries : List ℕ) : Type 0 where
-  pub switch : Switch ports list
-  pub slots-most : slots ≤ 1024
-  pub size : length entries ≡ slots * ports
+  pub listed : ListFits ports list
+  pub framed : FrameFits ports slots entries
   pub each-right : (q : ℕ) → q < length entries → right list (q % ports) (getD entries q 0) ≡ true
 
 -- An entry of an input is right there.
 pub record RightAt (ports : ℕ) (list : List ℕ) (i entry : ℕ) : Type 0 where
-  pub switch : Switch ports list
+  pub listed : ListFits ports list
   pub at : i < ports
   pub is : right list i entry ≡ true
 

@@ -4,11 +4,11 @@ use mathlib.Core.Path.{_≡_, refl, sym, ap, _∙_}
 use mathlib.Core.List.{List, [], _∷_}
 use mathlib.Core.Bool.{Bool, true, false, not}
 use native.Mathlib.Omega.{arith}
-use native.Mathlib.Nat.{mul-le-mul, mul-le-mul-right}
+use native.Mathlib.Nat.{mul-le-mul-right}
 use lib.Dec.{eqb}
 use lib.ListN.{length, getD, take, drop}
-use borrow.Author.Tests.{not-true, not-false, eqb-true, eqb-false}
-use Rattle.rules.specs.Words.{both, within}
+use borrow.Author.Tests.{not-true, eqb-false}
+use Rattle.rules.specs.Words.{both, within, Within}
 use Rattle.calls.specs.Refusals.{none-holds, accepted, answered, refusal}
 use Rattle.rules.specs.Frames.{levels}
 use Rattle.calls.specs.Service.{viewChecks, viewNumber, viewStart, viewSize, viewed}
@@ -16,7 +16,8 @@ use Rattle.calls.specs.declared.Answer.{Answer}
 use Rattle.calls.specs.declared.Answer.the-variants.{Accepted, Refused}
 use Rattle.calls.specs.declared.Refusal.{Refusal}
 use Rattle.rules.proofs.Cases.{both-true}
-use Rattle.calls.proofs.Reports.{report-clear, clear-none, clear-some, within-known, slots-known, refusal-number}
+use Rattle.calls.proofs.Reports.{report-clear, clear-none, clear-some, ports-tells, slots-tells, frame-tells, slot-tells, refusal-number}
+use Rattle.checks.specs.Fits.{FrameFits}
 use Rattle.view.specs.Asked.{checked, onward}
 
 -- ---- the answers in their order
@@ -47,10 +48,8 @@ module _ (ports slots : ℕ) (entries : List ℕ) (slot : ℕ) where
 -- ---- what is known where none holds
 -- a question that is not refused
 pub record Open (ports slots : ℕ) (entries : List ℕ) (slot : ℕ) : Type 0 where
-  pub size : length entries ≡ slots * ports
-  pub short : length entries ≤ 16384
-  pub slot-least : 1 ≤ slot
-  pub slot-most : slot ≤ slots
+  pub framed : FrameFits ports slots entries
+  pub number : Within 1 slots slot
   pub none : none-holds (viewChecks ports slots entries slot) ≡ true
 
 -- one that is refused, and how
@@ -69,15 +68,13 @@ opened ports slots entries slot e =
     let y = both-true (not b) (both (not c) (both (not d) true)) (x .1) in
     let z = both-true (not c) (both (not d) true) (y .1) in
     let w = both-true (not d) true (z .1) in
-    let p = within-known {n = ports} {most = 16} {r = a} refl (not-true a (x .0)) in
-    let s = slots-known {slots = slots} {r = b} refl (not-true b (y .0)) in
-    let size = eqb-true (length entries) (slots * ports) (not-false (eqb (length entries) (slots * ports)) (not-true c (z .0))) in
-    let t = within-known {n = slot} {most = slots} {r = d} refl (not-true d (w .0)) in
     record {
-      size = size;
-      short = omega (arith, size, mul-le-mul (s .1) (p .1));
-      slot-least = t .0;
-      slot-most = t .1;
+      framed = record {
+        most = ports-tells ports .known (not-true a (x .0)) .1;
+        power = slots-tells slots .known (not-true b (y .0));
+        size = frame-tells ports slots entries .known (not-true c (z .0));
+      };
+      number = slot-tells slots slot .known (not-true d (w .0));
       none = e;
     }
 
@@ -102,10 +99,10 @@ module _ {ports slots : ℕ} {entries : List ℕ} {slot : ℕ} {answer : Answer}
 -- the slot's entries are within the frame
 pub slot-inside : {ports slots : ℕ} {entries : List ℕ} {slot : ℕ} → Open ports slots entries slot → (slot - 1) * ports + ports ≤ length entries
 slot-inside {ports} {slots} {entries} {slot} o =
-    let size = o .size in
-    let least = o .slot-least in
+    let size = o .framed .size in
+    let least = o .number .0 in
     let is : slot ≡ suc (slot - 1) = omega arith in
-    omega (arith, mul-le-mul-right ports (o .slot-most), ap (λ z. z * ports) is)
+    omega (arith, mul-le-mul-right ports (o .number .1), ap (λ z. z * ports) is)
 
 pub begins : (place : ℕ × ℕ) {a b : ℕ} → a ≡ b → (place .0, a * 2 + place .1) ≡ onward place b
 begins place {a} {b} e = let s : a * 2 + place .1 ≡ place .1 + 2 * b = omega arith in ap (λ z. (place .0, z)) s

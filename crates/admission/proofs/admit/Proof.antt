@@ -1,5 +1,6 @@
 use borrow.Author.Needs.{needs}
-use Rattle.admission.proofs.Admitted.{admit-refused, admit-taken, admit-decided}
+use Rattle.checks.proofs.Listed.{list-fits}
+use Rattle.admission.proofs.Admitted.{admit-refused, admit-decided}
 use Rattle.admission.proofs.admit.Statement.{statement}
 use Rattle.admission.proofs.admit.Tie as tie
 
@@ -11,6 +12,6 @@ admit-spec =
     (λ c. search needs)
     (λ c. search (needs, admit-refused))
     (λ c. search needs)
-    (λ c κs. search (needs, admit-taken))
+    (λ c κs. search (needs, list-fits))
     (λ c κs. search needs)
     (λ c. search (needs, admit-decided)))

@@ -1,5 +1,6 @@
 use borrow.Author.Needs.{needs}
-use Rattle.build.proofs.Built.{done, list-done, taken, frame-done, load-done, fillable, fills}
+use Rattle.checks.proofs.Listed.{list-fits}
+use Rattle.build.proofs.Built.{done, list-done, frame-done, load-done, fillable, fills}
 use Rattle.build.proofs.build.Statement.{statement}
 use Rattle.build.proofs.build.Tie as tie
 
@@ -13,7 +14,7 @@ build-spec =
     (λ c. search needs)
     (λ c κs. search needs)
     (λ c. done _ _ _ _ _ _ _ (search (needs, frame-done)))
-    (λ c κs. search (needs, taken))
+    (λ c κs. search (needs, list-fits))
     (λ c κs. search needs)
     (λ c. search needs)
     (λ c. done _ _ _ _ _ _ _ (search (needs, load-done)))

@@ -1,5 +1,6 @@
 use borrow.Author.Needs.{needs}
-use Rattle.depth.proofs.Asked.{list-shut, list-open, ports-shut, who-shut, who-open, who-room, bound-is}
+use Rattle.checks.proofs.Listed.{list-fits}
+use Rattle.depth.proofs.Asked.{list-shut, ports-shut, who-shut, who-open, who-room, bound-is}
 use Rattle.depth.proofs.depth_of.Statement.{statement}
 use Rattle.depth.proofs.depth_of.Tie as tie
 
@@ -41,7 +42,7 @@ depth-of-spec =
     (λ c. search needs)
     (λ c. search (needs, list-shut))
     (λ c. search needs)
-    (λ c κs. search (needs, list-open))
+    (λ c κs. search (needs, list-fits))
     (λ c κs. search needs)
     (λ c. search needs)
     (λ c. search (needs, ports-shut))

@@ -3,7 +3,7 @@ use borrow.Author.Needs.{needs}
 use native.Mathlib.Omega.{arith}
 use Rattle.calls.specs.Inspect.{isWrong}
 use Rattle.rules.proofs.Searches.{Passed}
-use Rattle.entries.proofs.Found.{slots-start, entries-on, entries-found, entries-row, entries-fits, slots-end, lent-fits}
+use Rattle.entries.proofs.Found.{slots-start, entries-on, entries-found, entries-row, entries-fits, slots-end, whole-fits}
 use Rattle.entries.proofs.first_wrong.Statement.{statement}
 use Rattle.entries.proofs.first_wrong.Tie as tie
 
@@ -27,5 +27,5 @@ first-wrong-spec =
     (λ c. search needs)
     (λ c. search needs)
     (λ c. (omega arith, search (needs, entries-on)))
-    (λ c. search (needs, lent-fits))
+    (λ c. search (needs, whole-fits))
     (λ c. search (needs, slots-end)))

@@ -2,7 +2,8 @@ use Prim.Native.Nat.{_-_}
 use borrow.Author.Needs.{needs}
 use Rattle.rules.proofs.Searches.{Passed, passed-start, passed-done}
 use Rattle.entries.specs.Entries.{wrongIn}
-use Rattle.entries.proofs.Found.{lent-ported, input-low, from-fits, place-low, place-fits, offset-fits, wrong-on, wrong-found}
+use Rattle.checks.proofs.Fits.{fits-sixteen}
+use Rattle.entries.proofs.Found.{input-low, from-fits, place-low, place-fits, offset-fits, wrong-on, wrong-found}
 use Rattle.entries.proofs.lowest_wrong.Statement.{statement}
 use Rattle.entries.proofs.lowest_wrong.Tie as tie
 
@@ -24,7 +25,7 @@ lowest-wrong-spec =
     (λ c. search (needs, offset-fits))
     (λ c. search (needs, place-low))
     (λ c κs. search needs)
-    (λ c κs. (search (needs, lent-ported), search (needs, input-low)))
+    (λ c κs. (search (needs, fits-sixteen), search (needs, input-low)))
     (λ c. search (needs, wrong-found))
     (λ c. search needs)
     (λ c. search needs)

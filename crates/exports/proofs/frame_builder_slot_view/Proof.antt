@@ -24,7 +24,7 @@ frame-builder-slot-view-spec =
     (λ c. search needs)
     (λ c κs. search needs)
     (λ c. search needs)
-    (λ c. opened c .slot-least)
+    (λ c. opened c .number .0)
     (λ c. omega (arith, slot-inside (opened c)))
     returns
     returns-2)

@@ -9,7 +9,7 @@ returns-3 c =
     let once = counted .before in
     let right = once .before .before in
     let found = right .before in
-    wrong-count _ _ _ _ (found .before .before .before .pre) _ (found .first-wrong .ensures) (right .if1 .left) _ (once .before .first-twice .ensures)
+    wrong-count _ _ _ _ (found .before .before .before .pre .0) (found .before .before .before .pre .1) _ (found .first-wrong .ensures) (right .if1 .left) _ (once .before .first-twice .ensures)
     (once .if2 .left) _ _ (counted .first-wrong-count .ensures) (c .before .flows-of .ensures) (c .if3 .taken)
 
 returns-4 : tie.Need-returns-4
@@ -19,20 +19,20 @@ returns-4 c =
     let once = counted .before in
     let right = once .before .before in
     let found = right .before in
-    last-fault _ _ _ _ (found .before .before .before .pre) _ (found .first-wrong .ensures) (right .if1 .left) _ (once .before .first-twice .ensures)
+    last-fault _ _ _ _ (found .before .before .before .pre .0) (found .before .before .before .pre .1) _ (found .first-wrong .ensures) (right .if1 .left) _ (once .before .first-twice .ensures)
     (once .if2 .left) _ _ (counted .first-wrong-count .ensures) (some .before .flows-of .ensures) (some .if3 .left) _ (c .unbalanced-block .ensures)
 
 first-wrong-count-requires : tie.Need-first-wrong-count-requires
 first-wrong-count-requires c κs =
     let right = c .before .before in
     let found = right .before in
-    readable _ _ _ _ (found .before .before .before .pre) _ (found .first-wrong .ensures) (right .if1 .left)
+    readable _ _ _ _ (found .before .before .before .pre .0) (found .before .before .before .pre .1) _ (found .first-wrong .ensures) (right .if1 .left)
 
 unbalanced-block-requires : tie.Need-unbalanced-block-requires
 unbalanced-block-requires c κs =
     let right = c .before .before .before .before .before .before in
     let found = right .before in
-    (readable _ _ _ _ (found .before .before .before .pre) _ (found .first-wrong .ensures) (right .if1 .left), search needs, search needs)
+    (readable _ _ _ _ (found .before .before .before .pre .0) (found .before .before .before .pre .1) _ (found .first-wrong .ensures) (right .if1 .left), search needs)
 
 pub first-fault-spec : {M : Type 1} → statement M
 first-fault-spec =

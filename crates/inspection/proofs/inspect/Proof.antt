@@ -1,5 +1,6 @@
 use borrow.Author.Needs.{needs}
-use Rattle.inspection.proofs.Faults.{inspect-refused, inspect-frame, lent, inspect-faults}
+use Rattle.checks.proofs.Listed.{list-fits, frame-fits}
+use Rattle.inspection.proofs.Faults.{inspect-refused, inspect-frame, inspect-faults}
 use Rattle.inspection.proofs.inspect.Statement.{statement}
 use Rattle.inspection.proofs.inspect.Tie as tie
 
@@ -13,5 +14,5 @@ inspect-spec =
     (λ c. search needs)
     (λ c κs. search needs)
     (λ c. search (needs, inspect-frame))
-    (λ c κs. search (needs, lent))
+    (λ c κs. (search (needs, list-fits), search (needs, frame-fits)))
     (λ c. search (needs, inspect-faults)))

@@ -1,9 +1,9 @@
 use mathlib.Core.Path.{refl}
 use borrow.Author.Needs.{needs}
 use native.Mathlib.Omega.{arith}
-use Rattle.checks.proofs.Listed.{well-taken}
+use Rattle.checks.proofs.Fits.{fits-sixteen}
 use Rattle.planes.proofs.Stored.{blank}
-use Rattle.schedule.proofs.Tabled.{taken-most, tables-of}
+use Rattle.schedule.proofs.Tabled.{tables-of}
 use Rattle.schedule.proofs.Filled.{levels-low, cells-room, loaded-block, frame-blank, all-settled, all-filled}
 use Rattle.schedule.proofs.fill.Statement.{statement}
 use Rattle.schedule.proofs.fill.Tie as tie
@@ -30,9 +30,9 @@ fill-spec =
     (λ c κs. search needs)
     (λ c κs.
     let pre = c .before .before .before .before .before .pre in
-    let few = pre .well .few in
+    let few = pre .listed .few in
     (omega arith, blank, cells-room pre))
-    (λ c κs. (taken-most (well-taken (c .before .before .before .before .before .before .before .pre .well)), refl))
+    (λ c κs. (fits-sixteen (c .before .before .before .before .before .before .before .pre .listed), refl))
     (λ c κs. search needs)
     (λ c κs.
     let clear = c .before .before .before .before .before .before .before in
@@ -42,7 +42,7 @@ fill-spec =
     let table = tabled clear .tabulate .ensures in
     let low = levels-low pre in (
       omega arith,
-      tables-of (well-taken (pre .well)) (table .0) (table .1) number,
+      tables-of (pre .listed) (table .0) (table .1) number,
       loaded-block pre level number (load clear .store-list .ensures),
       refl,
       refl,

@@ -3,7 +3,8 @@ use native.Mathlib.Omega.{arith}
 use borrow.Author.Needs.{needs}
 use mir.Syntax.{w64}
 use mir.Val.{toZ, ofZ}
-use Rattle.service.proofs.Turns.{frame-short, whole-fits, run-fits, lead-counted}
+use Rattle.checks.proofs.Fits.{slots-within, entries-most}
+use Rattle.service.proofs.Turns.{whole-fits, run-fits, lead-counted}
 use Rattle.service.proofs.count_run.Statement.{statement}
 use Rattle.service.proofs.count_run.Tie as tie
 
@@ -12,7 +13,7 @@ lead-of-requires c κs =
     let asked = c .before .before .before .before .pre in
     let run = run-fits asked (c .run-cells .ensures) in
     let whole = whole-fits asked (c .before .slot-cells .ensures) in
-    (asked .framed .slots-most, omega (arith, run, whole), asked .length-is, omega (arith, run, whole))
+    (slots-within (asked .framed) .1, omega (arith, run, whole), asked .length-is, omega (arith, run, whole))
 
 returns : tie.Need-returns
 returns c =
@@ -23,7 +24,7 @@ pub count-run-spec : {M : Type 1} → statement M
 count-run-spec =
     tie.close
     (tie.spec
-    (λ c κs. (c .before .before .pre .framed .ports-most, c .before .before .pre .named, frame-short (c .before .before .pre .framed)))
+    (λ c κs. (c .before .before .pre .asked, entries-most (c .before .before .pre .framed)))
     (λ c κs. search needs)
     lead-of-requires
     returns)

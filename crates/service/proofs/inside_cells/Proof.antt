@@ -4,7 +4,8 @@ use native.Mathlib.Omega.{arith}
 use lib.ListN.{length}
 use borrow.Author.Needs.{needs}
 use Rattle.rules.specs.Frames.{cells}
-use Rattle.service.proofs.Turns.{frame-short, part-run, part-short, run-inside}
+use Rattle.checks.proofs.Fits.{entries-most}
+use Rattle.service.proofs.Turns.{part-run, part-short, run-inside}
 use Rattle.service.proofs.inside_cells.Statement.{statement}
 use Rattle.service.proofs.inside_cells.Tie as tie
 
@@ -16,7 +17,7 @@ slot-cells-requires : tie.Need-slot-cells-requires
 slot-cells-requires c κs =
     let a = c .before .before .before .args in
     let pre = c .before .before .before .pre in
-    (pre .0 .ports-most, pre .1, part-short (pre .0) (a .start * a .ports + a .len * a .ports - a .start * a .ports) (a .start * a .ports))
+    (pre .1, part-short (pre .0) (a .start * a .ports + a .len * a .ports - a .start * a .ports) (a .start * a .ports))
 
 returns : tie.Need-returns
 returns c = c .slot-cells .ensures ∙ ap (cells _ _ _) (part-run _ _ _ _)
@@ -28,7 +29,7 @@ inside-cells-spec =
     (λ c. omega (arith, inside c))
     (λ c. omega (arith, inside c))
     (λ c. omega (arith, inside c))
-    (λ c. omega (arith, inside c, frame-short (c .before .before .pre .0)))
+    (λ c. omega (arith, inside c, entries-most (c .before .before .pre .0)))
     (λ c. search needs)
     (λ c. search needs)
     (λ c. inside c)

@@ -1,6 +1,7 @@
 use native.Mathlib.Omega.{arith}
 use native.Mathlib.Nat.{mod-lt}
 use borrow.Author.Needs.{needs}
+use Rattle.checks.proofs.Fits.{slots-within}
 use Rattle.service.proofs.Turns.{parts-run, run-fits}
 use Rattle.service.proofs.run_cells.Statement.{statement}
 use Rattle.service.proofs.run_cells.Tie as tie
@@ -9,7 +10,7 @@ inside-cells-requires-2 : tie.Need-inside-cells-requires-2
 inside-cells-requires-2 c κs =
     let start = c .before .before .before .before in
     let asked = start .pre .0 in
-    (asked .framed, asked .named, omega (arith, mod-lt (start .args .len) (asked .framed .slot), c .before .lesser .ensures))
+    (asked .framed, asked .asked, omega (arith, mod-lt (start .args .len) (slots-within (asked .framed) .0), c .before .lesser .ensures))
 
 returns : tie.Need-returns
 returns c =

@@ -17,7 +17,7 @@ abbrev μ-loop : tie.MeasureT-loop
 
 -- the first entry that can count is one of the first slot, and the next at most sixteen later
 placed : (c : tie.Start Inv-loop μ-loop) → let w = classOf (c .args .who) in (firstEntry w < nextEntry (c .args .ports) w) × (nextEntry (c .args .ports) w ≤ 16)
-placed c = who-placed (c .args .ports) (c .args .list .now) (c .args .who) (c .pre .0) (c .pre .1)
+placed c = who-placed (c .args .ports) (c .args .list .now) (c .args .who) (c .pre .0)
 
 module _ (c : tie.After-counted Inv-loop μ-loop) where
   abbrev turn : tie.In-loop Inv-loop μ-loop
@@ -51,8 +51,8 @@ slot-cells-spec =
     (λ c. search needs)
     (λ c κs. search needs)
     (λ c κs. search (needs, named-numbered))
-    (λ c. omega (arith, counting-most (again c), step-most c, turn c .loop-test .taken, start c .pre .2))
-    (λ c. omega (arith, step-most c, turn c .loop-test .taken, start c .pre .2))
+    (λ c. omega (arith, counting-most (again c), step-most c, turn c .loop-test .taken, start c .pre .1))
+    (λ c. omega (arith, step-most c, turn c .loop-test .taken, start c .pre .1))
     (λ c. omega (arith, step-least c, turn c .loop-test .taken))
     (λ c. again c)
     (λ c. search (needs, counting-end)))

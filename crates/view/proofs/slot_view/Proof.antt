@@ -1,6 +1,7 @@
 use mathlib.Core.Path.{_∙_}
 use native.Mathlib.Omega.{arith}
 use borrow.Author.Needs.{needs}
+use Rattle.checks.proofs.Fits.{entries-most}
 use Rattle.view.proofs.Checks.{Open, accepted-open, refused-shut, slot-inside, begins, view-of, view-start, view-accepted, no-view, no-start, view-refused}
 use Rattle.view.proofs.slot_view.Statement.{statement}
 use Rattle.view.proofs.slot_view.Tie as tie
@@ -29,10 +30,10 @@ slot-view-spec =
     (λ c. search needs)
     (λ c. search needs)
     (λ c. search needs)
-    (λ c. opened c .slot-least)
+    (λ c. opened c .number .0)
     (λ c. omega (arith, slot-inside (opened c)))
     (λ c. omega (arith, slot-inside (opened c)))
-    (λ c. omega (arith, slot-inside (opened c), opened c .short))
+    (λ c. omega (arith, slot-inside (opened c), entries-most (opened c .framed)))
     (λ c. search needs)
     (λ c. search needs)
     (λ c. slot-inside (opened c))
