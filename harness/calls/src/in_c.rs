@@ -5,7 +5,8 @@ use std::process::{Child, ChildStdin, ChildStdout, Command, Stdio};
 use std::sync::Mutex;
 
 use crate::{
-    Answer, Bounded, Built, Calls, Class, Count, Depth, Inspection, Limits, Refusal, Service,
+    program, Answer, Bounded, Built, Calls, Class, Count, Depth, Inspection, Limits, Refusal,
+    Service, SheetProgram,
 };
 
 /// The calls as `harness/c/calls.c` numbers them.
@@ -74,7 +75,7 @@ const HARMS: [&str; 7] = [
 /// The proved frame builder, called by a C program.
 #[derive(Debug)]
 pub struct InC {
-    program: &'static str,
+    program: String,
     /// Running programs that no thread is using.
     idle: Mutex<Vec<Process>>,
 }
@@ -91,9 +92,10 @@ impl InC {
         InC::over(env!("CALLS_WRITING_OUTSIDE"))
     }
 
-    fn over(program: &'static str) -> InC {
+    /// The builder that this program calls, which reads the same records.
+    pub fn over(program: &str) -> InC {
         InC {
-            program,
+            program: program.into(),
             idle: Mutex::default(),
         }
     }
@@ -102,7 +104,7 @@ impl InC {
     /// written.
     fn make(&self, record: &[u8], written: &mut [u16]) -> [u64; 4] {
         let idle = self.idle.lock().expect("no thread panics here").pop();
-        let mut process = idle.unwrap_or_else(|| Process::start(self.program));
+        let mut process = idle.unwrap_or_else(|| Process::start(&self.program));
         let [number, first, second, third, harm] = process.ask(record, written);
         let touched = HARMS.get(harm as usize).unwrap_or(&"something");
         assert!(harm == 0, "wrote to {touched}");
@@ -324,5 +326,11 @@ impl Calls for InC {
             [0, parts, cells, 0] => Ok(Depth { parts, cells }),
             refused => Err(refusal_of(refused)),
         }
+    }
+}
+
+impl SheetProgram for InC {
+    fn respond(&self, sheet: &[u8]) -> Vec<u8> {
+        program::respond(sheet)
     }
 }

@@ -29,5 +29,7 @@ fn main() -> ExitCode {
             calls: &library,
         },
     ];
-    run_as_told(settings, USAGE, |settings| run_hostile(&faces, settings))
+    run_as_told(settings, USAGE, "call", |settings| {
+        run_hostile(&faces, settings)
+    })
 }
