@@ -48,9 +48,9 @@ pub fn expect_total(course: &Course) -> Verdict {
     })
 }
 
-/// Notes how much of the bound of its loads a run uses that begins and ends inside frames, the one that comes nearest to it.
+/// Notes how much of the bound of its loads a run uses that may be off at both ends, the one that comes nearest to it.
 pub fn note_bound(course: &Course, hits: &mut Hits) {
-    let (run, k) = (course.nearest_inside_frames(), course.k());
+    let (run, k) = (course.nearest_off_at_both(), course.k());
     let (lead, bound) = (course.lead(run).abs(), course.bound(run));
     if bound == 0 {
         return;
