@@ -111,6 +111,15 @@ impl Course {
         self.slots.trailing_zeros()
     }
 
+    /// The same cells, counted against a load of m in every frame.
+    pub fn against(&self, m: u64) -> Course {
+        let given = self.given.iter().map(|slot| Slot { load: m, ..*slot });
+        Course {
+            slots: self.slots,
+            given: given.collect(),
+        }
+    }
+
     fn run(&self, run: Run) -> &[Slot] {
         &self.given[run.start..][..run.length]
     }
