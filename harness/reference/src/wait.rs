@@ -151,10 +151,7 @@ impl Stretch<'_> {
     /// The place at which a wait comes nearest to what is allowed: the cells of the run that falls furthest behind m cells a
     /// frame, and one more.
     pub fn hardest_place(&self) -> u64 {
-        let mut course = self.course();
-        for slot in &mut course.given {
-            slot.load = self.fewest;
-        }
+        let course = self.course().against(self.fewest);
         course.cells(course.furthest_behind()) as u64 + 1
     }
 }

@@ -111,6 +111,15 @@ impl Course {
         self.slots.trailing_zeros()
     }
 
+    /// The same cells, counted against a load of m in every frame.
+    pub fn against(&self, m: u64) -> Course {
+        let given = self.given.iter().map(|slot| Slot { load: m, ..*slot });
+        Course {
+            slots: self.slots,
+            given: given.collect(),
+        }
+    }
+
     fn run(&self, run: Run) -> &[Slot] {
         &self.given[run.start..][..run.length]
     }
@@ -200,24 +209,34 @@ impl Course {
 
     /// The run that comes nearest to its bound, or goes furthest beyond it.
     pub fn nearest_run(&self) -> Run {
-        let off = |slot: usize| Some(self.off(slot) as i64);
+        let offs = self.offs();
+        let off = |slot: usize| Some(offs[slot]);
         further([1, -1].map(|sign| self.greatest(sign, off, off)))
     }
 
-    /// The same of those that begin and end inside frames, which may be off at both ends.
-    pub fn nearest_inside_frames(&self) -> Run {
-        let inside = |slot| (!self.begins_a_frame(slot)).then(|| self.off(slot) as i64);
+    /// The same of those that may be off at both ends.
+    pub fn nearest_off_at_both(&self) -> Run {
+        let offs = self.offs();
+        let inside = |slot: usize| Some(offs[slot]).filter(|&off| off > 0);
         further([1, -1].map(|sign| self.greatest(sign, inside, inside)))
     }
 
     /// The run of all cells that comes nearest to the bound of built frames.
     pub fn nearest_of_total(&self) -> Run {
-        let off = |slot: usize| Some(self.off(slot) as i64);
-        let (ahead, behind) = (
-            self.greatest(1, anywhere, off),
-            self.greatest(-1, off, anywhere),
-        );
-        further([ahead, behind])
+        let offs = self.offs();
+        let off = |slot: usize| Some(offs[slot]);
+        let ahead = self.greatest(1, anywhere, off);
+        further([ahead, self.greatest(-1, off, anywhere)])
+    }
+
+    /// How far the slots before each slot may be off, and before the end of the chain.
+    fn offs(&self) -> Vec<i64> {
+        let slots = self.slots as usize;
+        let mut offs = vec![0; self.given.len() + 1];
+        for first in (0..self.given.len()).step_by(slots) {
+            offs[first + 1..first + slots].fill(self.stray_at(first) as i64);
+        }
+        offs
     }
 
     /// Of the runs that may begin and end where they do, the one whose lead times the sign is greatest, less what is allowed at

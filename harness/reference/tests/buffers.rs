@@ -12,7 +12,7 @@ use reference::page::grouped;
 use reference::queue::{ahead_behind_a_switch, pass, pass_card, Depth, Source};
 use reference::stray::stray;
 use reference::wire::{demanded, deviation, repeat_deviation, Course, Frame};
-use reference::Class;
+use reference::{service_count, Class};
 
 const TEXT: &str = include_str!("../../../docs/BUFFERS.md");
 const LEAD_OUTPUT: &str = include_str!("../../../examples/lead.output");
@@ -67,20 +67,20 @@ fn is_of_two_powers(m: u64) -> bool {
     (m & (m - 1)).count_ones() < 2 || (m + (m & m.wrapping_neg())).is_power_of_two()
 }
 
+/// The most that an even source needs in 1,024 slots, of such loads.
+fn most_of(loads: fn(u64) -> bool) -> u64 {
+    let cells = (1..=1_024).filter(|&m| loads(m)).map(|m| even(10, m));
+    cells.max().expect("a load")
+}
+
 /// What the page says of round numbers, with fewer slots too.
 #[test]
 fn round_numbers() {
-    let numbers = |wanted: fn(u64) -> bool| (1..=1_024_u64).filter(move |&m| wanted(m));
-    assert_eq!(
-        numbers(u64::is_power_of_two).map(|m| even(10, m)).max(),
-        Some(2)
-    );
-    assert_eq!(
-        numbers(is_of_two_powers).map(|m| even(10, m)).max(),
-        Some(4)
-    );
-    let worst: Vec<u64> = numbers(|m| stray(10, m) as i128 == deviation(10)).collect();
+    assert_eq!(most_of(u64::is_power_of_two), 2);
+    let furthest = |&m: &u64| i128::from(stray(10, m)) == deviation(10);
+    let worst: Vec<u64> = (1..=1_024).filter(furthest).collect();
     assert_eq!(worst, [341, 683]);
+    assert_eq!(most_of(|_| true), even(10, 341));
     for (k, m) in (0..10).flat_map(|k| (1..=1 << k).map(move |m| (k, m))) {
         let more = 1 << (10 - k);
         assert_eq!(stray(k, m) * more, stray(10, m * more));
@@ -112,6 +112,10 @@ fn examples() -> Vec<String> {
             "**Reserve 64 and not 63**: in a frame of 1,024 slots 64 cells need a buffer of {}, and 63 need one of {}.",
             even(10, 64),
             even(10, 63)
+        ),
+        format!(
+            "The sum or the difference of two powers of two needs a buffer of {} at most.",
+            most_of(is_of_two_powers)
         ),
         format!(
             "341 and 683 cells, a third and two thirds of the slots, are worst: they need {}.",
@@ -228,25 +232,69 @@ fn a_bunched_frame_stands_too_deep() {
     assert!(depth.after > 0 && depth.before > 0, "{depth:?}");
 }
 
+/// The slots of the studio's sheet, its ports, and the list of its flows.
+fn studio() -> (u64, u64, Vec<u16>) {
+    let sheet = include_str!("../../../examples/studio.sheet");
+    let numbers = |line: &str| -> Vec<u16> {
+        let words = line.split(|c: char| !c.is_ascii_digit());
+        words.filter_map(|word| word.parse().ok()).collect()
+    };
+    let mut lines = sheet.lines().map(numbers);
+    let [ports, slots] = [(); 2].map(|()| u64::from(lines.next().expect("a line")[0]));
+    let list = lines.flat_map(|line| [line, vec![1]].concat());
+    (ports, slots, list.collect())
+}
+
+/// The lead of flow 1 in the studio's frame, from every slot on and for every length below a turn; of those that are as far from 0 the
+/// first, and of one start the shortest.
+fn furthest_leads() -> [(i64, u64, u64); 2] {
+    let (ports, slots, list) = studio();
+    let mut frame = vec![0; (ports * slots) as usize];
+    ample::build(ports, slots, &list, &mut frame).expect("the load fits");
+    let runs = (1..=slots).flat_map(|start| (0..slots).map(move |length| (start, length)));
+    let leads = runs.map(|(start, length)| {
+        let flow = Class::Flow { number: 1 };
+        let count = service_count(ports, slots, &list, &frame, flow, start, length);
+        (count.expect("a run of the frame").lead, start, length)
+    });
+    let leads: Vec<_> = leads.collect();
+    [1, -1].map(|sign| {
+        let furthest = leads.iter().rev().max_by_key(|(lead, ..)| sign * lead);
+        *furthest.expect("a run")
+    })
+}
+
 /// What the example of the lead prints, which the tests of the C interface compare with what it does print.
 #[test]
 fn the_lead_of_the_studio_sheet() {
-    let printed: String = LEAD_OUTPUT
-        .lines()
-        .map(|line| format!("    {line}\n"))
-        .collect();
-    assert!(TEXT.contains(&format!("\n\n{printed}\n")));
+    let (_, slots, list) = studio();
+    let [ahead, behind] = furthest_leads();
+    let run = |(lead, start, length): (i64, u64, u64)| {
+        format!("{lead}/{slots} of a cell, in {length} slots from slot {start}")
+    };
+    let waiting = at_once(3, 1) + behind.0.unsigned_abs();
+    let [after, before] = [0, u64::from(list[2])].map(|more| (waiting + more) / slots);
+    let lines = [
+        format!("flow 1: {} cells in {slots} slots, lead 0", list[2]),
+        format!("farthest ahead: {}", run(ahead)),
+        format!("farthest behind: {}", run(behind)),
+        format!("from an even source at most {after} cells wait after a slot; a buffer of {before} is enough"),
+    ];
+    assert_eq!(LEAD_OUTPUT, lines.join("\n") + "\n");
+    let set_in = lines.map(|line| format!("    {line}\n")).concat();
+    assert!(TEXT.contains(&format!("\n\n{set_in}\n")));
 }
 
 /// What the example of the depth prints, for each flow of the sheet.
 #[test]
 fn the_depths_of_the_studio_sheet() {
-    let flows = (1..).zip([3, 2, 4, 3, 1, 5]).map(|(number, m)| {
-        let (parts, one) = (2 * stray(3, m), even(3, m));
-        let four = to_order(3, m, at_once(3, 4));
-        format!(
-            "flow {number}: load {m} in 8 slots, at most {parts}/8 of a cell from its share\n  order {one} cells, and for 4 cells at once {four}\n"
-        )
+    let (_, slots, list) = studio();
+    let k = slots.trailing_zeros();
+    let flows = (1..).zip(list.chunks(4)).map(|(number, flow)| {
+        let m = u64::from(flow[2]);
+        let (parts, one) = (2 * stray(k, m), even(k, m));
+        let four = to_order(k, m, at_once(k, 4));
+        format!("flow {number}: load {m} in {slots} slots, at most {parts}/{slots} of a cell from its share\n  order {one} cells, and for 4 cells at once {four}\n")
     });
     assert_eq!(DEPTH_OUTPUT, flows.collect::<String>());
 }

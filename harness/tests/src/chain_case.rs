@@ -11,8 +11,8 @@ use crate::build_case::{build_and_compare, has_several_links, lend, over_links, 
 use crate::hits::{Hits, CHAIN_CHANGED, CHAIN_OVER_LINKS};
 use crate::queue_case::{check_card, check_queue};
 use crate::share_case::{
-    check_share, class_of, every_class, every_link, expect_chain, expect_every_run, note_bound,
-    random_whose,
+    check_fewest_and_most, check_share, class_of, every_class, every_link, expect_chain,
+    expect_every_run, note_bound, random_whose,
 };
 use crate::verdict::Verdict;
 use crate::wait_case::{check_first_waits, check_waits};
@@ -50,6 +50,7 @@ pub fn check_chain(
         let course = Course::of(&chain, whose);
         check_share(&course, whose, random, hits)?;
         note_bound(&course, hits);
+        check_fewest_and_most(&course, whose)?;
         check_queue(&course, whose, random, hits)?;
         check_waits(&course, whose, 1, random, hits)?;
     }

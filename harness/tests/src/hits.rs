@@ -50,7 +50,7 @@ pub const ODD_SETTLED: &str = "build with odd counts settled";
 /// No block of a built frame had one.
 pub const NONE_SETTLED: &str = "build with none settled";
 
-/// A run of a chain that begins and ends inside frames was held to the bound of their loads, the one nearest to it.
+/// A run of a chain that may be off at both ends was held to the bound of its loads, the one nearest to it.
 pub const BOUND_COMPARED: &str = "bound of the load compared";
 /// It strayed from its share by the whole of it.
 pub const BOUND_REACHED: &str = "bound of the load reached";
@@ -143,7 +143,7 @@ impl Waited {
     }
 }
 
-/// What used a part of the bound of its load: a run of a chain that begins and ends inside frames, or a lead of one frame.
+/// What used a part of the bound of its load: a run of a chain that may be off at both ends, or a lead of one frame.
 #[derive(Clone, Copy, Debug, PartialEq, Eq, PartialOrd, Ord)]
 pub enum Used {
     Run,
@@ -332,8 +332,8 @@ impl Hits {
         names.extend((1..=10).map(|k| name_at(FIRST_WAIT_REACHED, k)));
         names.extend((0..=10).map(|k| name_at(PACED_COMPARED, k)));
         names.extend((1..=10).map(|k| name_at(PACED_REACHED, k)));
-        names.push(name_at(QUEUE_REACHED_AFTER, 1));
-        names.push(name_at(QUEUE_REACHED_BEFORE, 1));
+        names.extend((1..=10).map(|k| name_at(QUEUE_REACHED_AFTER, k)));
+        names.extend((1..=10).map(|k| name_at(QUEUE_REACHED_BEFORE, k)));
         names.extend((2..=5).map(|switches| format!("row of {switches} switches")));
         names.push("row of all cells together".into());
         let kinds = Kind::all().into_iter();

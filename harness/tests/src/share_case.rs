@@ -2,6 +2,7 @@
 
 use calls::Class;
 use loads::{Followed, Random};
+use reference::stray::stray;
 use reference::wire::{self, deviation, Course, Frame, Run, Whose};
 use reference::LINKS;
 
@@ -48,9 +49,41 @@ pub fn expect_total(course: &Course) -> Verdict {
     })
 }
 
-/// Notes how much of the bound of its loads a run uses that begins and ends inside frames, the one that comes nearest to it.
+/// Holds a chain to the fewest and to the most cells that its frames have, and to the powers of two below and above: where every frame
+/// has m cells or more, a run lacks at most twice the stray of m of its share of m a frame, and where every frame has at most m, it has
+/// at most so much more.
+pub fn check_fewest_and_most(course: &Course, whose: Whose) -> Verdict {
+    let loads = || course.given.iter().map(|slot| slot.load);
+    let fewest = loads().min().unwrap_or_default();
+    let most = loads().max().unwrap_or_default();
+    let k = course.k();
+    for m in [fewest, power_below(fewest)] {
+        let course = course.against(m);
+        let lead = course.lead(course.furthest_behind());
+        expect(-lead <= 2 * i128::from(stray(k, m)), || {
+            format!(
+                "{whose:?} with {m} cells or more in each frame has a lead of {lead} beside {m}"
+            )
+        })?;
+    }
+    for m in [most, most.next_power_of_two()] {
+        let course = course.against(m);
+        let lead = course.lead(course.furthest_ahead());
+        expect(lead <= 2 * i128::from(stray(k, m)), || {
+            format!("{whose:?} with up to {m} cells in each frame has a lead of {lead} beside {m}")
+        })?;
+    }
+    Ok(())
+}
+
+/// The greatest power of two that is not above the number, and 0 for 0.
+fn power_below(number: u64) -> u64 {
+    number.checked_ilog2().map_or(0, |power| 1 << power)
+}
+
+/// Notes how much of the bound of its loads a run uses that may be off at both ends, the one that comes nearest to it.
 pub fn note_bound(course: &Course, hits: &mut Hits) {
-    let (run, k) = (course.nearest_inside_frames(), course.k());
+    let (run, k) = (course.nearest_off_at_both(), course.k());
     let (lead, bound) = (course.lead(run).abs(), course.bound(run));
     if bound == 0 {
         return;

@@ -56,7 +56,7 @@ fn parts(hits: &Hits) -> Vec<String> {
             [BOUND_REACHED, BOUND_COMPARED].map(|name| hits.count_at(name, k));
         any.then(|| format!("{k:>3} |{run} {reached:>8} {compared:>9} |{lead}"))
     });
-    let title = "largest part of the bound of the load, in parts of 1/2^k of a cell: runs inside frames of chains, how often they came to all of it; leads of one frame";
+    let title = "largest part of the bound of the load, in parts of 1/2^k of a cell: of runs of chains that may be off at both ends, and how often they came to all of it; of leads of one frame";
     let [run, lead] = [(); 2].map(|()| part_row(["seen", "bound", "part"].map(String::from)));
     let head = format!("{:>3} |{run} {:>8} {:>9} |{lead}", "k", "reached", "of");
     table(title, head, rows)

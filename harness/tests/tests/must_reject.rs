@@ -5,7 +5,7 @@ use loads::{flows_of_matrix, list_of, load_beside, Random, FLOW_NUMBERS, MOST_FL
 use reference::queue::{ahead_behind_a_switch, pass_row, Depth, Switch};
 use reference::slots_each;
 use reference::wait::{stretches, Allowed, Stretch};
-use reference::wire::{Course, Frame, Run, Whose};
+use reference::wire::{demanded, deviation, repeat_deviation, Course, Frame, Run, Whose};
 use tests::broken::{self, Broken, BuildCall};
 use tests::{check_each_cell, check_paced, check_waits, run, Hits, Settings};
 
@@ -427,6 +427,33 @@ fn legal_but_bunched() {
 fn half_load(builder: &Broken, slots: u64, times: usize) -> Course {
     let frame = carried(builder, 1, slots, &[1, 1, slots as u16 / 2, 1]);
     Course::of(&vec![frame; times], Class::Input { port: 1 })
+}
+
+/// Half of the slots, two at a time, are no further from their share than some loads may be, and further than this one may.
+#[test]
+fn beyond_the_bound_of_the_load_alone() {
+    let builder = sent_back!(build: slots_exchanged, "lead/");
+    sent_back!(build: slots_exchanged, "build/");
+    for k in 4..=10 {
+        let course = half_load(&builder, 1 << k, 2);
+        let lead = course.lead(course.furthest_run()).abs();
+        assert!(lead <= repeat_deviation(k) && 3 * lead <= demanded(k));
+        let from_a_frame = course.lead(course.furthest_from_a_frame()).abs();
+        assert!(from_a_frame <= deviation(k), "k = {k}");
+        assert!(!course.has_its_share(course.nearest_run()), "k = {k}");
+        let right = half_load(&Broken::default(), 1 << k, 2);
+        assert!(right.has_its_share(right.nearest_run()), "k = {k}");
+    }
+}
+
+/// A frame read backwards is as balanced as it was, and each class keeps to its bound: all cells together are late.
+#[test]
+fn a_total_that_is_late() {
+    let builder = sent_back!(build: other_tie, "lead/");
+    let frame = carried(&builder, 1, 4, &[1, 1, 3, 1]);
+    let course = Course::of(&[frame], Whose::Total);
+    assert!(course.has_its_share(course.nearest_run()));
+    assert!(!course.total_has_its_share(course.nearest_of_total()));
 }
 
 /// How deep the second of two switches stands where the first has cells enough to send all the time.
