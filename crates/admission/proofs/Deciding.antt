@@ -2,18 +2,23 @@
 use Prim.Native.Nat.{ℕ, _+_, _%_, _≤_, _<_}
 use mathlib.Core.Path.{_≡_, sym, ap, _∙_}
 use mathlib.Core.List.{List, [], _∷_, _++_}
+use mathlib.Core.Bool.{true, false}
 use native.Mathlib.Omega.{arith}
-use lib.ListN.{getD}
-use Rattle.rules.specs.Words.{if}
+use lib.ListN.{getD, take}
+use Rattle.rules.specs.Words.{if, Every}
 use Rattle.rules.specs.Flows.{outputOf, portOn, input, output, link, load}
 use Rattle.calls.specs.Refusals.{Check, report, refusal, accepted, answered, lowestAbove, aboveSlots, lowestPast, aboveLimits, overload, portOverloads, overloads}
 use Rattle.calls.specs.declared.Refusal.{Refusal}
 use Rattle.calls.specs.declared.Answer.{Answer}
 use Rattle.calls.specs.declared.Answer.the-variants.{Accepted, Refused}
 use Rattle.calls.proofs.Overloads.{above-found, above-none, above-same, past-found, past-none, past-same}
-use Rattle.calls.proofs.Reports.{report-found, report-on, report-then, report-stops, clear-none}
+use Rattle.calls.proofs.Reports.{Passes, clear-passes, first-reported, other-reported, report-stops, clear-none}
 use Rattle.checks.specs.Fits.{ListFits}
 use Rattle.admission.specs.Overloads.{valueAt, EveryLoad, decidedPorts, decided}
+
+-- a check that holds, after n that pass, with its answer
+found : (n : ℕ) (cs : List Check) {answer : List ℕ} → Every Passes (take n cs) → getD cs n (false, []) ≡ (true, answer) → answer ≡ report cs accepted
+found n cs passed is = sym (ap (λ (c : Check). c .1) is) ∙ first-reported n cs accepted passed (ap (λ (c : Check). c .0) is)
 
 -- ---- 5 and 6
 module _ (slots : ℕ) (ins outs : List ℕ) where
@@ -26,21 +31,19 @@ module _ (slots : ℕ) (ins outs : List ℕ) where
   module _ (x : ℕ) (low : x ≡ lowestAbove 16 slots (valueAt ins)) where
     pub input-above : {cells : ℕ} → x < 16 → cells ≡ valueAt ins x → 5 ∷ (x + 1) ∷ cells ∷ [] ≡ decidedPorts slots ins outs
     input-above h e =
-        ap (λ z. 5 ∷ (x + 1) ∷ z ∷ []) e
-        ∙ sym (report-found fifth (sixth ∷ []) accepted (above-found 5 16 slots (valueAt ins) x low h))
+        ap (λ z. 5 ∷ (x + 1) ∷ z ∷ []) e ∙ found 0 (fifth ∷ sixth ∷ []) tt (above-found 5 16 slots (valueAt ins) x low h)
 
     module _ (h : 16 ≤ x) (y : ℕ) (next : y ≡ lowestAbove 16 slots (valueAt outs)) where
-      no-input : report (sixth ∷ []) accepted ≡ decidedPorts slots ins outs
-      no-input = sym (report-on fifth (sixth ∷ []) accepted (above-none 5 16 slots (valueAt ins) x low h))
+      no-input : Passes fifth
+      no-input = above-none 5 16 slots (valueAt ins) x low h
 
       pub output-above : {cells : ℕ} → y < 16 → cells ≡ valueAt outs y → 6 ∷ (y + 1) ∷ cells ∷ [] ≡ decidedPorts slots ins outs
       output-above k e =
           ap (λ z. 6 ∷ (y + 1) ∷ z ∷ []) e
-          ∙ sym (report-found sixth [] accepted (above-found 6 16 slots (valueAt outs) y next k))
-          ∙ no-input
+          ∙ found 1 (fifth ∷ sixth ∷ []) (no-input, tt) (above-found 6 16 slots (valueAt outs) y next k)
 
       pub none-above : 16 ≤ y → accepted ≡ decidedPorts slots ins outs
-      none-above k = sym (report-on sixth [] accepted (above-none 6 16 slots (valueAt outs) y next k)) ∙ no-input
+      none-above k = other-reported (fifth ∷ sixth ∷ []) accepted (no-input, (above-none 6 16 slots (valueAt outs) y next k, tt))
 
   -- where the numbers are every load, the answer is that of the loads
   pub ports-decided : {ports : ℕ} {list lines : List ℕ} → ListFits ports list → EveryLoad ports list ins outs lines → (cs : List Check)
@@ -65,20 +68,20 @@ module _ (slots : ℕ) (ins outs lines limits : List ℕ) where
     ports-refused {r} e = report-stops both (last ∷ []) accepted r (sym (ap answered e) ∙ ports)
 
     module _ (e : a ≡ Accepted) (z : ℕ) (third : z ≡ lowestPast 16 limits (valueAt lines)) where
-      none : report (last ∷ []) accepted ≡ decided slots ins outs lines limits
-      none =
-          sym (report-then both (last ∷ []) accepted
-          (clear-none both accepted (omega arith, (omega arith, tt)) (ap (λ (l : List ℕ). getD l 0 0) (sym ports ∙ ap answered e))))
+      -- neither 5 nor 6 holds
+      passed : Every Passes both
+      passed =
+          clear-passes both (clear-none both accepted (omega arith, (omega arith, tt)) (ap (λ (l : List ℕ). getD l 0 0) (sym ports ∙ ap answered e)))
 
       pub link-past : {cells : ℕ} → z < 64 → cells ≡ valueAt lines z
           → 24 ∷ (outputOf z + 1) ∷ (z % 4 + 1) ∷ cells ∷ [] ≡ decided slots ins outs lines limits
       link-past l e =
           ap (λ w. 24 ∷ (outputOf z + 1) ∷ (z % 4 + 1) ∷ w ∷ []) e
-          ∙ sym (report-found last [] accepted (past-found 16 limits (valueAt lines) z third l))
-          ∙ none
+          ∙ found 2 (both ++ (last ∷ [])) passed (past-found 16 limits (valueAt lines) z third l)
 
       pub none-past : 64 ≤ z → accepted ≡ decided slots ins outs lines limits
-      none-past l = sym (report-on last [] accepted (past-none 16 limits (valueAt lines) z third l)) ∙ none
+      none-past l =
+          other-reported (both ++ (last ∷ [])) accepted (passed .0, (passed .1 .0, (past-none 16 limits (valueAt lines) z third l, tt)))
 
   -- where the numbers are every load, the answer is that of the loads
   pub decided-loads : {ports : ℕ} {list : List ℕ} → ListFits ports list → EveryLoad ports list ins outs lines

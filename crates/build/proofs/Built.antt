@@ -16,7 +16,7 @@ use Rattle.calls.specs.declared.Refusal.{Refusal}
 use Rattle.calls.specs.declared.Refusal.the-variants.{FrameLength}
 use Rattle.calls.specs.declared.Answer.{Answer}
 use Rattle.calls.specs.declared.Answer.the-variants.{Accepted, Refused}
-use Rattle.calls.proofs.Reports.{report-clear, report-stops, clear-none, clear-some, refusal-number}
+use Rattle.calls.proofs.Reports.{report-clear, report-stops, first-reported, clear-none, clear-some, refusal-number}
 use Rattle.calls.proofs.Demand2.{past-load, past-frame, clear-allows, accepts-yes}
 use Rattle.calls.specs.Demand2.{Accepts}
 use Rattle.calls.proofs.Work.{work-built}
@@ -53,7 +53,9 @@ module _ {ports slots : ℕ} {list : List ℕ} (limits buffer : List ℕ) where
       pub frame-done : t ≡ true → Done ports slots list limits buffer (4 ∷ []) buffer
       unfolding buildChecks
       frame-done h =
-          refused FrameLength (sym (past-load ports slots list (list-well is well) (bad-frame ports slots buffer ∷ overloads ports slots list limits) (acceptance ports slots list limits buffer) ∙ rw (sym t-is ∙ h)))
+          let rest = bad-frame ports slots buffer ∷ overloads ports slots list limits in
+          let other = acceptance ports slots list limits buffer in
+          refused FrameLength (first-reported 0 rest other tt (sym t-is ∙ h) ∙ sym (past-load ports slots list (list-well is well) rest other))
 
       module _ (no : t ≡ false) {ins outs lines : List ℕ} (loads : EveryLoad ports list ins outs lines) (b : Answer) (decides : answered b ≡ decided slots ins outs lines limits) where
         framed : FrameFits ports slots buffer

@@ -1,12 +1,12 @@
 -- Reports: the first condition that holds.
-use Prim.Native.Nat.{ℕ, _*_, _%_, _≤_, _<_}
+use Prim.Native.Nat.{ℕ, suc, zero, _*_, _%_, _≤_, _<_}
 use mathlib.Core.Path.{_≡_, refl, sym, ap, _∙_}
 use mathlib.Core.Logic.{_≢_}
 use mathlib.Core.List.{List, [], _∷_, _++_}
 use mathlib.Core.Bool.{Bool, true, false, not, true≢false}
 use native.Mathlib.Omega.{arith}
 use lib.Dec.{eqb, ltb}
-use lib.ListN.{length, getD}
+use lib.ListN.{length, getD, take}
 use lib.Pow.{pow-pos}
 use borrow.Author.Tests.{eqb-true, eqb-false, eq-eqb, ne-eqb, le-ltb, ltb-false, not-false}
 use Rattle.rules.specs.Words.{within, first, Every, Within}
@@ -56,6 +56,32 @@ pub report-refused : (cs : List Check) (asked other : List ℕ) → none-holds c
 report-refused [] asked other = λ e. absurd (true≢false e)
 report-refused (c ∷ cs) asked other =
     byBool (c .0) (λ b. rw b (λ e. refl)) (λ b. rw b (λ e. report-refused cs asked other e))
+
+-- ---- tests in order
+-- A test that does not hold.
+abbrev pub Passes : Check → Type 0
+Passes c = c .0 ≡ false
+
+-- none of some holds exactly where each passes
+pub passes-clear : (cs : List Check) → Every Passes cs → none-holds cs ≡ true
+passes-clear [] p = refl
+passes-clear (c ∷ cs) p = rw (p .0) (passes-clear cs (p .1))
+
+pub clear-passes : (cs : List Check) → none-holds cs ≡ true → Every Passes cs
+clear-passes [] = λ e. tt
+clear-passes (c ∷ cs) =
+    byBool (c .0) (λ b. rw b (λ e. absurd (true≢false (sym e)))) (λ b. rw b (λ e. (refl, clear-passes cs e)))
+
+-- the first test that holds is the one reported, that after n others
+pub first-reported : (n : ℕ) (cs : List Check) (asked : List ℕ) → Every Passes (take n cs) → getD cs n (false, []) .0 ≡ true
+    → getD cs n (false, []) .1 ≡ report cs asked
+first-reported n [] asked p h = absurd (true≢false (sym h))
+first-reported zero (c ∷ cs) asked p h = rw h
+first-reported (suc n) (c ∷ cs) asked p h = rw (p .0) (first-reported n cs asked (p .1) h)
+
+-- where all pass, it is the other answer
+pub other-reported : (cs : List Check) (asked : List ℕ) → Every Passes cs → asked ≡ report cs asked
+other-reported cs asked p = sym (report-clear cs asked (passes-clear cs p))
 
 -- a refusal's number is not 0
 pub refusal-number : (x : Refusal) → getD (refusal x) 0 0 ≢ 0

@@ -1,5 +1,6 @@
 -- Laws of the checks.
 pub mod Fits
+pub mod InOrder
 pub mod Lengths
 pub mod Listed
 pub mod Ports

@@ -31,7 +31,7 @@ use Rattle.rules.proofs.Flows.{counts-at}
 use Rattle.rules.proofs.Levels.{power-level}
 use Rattle.strays.proofs.Earliest.{earliest-most}
 use Rattle.strays.proofs.Strays.{stray-most}
-use Rattle.calls.proofs.Reports.{report-then, report-stops, clear-none}
+use Rattle.calls.proofs.Reports.{report-then, report-stops, first-reported, other-reported, clear-none}
 use Rattle.calls.proofs.Demand2.{past-load, clear-fits, cells-most}
 use Rattle.checks.proofs.Listed.{list-refused, list-well, list-fits}
 use Rattle.admission.proofs.Deciding.{ports-decided}
@@ -178,7 +178,9 @@ module _ {ports slots : ℕ} {list : List ℕ} {a : Answer} (l : ListAnswer port
 
     module _ (d : b ≡ Accepted) {q : Bool} (bad : q ≡ not (whoWithin ports list who)) where
       pub who-shut : q ≡ true → 12 ∷ [] ≡ depth ports slots list who
-      who-shut t = sym (rw (sym bad ∙ t)) ∙ past-ports ports slots list who (list-well l e) (ports-clear slots b (list-fits l e) loads over d)
+      who-shut t =
+          first-reported 0 (bad-who ports list who ∷ []) (bound ports slots list who) tt (sym bad ∙ t)
+          ∙ past-ports ports slots list who (list-well l e) (ports-clear slots b (list-fits l e) loads over d)
 
       module _ (good : q ≡ false) where
         pub who-open : PortLoads list who ins outs
@@ -201,5 +203,6 @@ module _ {ports slots : ℕ} {list : List ℕ} {a : Answer} (l : ListAnswer port
         pub bound-is : {m : ℕ} {given : List ℕ} → m ≡ load (classOf who) list → given ≡ 0 ∷ farthest slots m ∷ mostWaiting slots m ∷ []
             → given ≡ depth ports slots list who
         bound-is {m} is g =
-            g ∙ ap (λ z. 0 ∷ farthest slots z ∷ mostWaiting slots z ∷ []) is ∙ sym (rw (sym bad ∙ good))
+            g ∙ ap (λ z. 0 ∷ farthest slots z ∷ mostWaiting slots z ∷ []) is
+            ∙ other-reported (bad-who ports list who ∷ []) (bound ports slots list who) (sym bad ∙ good, tt)
             ∙ past-ports ports slots list who (list-well l e) (ports-clear slots b (list-fits l e) loads over d)

@@ -7,7 +7,6 @@ ghost use Rattle.calls.specs.Inspect.{inspected};
 ghost use Rattle.calls.specs.Service.{viewNumber, viewStart, viewSize, service};
 ghost use Rattle.calls.specs.Depth.{depth};
 ghost use Rattle.numbers.specs.Numbers.{Values2, Values3, Replied};
-use calls::Answer;
 use calls::Who;
 
 // Admit.
@@ -164,20 +163,10 @@ pub extern "C" fn frame_builder_slot_view(
     ensures { λ _. ⌜ now (start .exit) ≡ viewStart ports slots (now (frame .entry)) slot ⌝ }
     ensures { λ _. ⌜ now (size .exit) ≡ viewSize ports slots (now (frame .entry)) slot ⌝ }
 {
-    let answer = view::check_frame(ports, slots, frame, slot);
-    match answer {
-        Answer::Refused(refusal) => {
-            *start = 0;
-            *size = 0;
-            let n = numbers::of_refusal(refusal);
-            n.number
-        }
-        Answer::Accepted => {
-            *start = (slot - 1) * ports;
-            *size = ports;
-            0
-        }
-    }
+    let part = view::part_of(ports, slots, frame, slot);
+    *start = part.start;
+    *size = part.size;
+    part.number
 }
 
 // Depth: the bound and the cells to order; refusals 5 and 6 have the port and its load in their place.

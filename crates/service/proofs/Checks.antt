@@ -19,63 +19,67 @@ use Rattle.calls.specs.declared.Refusal.the-variants.{FrameLength, SlotNumber, 
 use Rattle.calls.specs.declared.Who.{Who}
 use Rattle.calls.specs.declared.Count.{Count}
 use Rattle.calls.specs.declared.Service.the-variants.{Counted, Refused}
-use Rattle.calls.proofs.Reports.{clear-then, refusal-number, within-known}
+use Rattle.calls.proofs.Reports.{clear-then, passes-clear, first-reported, refusal-number, within-known}
 use Rattle.calls.proofs.Replies.{count, reply-refused, reply-counted}
 use Rattle.calls.proofs.Demand2.{past-load, well-clear}
 use Rattle.checks.specs.Lists.{ListAnswer}
 use Rattle.checks.proofs.Listed.{list-refused, list-well, list-fits, frame-fits}
 use Rattle.service.specs.Whom.{CountAsked}
 
--- what comes after the checks of the list
-abbrev restOf : ℕ → ℕ → List ℕ → List ℕ → Who → ℕ → ℕ → List Check
-restOf ports slots list frame who start len = bad-frame ports slots frame ∷ bad-slot slots start ∷ bad-who ports list who ∷ bad-length len ∷ []
+module _ (ports slots : ℕ) (list frame : List ℕ) (who : Who) (start len : ℕ) where
+  -- what comes after the checks of the list
+  abbrev rest : List Check
+  rest = bad-frame ports slots frame ∷ bad-slot slots start ∷ bad-who ports list who ∷ bad-length len ∷ []
 
-module _ {ports slots : ℕ} {list : List ℕ} {a : Answer} (frame : List ℕ) (who : Who) (start len : ℕ) (is : ListAnswer ports slots list (answered a)) where
-  pub list-shut : {r : Refusal} → a ≡ answer.Refused r → served (Refused r) ≡ service ports slots list frame who start len
-  unfolding countChecks
-  list-shut {r} e = reply-refused ports slots list frame who start len (sym (list-refused is e (restOf ports slots list frame who start len) (count ports slots list frame who start len))) (refusal-number r)
+  abbrev asked-for : List ℕ
+  asked-for = count ports slots list frame who start len
 
-  module _ (yes : a ≡ Accepted) where
-    -- the answers in their order
-    refused-by : (r : Refusal) → report (restOf ports slots list frame who start len) (count ports slots list frame who start len) ≡ refusal r → served (Refused r) ≡ service ports slots list frame who start len
+  module _ {a : Answer} (is : ListAnswer ports slots list (answered a)) where
+    pub list-shut : {r : Refusal} → a ≡ answer.Refused r → served (Refused r) ≡ service ports slots list frame who start len
     unfolding countChecks
-    refused-by r e =
-        reply-refused ports slots list frame who start len (past-load ports slots list (list-well is yes) (restOf ports slots list frame who start len) (count ports slots list frame who start len) ∙ e) (refusal-number r)
+    list-shut {r} e = reply-refused ports slots list frame who start len (sym (list-refused is e rest asked-for)) (refusal-number r)
 
-    module _ {b : Bool} (l : b ≡ not (eqb (length frame) (slots * ports))) where
-      pub frame-shut : b ≡ true → served (Refused FrameLength) ≡ service ports slots list frame who start len
-      frame-shut e = refused-by FrameLength (rw (sym l ∙ e))
+    module _ (yes : a ≡ Accepted) where
+      -- the answers in their order
+      refused-by : (r : Refusal) → refusal r ≡ report rest asked-for → served (Refused r) ≡ service ports slots list frame who start len
+      unfolding countChecks
+      refused-by r e = reply-refused ports slots list frame who start len (past-load ports slots list (list-well is yes) rest asked-for ∙ sym e) (refusal-number r)
 
-      module _ (l' : b ≡ false) {c : Bool} (s : c ≡ not (within 1 slots start)) where
-        pub start-shut : c ≡ true → served (Refused SlotNumber) ≡ service ports slots list frame who start len
-        start-shut e = refused-by SlotNumber (rw (sym l ∙ l', sym s ∙ e))
+      module _ {b : Bool} (l : b ≡ not (eqb (length frame) (slots * ports))) where
+        pub frame-shut : b ≡ true → served (Refused FrameLength) ≡ service ports slots list frame who start len
+        frame-shut e = refused-by FrameLength (first-reported 0 rest asked-for tt (sym l ∙ e))
 
-        pub start-least : c ≡ false → 1 ≤ start
-        start-least s' = within-known {n = start} {most = slots} s s' .0
+        module _ (l' : b ≡ false) {c : Bool} (s : c ≡ not (within 1 slots start)) where
+          pub start-shut : c ≡ true → served (Refused SlotNumber) ≡ service ports slots list frame who start len
+          start-shut e = refused-by SlotNumber (first-reported 1 rest asked-for (sym l ∙ l', tt) (sym s ∙ e))
 
-        module _ (s' : c ≡ false) {d : Bool} (p : d ≡ not (whoWithin ports list who)) where
-          pub who-shut : d ≡ true → served (Refused FlowOrPort) ≡ service ports slots list frame who start len
-          who-shut e = refused-by FlowOrPort (rw (sym l ∙ l', sym s ∙ s', sym p ∙ e))
+          pub start-least : c ≡ false → 1 ≤ start
+          start-least s' = within-known {n = start} {most = slots} s s' .0
 
-          module _ (p' : d ≡ false) {f : Bool} (m : f ≡ ltb 1000000 len) where
-            pub length-shut : f ≡ true → served (Refused RunLength) ≡ service ports slots list frame who start len
-            length-shut e = refused-by RunLength (rw (sym l ∙ l', sym s ∙ s', sym p ∙ p', sym m ∙ e))
+          module _ (s' : c ≡ false) {d : Bool} (p : d ≡ not (whoWithin ports list who)) where
+            pub who-shut : d ≡ true → served (Refused FlowOrPort) ≡ service ports slots list frame who start len
+            who-shut e = refused-by FlowOrPort (first-reported 2 rest asked-for (sym l ∙ l', (sym s ∙ s', tt)) (sym p ∙ e))
 
-            module _ (m' : f ≡ false) where
-              pub asked : CountAsked ports slots list frame who (start - 1) len
-              asked =
-                  let t = within-known {n = start} {most = slots} s s' in
-                  record {
-                    framed = frame-fits is yes l l';
-                    asked = record { listed = list-fits is yes; is-within = not-false (whoWithin ports list who) (sym p ∙ p') };
-                    start-is = omega (arith, t .0, t .1);
-                    length-is = ltb-false 1000000 len (sym m ∙ m');
-                  }
+            module _ (p' : d ≡ false) {f : Bool} (m : f ≡ ltb 1000000 len) where
+              pub length-shut : f ≡ true → served (Refused RunLength) ≡ service ports slots list frame who start len
+              length-shut e = refused-by RunLength (first-reported 3 rest asked-for (sym l ∙ l', (sym s ∙ s', (sym p ∙ p', tt))) (sym m ∙ e))
 
-              pub run-counted : {r : Count} → r .cells ≡ cells (classOf who) ports list (repeated ports slots frame (start - 1) len)
-                  → r .lead ≡ lead (classOf who) ports slots list frame (start - 1) len → served (Counted r) ≡ service ports slots list frame who start len
-              unfolding countChecks
-              run-counted f g =
-                  let clear-all : none-holds (countChecks ports slots list frame who start len) ≡ true
-                  = clear-then (listChecks ports slots list) (restOf ports slots list frame who start len) (well-clear ports slots list (list-well is yes)) ∙ rw (sym l ∙ l', sym s ∙ s', sym p ∙ p', sym m ∙ m') in
-                  rw (f, g) (reply-counted ports slots list frame who start len clear-all)
+              module _ (m' : f ≡ false) where
+                pub asked : CountAsked ports slots list frame who (start - 1) len
+                asked =
+                    let t = within-known {n = start} {most = slots} s s' in
+                    record {
+                      framed = frame-fits is yes l l';
+                      asked = record { listed = list-fits is yes; is-within = not-false (whoWithin ports list who) (sym p ∙ p') };
+                      start-is = omega (arith, t .0, t .1);
+                      length-is = ltb-false 1000000 len (sym m ∙ m');
+                    }
+
+                pub run-counted : {r : Count} → r .cells ≡ cells (classOf who) ports list (repeated ports slots frame (start - 1) len)
+                    → r .lead ≡ lead (classOf who) ports slots list frame (start - 1) len → served (Counted r) ≡ service ports slots list frame who start len
+                unfolding countChecks
+                run-counted f g =
+                    let clear-all : none-holds (countChecks ports slots list frame who start len) ≡ true
+                    = clear-then (listChecks ports slots list) rest (well-clear ports slots list (list-well is yes))
+                    ∙ passes-clear rest (sym l ∙ l', (sym s ∙ s', (sym p ∙ p', (sym m ∙ m', tt)))) in
+                    rw (f, g) (reply-counted ports slots list frame who start len clear-all)

@@ -9,7 +9,7 @@ count-run-requires c κs =
     let started = named .before .before in
     let sized = started .before .before in
     let told = sized .before .before in
-    asked _ _ _ _ (told .before .before .check-list .ensures) (told .enum-told .given .1) (sized .before .bad-length .ensures) (sized .if1 .left)
+    asked _ _ _ _ _ _ _ (told .before .before .check-list .ensures) (told .enum-told .given .1) (sized .before .bad-length .ensures) (sized .if1 .left)
     (started .before .outside .ensures) (started .if2 .left) (named .before .bad-who .ensures) (named .if3 .left) (c .before .too-long .ensures) (c .if4 .left)
 
 returns-6 : tie.Need-returns-6
@@ -19,7 +19,7 @@ returns-6 c =
     let started = named .before .before in
     let sized = started .before .before in
     let told = sized .before .before in
-    run-counted _ _ _ _ (told .before .before .check-list .ensures) (told .enum-told .given .1) (sized .before .bad-length .ensures) (sized .if1 .left)
+    run-counted _ _ _ _ _ _ _ (told .before .before .check-list .ensures) (told .enum-told .given .1) (sized .before .bad-length .ensures) (sized .if1 .left)
     (started .before .outside .ensures) (started .if2 .left) (named .before .bad-who .ensures) (named .if3 .left) (short .before .too-long .ensures) (short .if4 .left)
     (c .count-run .ensures .0) (c .count-run .ensures .1)
 
