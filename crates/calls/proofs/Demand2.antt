@@ -30,9 +30,9 @@ unfolding portOf
 well-placed w f h = let p = w .ported inputs f h in omega arith
 
 -- the cells of a flow are at most the load of its input, and so at most the slots of a frame that they fit
-pub cells-most : {ports slots : ℕ} {list : List ℕ} → WellFormed ports slots list → Fits ports slots (portOf list) (countsOf list) → (f : ℕ) → f < flows list
+pub flow-most : {ports slots : ℕ} {list : List ℕ} → WellFormed ports slots list → Fits ports slots (portOf list) (countsOf list) → (f : ℕ) → f < flows list
     → numberOf 2 list f ≤ slots
-cells-most {ports} {slots} {list} w fits f h =
+flow-most {ports} {slots} {list} w fits f h =
     let i = portOf list inputs f in
     let own = load-has (portOn input i) (portOf list) (countsOf list) f (omega (arith, counts-length list)) (eq-eqb i i refl) in
     omega (arith, own, fits i (well-placed w f h) .0, counts-at list f h)
