@@ -14,7 +14,7 @@ returns c =
     (c .of-refusal .ensures .three .number-is ∙ view-refused _ _ _ _ _ shut, (no-start _ _ _ _ _ shut, no-size _ _ _ _ _ shut))
 
 returns-2 : tie.Need-returns-2
-returns-2 c = let o = opened c in (view-accepted _ _ _ _ o, (view-start _ _ _ _ o, view-size _ _ _ _ o))
+returns-2 c = let o = opened c in search (needs, o, view-accepted, view-start, view-size)
 
 pub frame-builder-slot-view-spec : {M : Type 1} → statement M
 frame-builder-slot-view-spec =
