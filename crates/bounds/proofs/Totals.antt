@@ -30,7 +30,7 @@ use Rattle.rules.proofs.Slots.{AtInputs, slot-is, slot-exact}
 use Rattle.rules.proofs.Levels.{double, pow-only}
 use Rattle.rules.proofs.OneFrame.{frame-length}
 use Rattle.rules.proofs.Flows.{counts-length}
-use Rattle.calls.proofs.Demand2.{accepts-is, well-placed, build-frame, build-sound}
+use Rattle.calls.proofs.Demand2.{accepts-is, ported-placed, build-frame, build-sound}
 use Rattle.strays.proofs.Earliest.{earliest-none, earliest-all, earliest-near, earliest-far, earliest-least, by-half}
 use Rattle.strays.proofs.Strays.{stray-has}
 use Rattle.strays.proofs.Deviations.{stray-deviation}
@@ -134,7 +134,7 @@ built-total c buffer e =
       sound = build-sound (c .ports) (c .slots) (c .list) (c .limits) buffer e;
       depth = levels (c .slots);
       power = p;
-      first = rw e (frame-total (c .ports) (c .list) (well-placed (a .well)) (levels (c .slots)) (countsOf (c .list)) (counts-length (c .list))
+      first = rw e (frame-total (c .ports) (c .list) (ported-placed (c .list) (a .well .ported)) (levels (c .slots)) (countsOf (c .list)) (counts-length (c .list))
           (subst (λ (n : ℕ). Fits (c .ports) n (portOf (c .list)) (countsOf (c .list))) p (a .fits)));
     }
 

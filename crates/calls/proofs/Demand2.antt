@@ -9,7 +9,7 @@ use lib.ListN.{length, getD}
 use borrow.Author.Tests.{not-true, eq-eqb}
 use Rattle.rules.specs.Flows.{flows, numberOf, inputs, portOf, countsOf, portOn, input, output, Fits}
 use Rattle.rules.specs.Frames.{Legal, Balanced, levels}
-use Rattle.calls.specs.Demand2.{WellFormed, OverloadAnswers, Accepts, Light, Allows, Demand2}
+use Rattle.calls.specs.Demand2.{Ported, WellFormed, OverloadAnswers, Accepts, Light, Allows, Demand2}
 use Rattle.calls.specs.Refusals.{Check, report, none-holds, accepted, bad-ports, bad-slots, bad-list, too-many-flows, port-outside, link-outside, listChecks, bad-frame, overload, portOverloads, linkOverload, overloads, admitted}
 use Rattle.rules.specs.Rules.{Scheduled}
 use Rattle.rules.specs.Schedule.{frameOf}
@@ -25,17 +25,17 @@ use Rattle.calls.proofs.Reports.{report-found, report-on, report-clear,
 use Rattle.calls.proofs.Overloads.{over-reported, overload-tells, link-reported, limits-tell}
 
 -- the first n flows are at inputs of the switch
-pub well-placed : {ports slots : ℕ} {list : List ℕ} → WellFormed ports slots list → AtInputs ports (portOf list) (flows list)
+pub ported-placed : {ports : ℕ} (list : List ℕ) → Ported ports list → AtInputs ports (portOf list) (flows list)
 unfolding portOf
-well-placed w f h = let p = w .ported inputs f h in omega arith
+ported-placed list ported f h = let p = ported inputs f h in omega arith
 
 -- the cells of a flow are at most the load of its input, and so at most the slots of a frame that they fit
-pub cells-most : {ports slots : ℕ} {list : List ℕ} → WellFormed ports slots list → Fits ports slots (portOf list) (countsOf list) → (f : ℕ) → f < flows list
+pub flow-most : {ports slots : ℕ} (list : List ℕ) → Ported ports list → Fits ports slots (portOf list) (countsOf list) → (f : ℕ) → f < flows list
     → numberOf 2 list f ≤ slots
-cells-most {ports} {slots} {list} w fits f h =
+flow-most list ported fits f h =
     let i = portOf list inputs f in
     let own = load-has (portOn input i) (portOf list) (countsOf list) f (omega (arith, counts-length list)) (eq-eqb i i refl) in
-    omega (arith, own, fits i (well-placed w f h) .0, counts-at list f h)
+    omega (arith, own, fits i (ported-placed list ported f h) .0, counts-at list f h)
 
 module _ (ports slots : ℕ) (list : List ℕ) where
   -- a load fits where its inputs and its outputs are light
@@ -157,7 +157,7 @@ module _ (ports slots : ℕ) (list : List ℕ) where
 pub well-frame : (ports slots : ℕ) (list : List ℕ) (w : WellFormed ports slots list) → Fits ports slots (portOf list) (countsOf list)
     → Scheduled ports (portOf list) (w .power .k) (countsOf list) (frameOf ports (portOf list) (w .power .k) (countsOf list))
 well-frame ports slots list w fits =
-    frame-is ports (portOf list) (w .power .k) (countsOf list) (rw (counts-length list) (well-placed w))
+    frame-is ports (portOf list) (w .power .k) (countsOf list) (rw (counts-length list) (ported-placed list (w .ported)))
     (subst (λ (n : ℕ). Fits ports n (portOf list) (countsOf list)) (w .power .is) fits)
 
 -- ---- Build
@@ -190,7 +190,7 @@ pub build-frame : (ports slots : ℕ) (list limits buffer : List ℕ) → buildA
 build-frame ports slots list limits buffer e =
     let a = accepts-is ports slots list limits buffer e in
     let p = levels-power slots (power-known (a .well .power)) in
-    (rw e (one-frame ports (levels slots) list (well-placed (a .well)) (subst (λ (n : ℕ). Fits ports n (portOf list) (countsOf list)) p (a .fits))), p)
+    (rw e (one-frame ports (levels slots) list (ported-placed list (a .well .ported)) (subst (λ (n : ℕ). Fits ports n (portOf list) (countsOf list)) p (a .fits))), p)
 
 pub build-sound : (ports slots : ℕ) (list limits buffer : List ℕ) → buildAccepts ports slots list limits buffer ≡ true
     → Legal ports slots list (frameAfter ports slots list limits buffer) × Balanced ports slots list (frameAfter ports slots list limits buffer)

@@ -22,7 +22,7 @@ use Rattle.rules.proofs.Slots.{AtInputs}
 use Rattle.rules.proofs.Cells.{run-all, run-first, run-second}
 use Rattle.rules.proofs.Blocks.{number-block, block-numbered}
 use Rattle.rules.proofs.OneFrame.{Laid, rules-sound}
-use Rattle.calls.proofs.Demand2.{well-placed, accepts-is, build-frame}
+use Rattle.calls.proofs.Demand2.{ported-placed, accepts-is, build-frame}
 
 -- ---- the blocks of a frame of 2 ^ k slots, depth by depth
 abbrev pub atDepth : ℕ → ℕ → List ℕ → List ℕ → ℕ → ℕ
@@ -164,7 +164,7 @@ work-built ports slots list limits buffer e =
     let k = levels slots in
     let low : k ≤ 10 = (let n = a .well .power .most in omega (arith, power-level (a .well .power))) in
     ap (λ (n : ℕ). work ports n list (frameAfter ports slots list limits buffer)) (b .1)
-    ∙ work-settled ports list (well-placed (a .well)) k (frameAfter ports slots list limits buffer) low (b .0 .meets)
+    ∙ work-settled ports list (ported-placed list (a .well .ported)) k (frameAfter ports slots list limits buffer) low (b .0 .meets)
 
 -- ---- a bound on them, for counts that need not fit: a count has fewer than there are slots
 pub shares-less : (k c : ℕ) → oddShares k c < 2 ^ k

@@ -9,6 +9,7 @@ use Rattle.rules.specs.Words.{Within}
 use Rattle.rules.specs.Flows.{flows, inputs, links, portOf}
 use Rattle.rules.specs.Frames.{levels}
 use Rattle.rules.proofs.Levels.{power-level, power-most}
+use Rattle.calls.proofs.Demand2.{ported-placed}
 use Rattle.checks.specs.Fits.{ListFits, FrameFits}
 
 module _ {ports : ℕ} {list : List ℕ} (l : ListFits ports list) where
@@ -26,8 +27,7 @@ module _ {ports : ℕ} {list : List ℕ} (l : ListFits ports list) where
   -- the input and the link of a flow, from 0
   module _ (f : ℕ) (h : f < flows list) where
     pub input-below : portOf list inputs f < ports
-    unfolding portOf
-    input-below = let p = l .ported inputs f h in omega arith
+    input-below = ported-placed list (l .ported) f h
 
     pub link-below : portOf list links f < ports * 4
     unfolding portOf

@@ -32,7 +32,7 @@ use Rattle.rules.proofs.Levels.{power-level}
 use Rattle.strays.proofs.Earliest.{earliest-most}
 use Rattle.strays.proofs.Strays.{stray-most}
 use Rattle.calls.proofs.Reports.{report-then, report-stops, first-reported, other-reported, clear-none}
-use Rattle.calls.proofs.Demand2.{past-load, clear-fits, cells-most}
+use Rattle.calls.proofs.Demand2.{past-load, clear-fits, flow-most}
 use Rattle.checks.proofs.Listed.{list-refused, list-well, list-fits}
 use Rattle.admission.proofs.Deciding.{ports-decided}
 use Rattle.depth.proofs.Peaks.{whole-low}
@@ -131,7 +131,7 @@ load-under : (ports slots : ℕ) (list : List ℕ) (who : Who) → WellFormed po
     → whoWithin ports list who ≡ true → load (classOf who) list ≤ slots
 load-under ports slots list (Flow f) w fits e =
     let in-list = within-true 1 (flows list) f e in
-    omega (arith, load-flow (f - 1) (portOf list) (countsOf list), counts-at list (f - 1) (omega arith), cells-most w fits (f - 1) (omega arith))
+    omega (arith, load-flow (f - 1) (portOf list) (countsOf list), counts-at list (f - 1) (omega arith), flow-most list (w .ported) fits (f - 1) (omega arith))
 load-under ports slots list (Input i) w fits e = let port = within-true 1 ports i e in fits (i - 1) (omega arith) .0
 load-under ports slots list (Output o) w fits e = let port = within-true 1 ports o e in fits (o - 1) (omega arith) .1
 

@@ -63,11 +63,6 @@ count-parts m planes p = omega (arith, binary-up m (digitIn planes p), lowest pl
 pub count-odd : (m : ℕ) (planes : List ℕ) (p : ℕ) → countAt (suc m) planes p % 2 ≡ digitAt planes p
 count-odd m planes p = omega (arith, count-parts m planes p, digit-le planes p)
 
--- one plane has the counts themselves
-pub count-one : (planes : List ℕ) (p : ℕ) → countAt 1 planes p ≡ digitAt planes p
-unfolding binary
-count-one planes p = count-parts 0 planes p ∙ omega arith
-
 pub odd-is : (m : ℕ) (planes : List ℕ) (n p : ℕ) → p < n → oddAt planes p ≡ odd (countsIn (suc m) planes n) p
 odd-is m planes n p h =
     ap (λ (x : ℕ). eqb x 1) (sym (count-odd m planes p) ∙ ap (λ (x : ℕ). x % 2) (sym (counts-at (suc m) planes n p h)))

@@ -134,7 +134,7 @@ module _ (list : List ℕ) where
 
 -- ---- a class is its flows: what is exact for each flow is exact for every class
 module _ (ports : ℕ) (list entries : List ℕ) (each : (q : ℕ) → q < length entries → right list (q % ports) (getD entries q 0) ≡ true) where
-  pub cells-flows : (c : Class) → cells c ports list entries ≡ sumIf (flows list) (isOf c (portOf list)) (λ f. cells (flow f) ports list entries)
+  cells-flows : (c : Class) → cells c ports list entries ≡ sumIf (flows list) (isOf c (portOf list)) (λ f. cells (flow f) ports list entries)
   unfolding cells
   cells-flows c =
       sum-ext (length entries) _ _ (λ q h. entry-counts list c (q % ports) (getD entries q 0) (each q h))

@@ -48,14 +48,14 @@ module _ (f g : ℕ → ℕ) (m : List ℕ) (e : (p : ℕ) → p < length m → 
   singles-same x zero = refl
   singles-same x (suc n) = ap₂ (λ (l r : List ℕ). single l ++ r) (odds-same x) (singles-same (suc x) n)
 
-  pub output-same : (p : ℕ) → outputPartner f m p ≡ outputPartner g m p
+  output-same : (p : ℕ) → outputPartner f m p ≡ outputPartner g m p
   output-same p =
       byLt p (length m)
       (λ h. ap₂ (λ (q : ℕ) (l : List ℕ). if (eqb q p) (partnerIn l p) q) (partner-same p)
       (ap (λ (y : ℕ). singlesOf f m (outputOf y * 4) 4) (e p h) ∙ singles-same (outputOf (g p) * 4) 4))
       (λ h. output-none m p h f ∙ sym (output-none m p h g))
 
-pub favours-same : (f g : End → ℕ → ℕ) (m : List ℕ) → ((s : End) (p : ℕ) → p < length m → f s p ≡ g s p) → favours f m ≡ favours g m
+favours-same : (f g : End → ℕ → ℕ) (m : List ℕ) → ((s : End) (p : ℕ) → p < length m → f s p ≡ g s p) → favours f m ≡ favours g m
 unfolding favours
 favours-same f g m e =
     ap₂ (λ (i o : ℕ → ℕ). favoursBy i o m)
@@ -68,7 +68,7 @@ put-same f g n e (p ∷ l) slot al =
     ap (λ (x : ℕ). put f l (set slot x (suc p))) (e p (al .0)) ∙ put-same f g n e l (set slot (g inputs p) (suc p)) (al .1)
 
 -- a slot is written by the inputs alone
-pub slot-same : (ports : ℕ) (f g : End → ℕ → ℕ) (m : List ℕ) → ((p : ℕ) → p < length m → f inputs p ≡ g inputs p) → slotOf ports f m ≡ slotOf ports g m
+slot-same : (ports : ℕ) (f g : End → ℕ → ℕ) (m : List ℕ) → ((p : ℕ) → p < length m → f inputs p ≡ g inputs p) → slotOf ports f m ≡ slotOf ports g m
 unfolding slotOf
 slot-same ports f g m e =
     put-same f g (length m) e (keep (odd m) (upFrom 0 (length m))) (replicate ports 0)

@@ -87,13 +87,13 @@ module _ (m : List ℕ) (i o : ℕ → ℕ) (pi : Pairing (odd m) i) (po : Pairi
         })
         (omega (arith, unsettled-less c2 p (omega arith), w .fine .len))
 
-    pub group-settled : Settled m i o (groupOf i o m h p c)
+    group-settled : Settled m i o (groupOf i o m h p c)
     group-settled =
         let w = walked-out in
         let off : (q : ℕ) → getD (groupOf i o m h p c) q 0 ≢ 0 → q ≢ length m = λ q s. let l = odd-lt m q (w .fine .odds q s) in omega arith in
         record { fine = w .fine; ins = λ q s. w .backs q (off q s) s; outs = λ q s. w .goes q (off q s) s }
 
-    pub group-keeps : Keeps c (groupOf i o m h p c)
+    group-keeps : Keeps c (groupOf i o m h p c)
     group-keeps r s =
         let ne : r ≢ p = λ k. s (ap (λ (t : ℕ). getD c t 0) k ∙ z) in
         let a = getD-set-other c p r h 0 ne in

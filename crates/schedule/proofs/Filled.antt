@@ -1,19 +1,18 @@
 -- The counts of a load that fits are those of a block, and what is made of them is made of the list.
 use Prim.Native.Nat.{ℕ, suc, _*_, _^_, _≤_, _<_}
-use mathlib.Core.Path.{_≡_, refl, sym, ap, ap₂, _∙_}
+use mathlib.Core.Path.{_≡_, sym, ap, ap₂, _∙_}
 use mathlib.Core.List.{List}
 use native.Mathlib.Omega.{arith}
 use lib.ListN.{length, getD, replicate}
-use borrow.Author.Tests.{eq-eqb}
-use Rattle.rules.specs.Flows.{flows, numberOf, inputs, portOf, countsOf, portOn, input}
+use Rattle.rules.specs.Flows.{flows, numberOf, portOf, countsOf}
 use Rattle.rules.specs.Frames.{levels}
 use Rattle.rules.specs.OddShares.{settled}
 use Rattle.rules.specs.Schedule.{frameOf}
 use Rattle.calls.specs.Build.{frameFor}
 use Rattle.rules.proofs.Levels.{pow-less, power-level}
 use Rattle.rules.proofs.Flows.{counts-length, counts-at}
-use Rattle.rules.proofs.Halves.{load-has}
-use Rattle.checks.proofs.Fits.{input-below, level-low}
+use Rattle.calls.proofs.Demand2.{flow-most}
+use Rattle.checks.proofs.Fits.{level-low}
 use Rattle.rules.proofs.SamePorts.{frame-same}
 use Rattle.planes.specs.Planes.{countsIn, BlockPlanes}
 use Rattle.planes.specs.Steps.{Loaded}
@@ -22,12 +21,6 @@ use Rattle.planes.specs.Tables.{tabled}
 use Rattle.schedule.specs.Steps.{Fillable, Tabled}
 
 module _ {ports slots : ℕ} {list buffer : List ℕ} (f : Fillable ports slots list buffer) where
-  -- the cells of a flow are at most the load of its input
-  cells-most : (q : ℕ) → q < flows list → numberOf 2 list q ≤ slots
-  cells-most q h =
-      let i-lt = input-below (f .listed) q h in
-      omega (arith, f .fits (portOf list inputs q) i-lt .0, load-has (portOn input (portOf list inputs q)) (portOf list) (countsOf list) q (omega (arith, counts-length list)) (eq-eqb (portOf list inputs q) (portOf list inputs q) refl), counts-at list q h)
-
   power : slots ≡ 2 ^ levels slots
   power = f .framed .power .is ∙ ap (λ (k : ℕ). 2 ^ k) (sym (power-level (f .framed .power)))
 
@@ -35,11 +28,11 @@ module _ {ports slots : ℕ} {list buffer : List ℕ} (f : Fillable ports slots 
   levels-low = omega (arith, level-low (f .framed))
 
   pub cells-room : (q : ℕ) → q < flows list → numberOf 2 list q < 2 ^ 11
-  cells-room q h = omega (arith, cells-most q h, power, pow-less (levels slots) 11 (omega (arith, levels-low)))
+  cells-room q h = omega (arith, flow-most list (f .listed .ported) (f .fits) q h, power, pow-less (levels slots) 11 (omega (arith, levels-low)))
 
   loaded-counts : {m : ℕ} {planes : List ℕ} → m ≡ levels slots → Loaded list planes → countsIn (suc m) planes (flows list) ≡ countsOf list
   loaded-counts {m} e g =
-      g .same (suc m) (omega (arith, levels-low)) (λ q h. omega (arith, cells-most q h, power, ap (λ (k : ℕ). 2 ^ k) e, pow-less m (suc m) (omega arith)))
+      g .same (suc m) (omega (arith, levels-low)) (λ q h. omega (arith, flow-most list (f .listed .ported) (f .fits) q h, power, ap (λ (k : ℕ). 2 ^ k) e, pow-less m (suc m) (omega arith)))
 
   pub loaded-block : {m n : ℕ} {planes : List ℕ} → m ≡ levels slots → n ≡ flows list → Loaded list planes → BlockPlanes m n planes
   loaded-block {m} {n} {planes} e d g =
@@ -52,7 +45,7 @@ module _ {ports slots : ℕ} {list buffer : List ℕ} (f : Fillable ports slots 
               sym (in-planes.counts-at (suc m) planes (flows list) p (omega arith)),
               ap (λ (c : List ℕ). getD c p 0) (loaded-counts e g),
               counts-at list p (omega arith),
-              cells-most p (omega arith),
+              flow-most list (f .listed .ported) (f .fits) p (omega arith),
               power,
               ap (λ (k : ℕ). 2 ^ k) e,
             );

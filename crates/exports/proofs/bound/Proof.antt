@@ -9,4 +9,4 @@ bound-spec =
     (tie.spec
     (λ c κs. search needs)
     (λ c κs. search needs)
-    (λ c. three-of (c .of-depth .ensures .three) (c .before .depth-of .ensures)))
+    (λ c. search (needs, three-of)))

@@ -10,7 +10,7 @@ returns : tie.Need-returns
 returns c =
     let lead = c .before .of-service .result .lead in
     let kept : toZ w64 (ofZ w64 lead) ≡ lead = search needs in
-    replied-of (c .before .of-service .ensures) (c .before .before .service-count .ensures) kept
+    search (needs, replied-of, kept)
 
 pub count-spec : {M : Type 1} → statement M
 count-spec = tie.close (tie.spec (λ c κs. search needs) (λ c κs. search needs) returns)

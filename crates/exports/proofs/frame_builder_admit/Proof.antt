@@ -9,4 +9,4 @@ frame-builder-admit-spec =
     (tie.spec
     (λ c κs. search needs)
     (λ c κs. search needs)
-    (λ c. four-of (c .of-answer .ensures) (c .before .admit .ensures)))
+    (λ c. search (needs, four-of)))

@@ -10,4 +10,4 @@ frame-builder-build-spec =
     (λ c κs. search needs)
     (λ c κs. search needs)
     (λ c. search needs)
-    (λ c. (four-of (c .of-built .ensures) (c .before .before .before .build .ensures .0), c .before .before .before .build .ensures .1)))
+    (λ c. search (needs, four-of)))

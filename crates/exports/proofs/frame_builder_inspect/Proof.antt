@@ -9,4 +9,4 @@ frame-builder-inspect-spec =
     (tie.spec
     (λ c κs. search needs)
     (λ c κs. search needs)
-    (λ c. three-of (c .of-inspection .ensures .three) (c .before .inspect .ensures)))
+    (λ c. search (needs, three-of)))

@@ -12,5 +12,5 @@ of-answer-spec =
     (λ c κs. search needs)
     (λ c. search needs)
     (λ c κs. search needs)
-    (λ c. told answered _ _ (c .before .enum-told .given .1) (c .with-values .ensures))
+    (λ c. search (needs, told answered _ _ (c .before .enum-told .given .1)))
     (λ c. passed answered _ _ (c .before .before .answer .given .1) (c .of-refusal .ensures)))

@@ -12,5 +12,5 @@ of-built-spec =
     (λ c κs. search needs)
     (λ c. search needs)
     (λ c κs. search needs)
-    (λ c. told outcome _ _ (c .before .before .built .given .1) (c .with-values .ensures))
+    (λ c. search (needs, told outcome _ _ (c .before .before .built .given .1)))
     (λ c. passed outcome _ _ (c .before .before .built2 .given .1) (c .of-refusal .ensures)))

@@ -12,5 +12,5 @@ of-depth-spec =
     (λ c κs. search needs)
     (λ c. search needs)
     (λ c κs. search needs)
-    (λ c. told depthNumbers _ _ (c .before .before .depth .given .1) (c .with-values .ensures))
+    (λ c. search (needs, told depthNumbers _ _ (c .before .before .depth .given .1)))
     (λ c. passed depthNumbers _ _ (c .before .before .depth2 .given .1) (c .of-refusal .ensures)))
