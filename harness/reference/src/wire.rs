@@ -187,8 +187,7 @@ impl Course {
 
     /// The run on which the cells stray furthest from their share.
     pub fn furthest_run(&self) -> Run {
-        let found = [1, -1].map(|sign| self.greatest(sign, anywhere, anywhere));
-        further(found)
+        further([1, -1].map(|sign| self.greatest(sign, anywhere, anywhere)))
     }
 
     /// The run on which the cells get furthest ahead of their share.
@@ -307,8 +306,8 @@ pub fn deviation(k: u32) -> i128 {
     }
 }
 
-/// How far a run of one frame of 2^k slots that repeats can be from its share, whatever the load: from four slots on twice as far as
-/// two frames of half the slots.
+/// How far a run of one frame of 2^k slots that repeats can be from its share, in parts of 1/2^k of a cell, whatever the load: from four
+/// slots on by as many cells as a run across two different frames of half the slots.
 pub fn repeat_deviation(k: u32) -> i128 {
     match k {
         0 => 0,
