@@ -7,6 +7,8 @@ mod build;
 mod depth;
 mod flow;
 mod inspect;
+pub mod order;
+pub mod page;
 mod query;
 pub mod queue;
 mod refusal;

@@ -1,6 +1,7 @@
 //! The queue of one flow, of a link, or of all cells together, slot by slot, and along a row of switches.
 
-use crate::wire::{deviation, Course};
+use crate::stray::stray;
+use crate::wire::Course;
 
 /// Cells that come in as fast as they may: none before slot `from`, and in no run of slots more than the flow's share of
 /// the run and `ahead` more, which is in parts of 1/2^k of a cell.
@@ -32,9 +33,12 @@ pub struct Passed {
     pub sent: Vec<u64>,
     /// The most cells that waited after a slot.
     pub waiting: u64,
-    /// The most that waited just before a slot's cell left, less the slot's share, in parts of 1/2^k of a cell; at least 0.
+    /// The most that waited after a slot, less the stray of its load, in parts of 1/2^k of a cell.
+    after: i128,
+    /// The most that waited just before a slot's cell left, less the slot's share and the stray of its load.
     before: i128,
-    slots: u64,
+    /// The largest stray of a frame's load.
+    furthest: i128,
 }
 
 /// How far the queue stood at most from what is allowed, in parts of 1/2^k of a cell; above 0 is too deep.
@@ -49,9 +53,9 @@ pub struct Depth {
 impl Passed {
     /// The depth where the cells came in by no more than `ahead` parts of 1/2^k of a cell before their share.
     pub fn depth(&self, ahead: u64) -> Depth {
-        let allowed = i128::from(ahead) + 2 * deviation(self.slots.trailing_zeros());
+        let allowed = i128::from(ahead) + self.furthest;
         Depth {
-            after: i128::from(self.slots) * i128::from(self.waiting) - allowed,
+            after: self.after - allowed,
             before: self.before - allowed,
         }
     }
@@ -59,19 +63,24 @@ impl Passed {
 
 /// Runs the flow's queue: cells join before the slot's own cell leaves.
 pub fn pass(course: &Course, arrivals: &[u64]) -> Passed {
+    let furthest = course.largest_stray();
     let mut passed = Passed {
         sent: Vec::with_capacity(arrivals.len()),
         waiting: 0,
-        before: 0,
-        slots: course.slots,
+        after: -furthest,
+        before: -furthest,
+        furthest,
     };
+    let parts = |cells: u64| i128::from(course.slots) * i128::from(cells);
     let mut queue = 0;
-    for (slot, arrived) in course.given.iter().zip(arrivals) {
+    for (place, (slot, arrived)) in course.given.iter().zip(arrivals).enumerate() {
+        let stray = course.stray_at(place);
         queue += arrived;
-        let parts = i128::from(course.slots) * i128::from(queue);
-        passed.before = passed.before.max(parts - i128::from(slot.load));
+        let before = parts(queue) - i128::from(slot.load) - stray;
+        passed.before = passed.before.max(before);
         let sent = slot.cells.min(queue);
         queue -= sent;
+        passed.after = passed.after.max(parts(queue) - stray);
         passed.waiting = passed.waiting.max(queue);
         passed.sent.push(sent);
     }
@@ -82,7 +91,7 @@ pub fn pass(course: &Course, arrivals: &[u64]) -> Passed {
 /// of 1/2^k parts of a cell on. Such a line is behind by less than a cell.
 pub fn pass_card(course: &Course, most: u64, phase: u64) -> Depth {
     let taken_before = |slot: u64| (slot * most + phase) / course.slots;
-    let allowed = i128::from(course.slots - 1) + 2 * deviation(course.k());
+    let allowed = i128::from(course.slots - 1) + 2 * i128::from(stray(course.k(), most));
     let parts = |cells: u64| i128::from(course.slots) * i128::from(cells);
     let mut depth = Depth {
         after: -allowed,
@@ -98,9 +107,9 @@ pub fn pass_card(course: &Course, most: u64, phase: u64) -> Depth {
     depth
 }
 
-/// How far ahead of its share a switch can send a flow, in parts of 1/2^k of a cell.
-pub fn ahead_behind_a_switch(k: u32) -> u64 {
-    2 * deviation(k) as u64
+/// How far ahead of its share a switch can send a flow of m cells a frame, in parts of 1/2^k of a cell.
+pub fn ahead_behind_a_switch(k: u32, m: u64) -> u64 {
+    2 * stray(k, m)
 }
 
 /// A switch of a row: what it gives the flow, and how many slots later than sent the cells reach it.

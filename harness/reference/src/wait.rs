@@ -4,7 +4,8 @@
 use std::collections::VecDeque;
 use std::iter;
 
-use crate::wire::{demanded, deviation, Course, Run, Slot};
+use crate::stray::stray;
+use crate::wire::{demanded, Course, Run, Slot};
 
 /// How long cells of a class may wait on frames of 2^k slots, each of which has m of its cells or more, m being 1 or more.
 #[derive(Clone, Copy, Debug)]
@@ -18,10 +19,10 @@ pub struct Allowed {
 }
 
 impl Allowed {
-    /// By the sharp bound, in parts of 1/2^k of a cell.
-    pub fn sharp(k: u32, m: u64) -> Allowed {
+    /// By the bound of the load, in parts of 1/2^k of a cell.
+    pub fn by_load(k: u32, m: u64) -> Allowed {
         Allowed {
-            lacking: 2 * deviation(k) as u128,
+            lacking: 2 * u128::from(stray(k, m)),
             cell: 1 << k,
             each_slot: m.into(),
         }
@@ -51,10 +52,15 @@ pub fn by_blocks(k: u32, m: u64, w: u64) -> u128 {
     ((u128::from(w) + 1) << i) - 1
 }
 
-/// The slots after which every cell has left that waited after some slot, at whatever place, where no more than their share and
-/// `ahead` come in, in parts of 1/2^k of a cell.
+/// The slots after which every cell has left that waited after some slot, at whatever place, where each frame has m cells and no more
+/// than their share and `ahead` come in, in parts of 1/2^k of a cell.
 pub fn paced(k: u32, m: u64, ahead: u64) -> u128 {
-    let waiting = u128::from(ahead) + 2 * deviation(k) as u128;
+    paced_at_seams(k, m, stray(k, m), ahead)
+}
+
+/// The same where each frame has m cells or more, and no load strays further than `furthest`.
+pub fn paced_at_seams(k: u32, m: u64, furthest: u64, ahead: u64) -> u128 {
+    let waiting = u128::from(ahead) + 2 * u128::from(furthest);
     let more = waiting.checked_sub(1 << k);
     more.map_or(0, |parts| parts / u128::from(m) + 1)
 }
@@ -145,10 +151,7 @@ impl Stretch<'_> {
     /// The place at which a wait comes nearest to what is allowed: the cells of the run that falls furthest behind m cells a
     /// frame, and one more.
     pub fn hardest_place(&self) -> u64 {
-        let mut course = self.course();
-        for slot in &mut course.given {
-            slot.load = self.fewest;
-        }
+        let course = self.course().against(self.fewest);
         course.cells(course.furthest_behind()) as u64 + 1
     }
 }

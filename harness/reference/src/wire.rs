@@ -1,7 +1,8 @@
 //! The accuracy rule: what the wire carried, counted entry by entry against the share.
 
-use crate::flow::{cells_of, flows_of, numbered, sent_in, Flow};
+use crate::flow::{cells_of, flows_of, sent_in, Flow};
 use crate::query::Class;
+use crate::stray::stray;
 
 /// Whose share the accuracy rule speaks of: the classes that Service count counts, the links of outputs, and all cells together.
 #[derive(Clone, Copy, Debug, PartialEq, Eq)]
@@ -30,11 +31,7 @@ impl Whose {
     /// Their load; that of a flow that is not in the list is 0.
     fn load_in(self, flows: &[Flow]) -> u64 {
         match self {
-            Whose::Class(Class::Flow { number }) => {
-                numbered(flows, number).map_or(0, |flow| flow.cells)
-            }
-            Whose::Class(Class::Input { port }) => cells_of(flows, |flow| flow.input == port),
-            Whose::Class(Class::Output { port }) => cells_of(flows, |flow| flow.output == port),
+            Whose::Class(class) => class.load_in(flows),
             Whose::Link { output, link } => cells_of(flows, |flow| flow.is_on(output, link)),
             Whose::Total => cells_of(flows, |_| true),
         }
@@ -110,6 +107,15 @@ impl Course {
         self.slots.trailing_zeros()
     }
 
+    /// The same cells, counted against a load of m in every frame.
+    pub fn against(&self, m: u64) -> Course {
+        let given = self.given.iter().map(|slot| Slot { load: m, ..*slot });
+        Course {
+            slots: self.slots,
+            given: given.collect(),
+        }
+    }
+
     fn run(&self, run: Run) -> &[Slot] {
         &self.given[run.start..][..run.length]
     }
@@ -132,19 +138,43 @@ impl Course {
         (u128::from(self.slots) * self.cells(run)) as i128 - self.share(run) as i128
     }
 
-    /// Demand 3 and the sharp bound for one run.
+    /// Demand 3 and the bound of the loads for one run.
     pub fn has_its_share(&self, run: Run) -> bool {
         let lead = self.lead(run).abs();
-        3 * lead <= demanded(self.k()) && lead <= self.most(run)
+        3 * lead <= demanded(self.k()) && lead <= self.bound(run)
     }
 
-    /// The sharp bound of a run's lead, ahead or behind: `deviation` where it begins with a frame, else twice that.
-    fn most(&self, run: Run) -> i128 {
-        if self.begins_a_frame(run.start) {
-            deviation(self.k())
-        } else {
-            2 * deviation(self.k())
+    /// The same for all cells of built frames, of whose blocks the first half always gets the extra cell: a run is ahead only by
+    /// what it ends in, and behind only by what it begins in.
+    pub fn total_has_its_share(&self, run: Run) -> bool {
+        let lead = self.lead(run);
+        let most = self.off(run.start + run.length);
+        self.has_its_share(run) && -self.off(run.start) <= lead && lead <= most
+    }
+
+    /// How far the run may be from its share, ahead or behind, in parts of 1/2^k of a cell: what each of its ends may be off.
+    pub fn bound(&self, run: Run) -> i128 {
+        self.off(run.start) + self.off(run.start + run.length)
+    }
+
+    /// How far the slots before this one may be off: by the stray of its frame's load, but not at all where a frame begins or ends.
+    fn off(&self, slot: usize) -> i128 {
+        match self.begins_a_frame(slot) {
+            true => 0,
+            false => self.stray_at(slot),
         }
+    }
+
+    /// The stray of the load of the slot's frame.
+    pub fn stray_at(&self, slot: usize) -> i128 {
+        stray(self.k(), self.given[slot].load).into()
+    }
+
+    /// The largest stray of a frame's load.
+    pub fn largest_stray(&self) -> i128 {
+        let frames = (0..self.given.len()).step_by(self.slots as usize);
+        let strays = frames.map(|slot| self.stray_at(slot));
+        strays.max().unwrap_or_default()
     }
 
     fn begins_a_frame(&self, slot: usize) -> bool {
@@ -153,50 +183,101 @@ impl Course {
 
     /// The run on which the cells stray furthest from their share.
     pub fn furthest_run(&self) -> Run {
-        let anywhere = |_| true;
-        further(self.greatest(1, anywhere), self.greatest(-1, anywhere))
+        let found = [1, -1].map(|sign| self.greatest(sign, anywhere, anywhere));
+        further(found)
     }
 
     /// The run on which the cells get furthest ahead of their share.
     pub fn furthest_ahead(&self) -> Run {
-        self.greatest(1, |_| true).1
+        self.greatest(1, anywhere, anywhere).1
     }
 
     /// The run on which the cells fall furthest behind their share.
     pub fn furthest_behind(&self) -> Run {
-        self.greatest(-1, |_| true).1
+        self.greatest(-1, anywhere, anywhere).1
     }
 
     /// The furthest of the runs that begin with a frame.
     pub fn furthest_from_a_frame(&self) -> Run {
-        let with_a_frame = |slot| self.begins_a_frame(slot);
-        further(
-            self.greatest(1, with_a_frame),
-            self.greatest(-1, with_a_frame),
-        )
+        let with_a_frame = |slot| self.begins_a_frame(slot).then_some(0);
+        further([1, -1].map(|sign| self.greatest(sign, with_a_frame, anywhere)))
     }
 
-    /// Of the runs that may begin where they do, the one whose lead times the sign is greatest, after that product.
-    fn greatest(&self, sign: i64, may_begin: impl Fn(usize) -> bool) -> (i64, Run) {
-        let slots = self.slots as i64;
-        let (mut lead, mut least) = (0, (0, 0));
-        let (mut greatest, mut start, mut end) = (0, 0, 0);
-        for (place, slot) in (0..).zip(&self.given) {
-            if lead < least.0 && may_begin(place) {
-                least = (lead, place);
-            }
-            lead += sign * (slots * slot.cells as i64 - slot.load as i64);
-            if lead - least.0 > greatest {
-                (greatest, start, end) = (lead - least.0, least.1, place + 1);
-            }
+    /// The run that comes nearest to its bound, or goes furthest beyond it.
+    pub fn nearest_run(&self) -> Run {
+        let offs = self.offs();
+        let off = |slot: usize| Some(offs[slot]);
+        further([1, -1].map(|sign| self.greatest(sign, off, off)))
+    }
+
+    /// The same of those that may be off at both ends.
+    pub fn nearest_off_at_both(&self) -> Run {
+        let offs = self.offs();
+        let inside = |slot: usize| Some(offs[slot]).filter(|&off| off > 0);
+        further([1, -1].map(|sign| self.greatest(sign, inside, inside)))
+    }
+
+    /// The run of all cells that comes nearest to the bound of built frames.
+    pub fn nearest_of_total(&self) -> Run {
+        let offs = self.offs();
+        let off = |slot: usize| Some(offs[slot]);
+        let ahead = self.greatest(1, anywhere, off);
+        further([ahead, self.greatest(-1, off, anywhere)])
+    }
+
+    /// How far the slots before each slot may be off, and before the end of the chain.
+    fn offs(&self) -> Vec<i64> {
+        let slots = self.slots as usize;
+        let mut offs = vec![0; self.given.len() + 1];
+        for first in (0..self.given.len()).step_by(slots) {
+            offs[first + 1..first + slots].fill(self.stray_at(first) as i64);
         }
-        let length = end - start;
-        (greatest, Run { start, length })
+        offs
+    }
+
+    /// Of the runs that may begin and end where they do, the one whose lead times the sign is greatest, less what is allowed at
+    /// each end, after that difference; a run of no slots where none may.
+    fn greatest(
+        &self,
+        sign: i64,
+        begins: impl Fn(usize) -> Option<i64>,
+        ends: impl Fn(usize) -> Option<i64>,
+    ) -> (i64, Run) {
+        let slots = self.slots as i64;
+        let steps = self.given.iter();
+        let steps = steps.map(|slot| sign * (slots * slot.cells as i64 - slot.load as i64));
+        let (mut lead, mut least, mut greatest) = (0, None, (i64::MIN, NO_SLOTS));
+        for (place, step) in steps.chain([0]).enumerate() {
+            if let Some(allowed) = begins(place) {
+                let from = (lead + allowed, place);
+                least = Some(least.map_or(from, |least| from.min(least)));
+            }
+            if let (Some((from, start)), Some(allowed)) = (least, ends(place)) {
+                let above = lead - allowed - from;
+                if above > greatest.0 {
+                    let length = place - start;
+                    greatest = (above, Run { start, length });
+                }
+            }
+            lead += step;
+        }
+        greatest
     }
 }
 
-/// The run with the greater number before it.
-fn further(one: (i64, Run), other: (i64, Run)) -> Run {
+/// The run of no slots at the beginning of a chain.
+const NO_SLOTS: Run = Run {
+    start: 0,
+    length: 0,
+};
+
+/// An end of a run at which nothing is allowed, wherever it is.
+fn anywhere(_: usize) -> Option<i64> {
+    Some(0)
+}
+
+/// The run with the greater number before it, the first of two that have the same.
+fn further([one, other]: [(i64, Run); 2]) -> Run {
     if one.0 < other.0 {
         other.1
     } else {
@@ -209,7 +290,8 @@ pub fn demanded(k: u32) -> i128 {
     i128::from(2 * k + 1) << k
 }
 
-/// How far a class, a link or the total can be from its share, in parts of 1/2^k of a cell, after the first slots of a frame of 2^k.
+/// How far a class, a link or the total can be from its share, in parts of 1/2^k of a cell, after the first slots of a frame of 2^k,
+/// whatever its load.
 ///
 /// Each place in a frame is the middle of one block, and there within half a cell of the mean of the block's two ends. Of
 /// these one is the middle of the block's own parent, the other that of a block before it, or an end of the frame.
@@ -218,5 +300,15 @@ pub fn deviation(k: u32) -> i128 {
         0 => 0,
         1 => 1,
         _ => deviation(k - 1) + 2 * deviation(k - 2) + (1 << (k - 1)),
+    }
+}
+
+/// How far a run of one frame of 2^k slots that repeats can be from its share, whatever the load: from four slots on twice as far as
+/// two frames of half the slots.
+pub fn repeat_deviation(k: u32) -> i128 {
+    match k {
+        0 => 0,
+        1 => 1,
+        _ => 4 * deviation(k - 1),
     }
 }

@@ -1,6 +1,7 @@
 //! How far a lead can be from 0, and what the header says of it.
 
-use reference::wire::deviation;
+use reference::stray::stray;
+use reference::wire::repeat_deviation;
 use reference::{service_count, Class};
 
 const HEADER: &str = include_str!("../../../include/frame_builder.h");
@@ -60,7 +61,7 @@ fn the_furthest_of_the_largest_frame() {
 
 /// The header's two rows, for a frame that Build made.
 #[test]
-fn the_sharp_bound_in_the_header() {
+fn the_bound_of_one_frame_in_the_header() {
     let row = |name: &str| -> Vec<i128> {
         let words = HEADER.lines().map(|line| line.split_whitespace());
         let mut rows = words.filter_map(|mut words| {
@@ -71,7 +72,7 @@ fn the_sharp_bound_in_the_header() {
         rows.next().expect("the header has the row")
     };
     let slots: Vec<i128> = (0..=10).map(|k| 1 << k).collect();
-    let bounds: Vec<i128> = (0..=10).map(|k| 2 * deviation(k)).collect();
+    let bounds: Vec<i128> = (0..=10).map(repeat_deviation).collect();
     assert_eq!(row("slots"), slots);
     assert_eq!(row("|lead|"), bounds);
 }
@@ -117,12 +118,16 @@ fn reach(k: u32, m: i128, j: u32, cells: i128) -> Reach {
     }
 }
 
-/// In one frame that repeats, a flow's lead does not come to the sharp bound, which is reached at the seam of two frames: it comes
-/// to twice that of a frame with half the slots, and no further.
+/// In one frame that repeats, a flow's lead comes to what the header has, and no further: for each load, halved evenly in whatever
+/// way, no further than twice its stray either, which two different frames come to.
 #[test]
 fn the_furthest_of_one_flow_halved_evenly() {
-    for k in 2..=7 {
-        let widest = (0..=1 << k).map(|m| reach(k, m, k, m).widest);
-        assert_eq!(widest.max(), Some(4 * deviation(k - 1)));
+    for k in 0..=7 {
+        let widest = (0..=1 << k).map(|m| {
+            let widest = reach(k, m, k, m).widest;
+            assert!(widest <= 2 * i128::from(stray(k, m as u64)), "{k} {m}");
+            widest
+        });
+        assert_eq!(widest.max(), Some(repeat_deviation(k)), "k = {k}");
     }
 }

@@ -49,7 +49,7 @@ fn on_link_3(seam: Seam, list: [u16; 8]) -> Frame {
     }
 }
 
-/// The flow of a seam is the only one of its link, which strays with it as far as the sharp bound allows.
+/// The flow of a seam is the only one of its link, which strays with it as far as any load can.
 #[test]
 fn a_link_strays_as_far_as_a_flow_can() {
     for seam in SEAMS {

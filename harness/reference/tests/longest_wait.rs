@@ -2,41 +2,50 @@
 
 use loads::{load_alone, load_beside, Random};
 use reference::queue::pass;
-use reference::wait::{by_blocks, paced, pass_each, stretches, Allowed, Stretch, Wait};
-use reference::wire::{demanded, deviation, Course, Frame, Run, Slot};
+use reference::stray::stray;
+use reference::wait::{
+    by_blocks, paced, paced_at_seams, pass_each, stretches, Allowed, Stretch, Wait,
+};
+use reference::wire::{demanded, Course, Frame, Run, Slot};
 use reference::Class;
 
-/// A length is enough by the sharp bound, and by demand 3, exactly where the inequality of each says so.
+/// A length is enough by the bound of the load, and by demand 3, exactly where the inequality of each says so.
 #[test]
 fn least_lengths_by_their_inequalities() {
     for k in 0..=10 {
-        let (slots, sharp, demand) = (1_i128 << k, 2 * deviation(k), demanded(k));
+        let (slots, demand) = (1_i128 << k, demanded(k));
         let cases = (1..=1 << k).flat_map(|m| [1, 2, 3, 449, 100_000].map(|w| (m, w)));
         for (m, w) in cases {
             let before = slots * i128::from(w - 1);
-            let [by_sharp, by_demand] = [Allowed::sharp(k, m), Allowed::demanded(k, m)]
+            let [by_load, by_demand] = [Allowed::by_load(k, m), Allowed::demanded(k, m)]
                 .map(|allowed| allowed.longest(w) as i128);
+            let strays = 2 * i128::from(stray(k, m));
             let m = i128::from(m);
-            let enough = |length: i128| length * m > sharp + before;
-            assert!(enough(by_sharp) && !enough(by_sharp - 1), "{k}, {m}, {w}");
+            let enough = |length: i128| length * m > strays + before;
+            assert!(enough(by_load) && !enough(by_load - 1), "{k}, {m}, {w}");
             let enough = |length: i128| 3 * length * m > demand + 3 * before;
             assert!(enough(by_demand) && !enough(by_demand - 1), "{k}, {m}, {w}");
-            assert!(by_sharp <= by_demand, "{k}, {m}, {w}");
+            assert!(by_load <= by_demand, "{k}, {m}, {w}");
         }
     }
 }
 
-/// The same of a source that may be ahead by any number of parts of a cell.
+/// The same of a source that may be ahead by any number of parts of a cell, with one load and with loads that stray further.
 #[test]
 fn least_lengths_of_a_paced_queue() {
     for k in 0..=10 {
-        let (slots, sharp) = (1_i128 << k, 2 * deviation(k));
+        let slots = 1_i128 << k;
         let cases = (1..=1 << k).flat_map(|m| [0, 1, 3, 1 << k, 5 << k].map(|ahead| (m, ahead)));
         for (m, ahead) in cases {
-            let least = paced(k, m, ahead) as i128;
-            let enough = |length: i128| i128::from(ahead) + sharp < length * i128::from(m) + slots;
-            assert!(enough(least), "{k}, {m}, {ahead}");
-            assert!(least == 0 || !enough(least - 1), "{k}, {m}, {ahead}");
+            let own = stray(k, m);
+            assert_eq!(paced(k, m, ahead), paced_at_seams(k, m, own, ahead));
+            for furthest in [own, own + 7] {
+                let least = paced_at_seams(k, m, furthest, ahead) as i128;
+                let waiting = i128::from(ahead + 2 * furthest);
+                let enough = |length: i128| waiting < length * i128::from(m) + slots;
+                assert!(enough(least), "{k}, {m}, {ahead}");
+                assert!(least == 0 || !enough(least - 1), "{k}, {m}, {ahead}");
+            }
         }
     }
 }
@@ -44,20 +53,20 @@ fn least_lengths_of_a_paced_queue() {
 #[test]
 fn numbers_of_any_size() {
     let most = u64::MAX;
-    assert_eq!(Allowed::sharp(10, 1).longest(1), 7_055);
-    let longest = Allowed::sharp(10, 1).longest(most);
-    assert_eq!(longest, 7_055 + 1_024 * u128::from(most - 1));
+    assert_eq!(Allowed::by_load(10, 1).longest(1), 2_047);
+    let longest = Allowed::by_load(10, 1).longest(most);
+    assert_eq!(longest, 2_047 + 1_024 * u128::from(most - 1));
     assert_eq!(Allowed::demanded(10, most).longest(most), 1_025);
     assert_eq!(by_blocks(10, most, 1), 1);
     assert_eq!(by_blocks(10, 1, most), 1_024 * (u128::from(most) + 1) - 1);
 }
 
 #[test]
-fn at_the_head_no_more_than_the_sharp_bound_allows() {
+fn at_the_head_no_more_than_the_load_allows() {
     for k in 0..=10 {
         for m in 1..=1 << k {
-            let sharp = Allowed::sharp(k, m).longest(1);
-            assert!(by_blocks(k, m, 1) <= sharp, "{k}, {m}");
+            let by_load = Allowed::by_load(k, m).longest(1);
+            assert!(by_blocks(k, m, 1) <= by_load, "{k}, {m}");
         }
         assert_eq!(by_blocks(k, 1, 1), (2 << k) - 1, "one cell in a frame");
         assert_eq!(by_blocks(k, 1, 2), (3 << k) - 1, "one cell in a frame");
@@ -86,7 +95,7 @@ fn the_seam_of_two_slots() {
     let runs = [1, 2, 3].map(|w| stretch.longest_run(w));
     assert_eq!(runs, [run(1, 2), run(0, 3), run(0, 4)]);
     assert_eq!((stretch.wait(1), stretch.hardest_place()), (3, 1));
-    let allowed = [Allowed::sharp(1, 1), Allowed::demanded(1, 1)];
+    let allowed = [Allowed::by_load(1, 1), Allowed::demanded(1, 1)];
     assert_eq!(allowed.map(|allowed| allowed.longest(1)), [3, 3]);
     assert_eq!(by_blocks(1, 1, 1), 3);
 }

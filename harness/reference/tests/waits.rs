@@ -3,33 +3,40 @@
 mod page;
 
 use loads::SEAMS;
-use page::grouped;
+use reference::order::at_once;
+use reference::page::{decimal, grouped, row, table};
 use reference::queue::ahead_behind_a_switch;
+use reference::stray::stray;
 use reference::wait::{by_blocks, paced, Allowed};
 
 const TEXT: &str = include_str!("../../../docs/WAITS.md");
 
 /// The cells of a frame that have a column; every slot has the last one.
-const CELLS: [u64; 7] = [1, 3, 10, 30, 100, 300, 1_000];
+const CELLS: [u64; 9] = [1, 3, 10, 30, 64, 100, 300, 341, 1_000];
 
-/// The longest wait of the first in its queue, by k and m.
+/// The longest wait, by k and m.
 type Longest = fn(u32, u64) -> u128;
 
 /// What the first column of waits of each table says, and the waits of the table.
-const TABLES: [(&str, Longest); 3] = [
-    ("longest wait", |k, m| paced(k, m, 1 << k)),
-    ("by (2k + 1)/3", |k, m| Allowed::demanded(k, m).longest(1)),
+const WAITS: [(&str, Longest); 3] = [
+    ("longest wait", even),
     ("exactly", at_head),
+    ("by (2k + 1)/3", |k, m| Allowed::demanded(k, m).longest(1)),
 ];
+
+/// Of every cell of an even source.
+fn even(k: u32, m: u64) -> u128 {
+    paced(k, m, at_once(k, 1))
+}
 
 /// By blocks, which is exact for the first in its queue.
 fn at_head(k: u32, m: u64) -> u128 {
     by_blocks(k, m, 1)
 }
 
-/// The longest waits by the sharp bound and by demand 3.
+/// By the bound of the load and by demand 3.
 fn by_rate(k: u32, m: u64, w: u64) -> [u128; 2] {
-    [Allowed::sharp(k, m), Allowed::demanded(k, m)].map(|allowed| allowed.longest(w))
+    [Allowed::by_load(k, m), Allowed::demanded(k, m)].map(|allowed| allowed.longest(w))
 }
 
 /// Slots of 0.52 microseconds as milliseconds, to three digits after the point.
@@ -43,13 +50,22 @@ fn in_milliseconds(slots: u128) -> String {
 fn examples() -> Vec<String> {
     let blocks = |w| by_blocks(10, 100, w);
     let rate = |w| by_rate(10, 100, w);
-    let [even, behind] = [1_024, ahead_behind_a_switch(10)].map(|ahead| paced(10, 100, ahead));
-    assert_eq!(rate(8)[0], blocks(8), "the eighth has as many by both");
+    let strays = 2 * stray(10, 100);
+    let ahead = ahead_behind_a_switch(10, 100);
+    assert!(rate(3)[0] > blocks(3) && rate(4)[0] < blocks(4));
+    let exact = |&m: &u64| by_rate(10, m, 1)[0] == at_head(10, m);
+    assert!([1, 3, 64, 96].iter().all(exact));
     vec![
-        format!("has left after **{even} more slots** at most"),
         format!(
-            "{even} slots are 36.92 microseconds, {}",
-            in_milliseconds(even)
+            "has a frame of 1,024 slots and a flow with 100 cells reserved in each frame. Its source sends evenly. Then every cell has left after **{} more slots** at most",
+            even(10, 100)
+        ),
+        "line of 1,024 slots, column m = 100".into(),
+        format!(
+            "The switch of SRC Report 150 carries 1,923,000 cells a second at each port, so that a slot takes 0.52 microseconds: {} slots are {:.2} microseconds, {}",
+            even(10, 100),
+            0.52 * even(10, 100) as f64,
+            in_milliseconds(even(10, 100))
         ),
         format!("a whole frame takes {}", in_milliseconds(1_024)),
         format!(
@@ -58,102 +74,113 @@ fn examples() -> Vec<String> {
             in_milliseconds(blocks(1))
         ),
         format!("further down, that would be {}.", rate(1)[1]),
-        format!("which makes {behind} slots."),
         format!(
-            "makes {} slots by the rate ({} by (2k + 1)/3) and {} by blocks",
-            rate(7)[0],
-            rate(7)[1],
-            blocks(7)
+            "of a flow with 64 cells every cell has left after {} slots, and of one with 65 after {}.",
+            even(10, 64),
+            even(10, 65)
         ),
-        format!("the eighth has {} by both", blocks(8)),
         format!(
-            "from the ninth on, with {} and {}, the rate is better",
-            rate(9)[0],
-            blocks(9)
+            "(2 × {} − 1,024)/100 = {:.2}, which makes {} slots.",
+            grouped(strays),
+            (2 * strays - 1_024) as f64 / 100.0,
+            paced(10, 100, ahead)
+        ),
+        "the difference of two powers of two, such as 1, 3, 64 or 96, and where it is 2^k".into(),
+        "a block is 16 slots, since 64 is the largest power of two that is not above 100, and 1,024/64 is 16".into(),
+        format!(
+            "the third cell has ({} + 2 × 1,024)/100 = {:.2}, which makes {} slots by the rate ({} by (2k + 1)/3) and {} by blocks; from the fourth on, with {} and {}, the rate is better",
+            grouped(strays),
+            (strays + 2 * 1_024) as f64 / 100.0,
+            rate(3)[0],
+            rate(3)[1],
+            blocks(3),
+            rate(4)[0],
+            blocks(4)
         ),
     ]
 }
 
 /// The same of picture and sound between the same two ports, 9 cells and 1 in 16 slots.
 fn sound_and_picture() -> Vec<String> {
-    let even = |m| paced(4, m, 16);
-    let as_one = |cells_ahead: u64| paced(4, 10, 16 * cells_ahead);
+    let even = |m| even(4, m);
+    let as_one = |cells: u64| paced(4, 10, at_once(4, cells) + at_once(4, 1));
     vec![
         format!(
-            "a cell of the picture has left after {} more slots at most, and one of the sound after {}",
+            "the picture has 9 cells in a frame of 16 slots and the sound 1, both from input 1 to output 2, as two flows. From even sources a cell of the picture has left after {} more slots at most, and one of the sound after {}",
             even(9),
             even(1)
         ),
-        format!("every cell would have left after {}.", as_one(2)),
-        format!("a = 41 and it is {} slots", as_one(41)),
+        format!("As one flow of 10 cells they would be two even sources, a = 2 × 15, and every cell would have left after {}.", as_one(1)),
+        format!("where the picture may send 40 cells at once, a = 40 × 16 − 1 + 15 and it is {} slots", as_one(40)),
         format!("the sound has its {} slots", even(1)),
         format!("with 2 cells a frame for the sound it is {}.", even(2)),
     ]
 }
 
-/// So many slots, and the same in frames of 2^k slots, to three digits after the point, half of the last one rounded up.
-fn in_frames(slots: u128, k: u32) -> String {
-    let thousandths = (2_000 * slots + (1 << k)) >> (k + 1);
-    let (whole, rest) = (thousandths / 1_000, thousandths % 1_000);
-    format!("{} ({whole}.{rest:03})", grouped(slots as u64))
+/// The smallest case of a source that may be a whole cell ahead.
+fn slowest() -> Vec<String> {
+    assert_eq!(paced(1, 1, 2), 3);
+    vec!["k = 1, m = 1 and a = 2: the last of two cells waits three slots".into()]
 }
 
-/// The head line of a table, by what its first column of waits says.
-fn head(says: &str) -> String {
-    let columns = CELLS.map(|m| format!("m = {}", grouped(m)));
+/// So many slots, and the same in frames of 2^k slots.
+fn in_frames(slots: u128, k: u32) -> String {
     format!(
-        "| k | slots | {says}, {} | m = slots |",
-        columns.join(" | ")
+        "{} ({})",
+        grouped(slots as u64),
+        decimal(slots as u64, k, 3)
     )
 }
 
-/// The row of frames of 2^k slots.
-fn row(k: u32, wait: Longest) -> String {
-    let slots = 1 << k;
-    let cell = |m: u64| match m <= slots {
-        true => in_frames(wait(k, m), k),
-        false => "–".into(),
-    };
-    let cells = CELLS.into_iter().chain([slots]).map(cell);
-    let cells: Vec<_> = cells.collect();
-    format!("| {k} | {} | {} |", grouped(slots), cells.join(" | "))
+/// The table of waits, by what its first column says.
+fn waits((says, wait): (&str, Longest)) -> Vec<String> {
+    let columns = CELLS.map(|m| format!("m = {}", grouped(m)));
+    let columns = columns.join(" | ");
+    let head = format!("| k | slots | {says}, {columns} | m = slots |");
+    let rows = (0..=10).map(|k| {
+        let slots = 1 << k;
+        let cell = |m: u64| match m <= slots {
+            true => in_frames(wait(k, m), k),
+            false => "–".into(),
+        };
+        let cells = CELLS.into_iter().chain([slots]).map(cell);
+        let size = [k.to_string(), grouped(slots)].into_iter();
+        row(&size.chain(cells).collect::<Vec<_>>())
+    });
+    table(head, rows)
 }
 
-/// The lines of a table as they should be.
-fn table(says: &str, wait: Longest) -> Vec<String> {
-    let head = head(says);
-    let rule = format!("{}|", "|---".repeat(head.matches('|').count() - 1));
-    let rows = (0..=10).map(|k| row(k, wait));
-    [head, rule].into_iter().chain(rows).collect()
-}
-
-/// The lines of the page from a head line on, to the end of its table.
-fn table_under(head: &str) -> Vec<&'static str> {
-    let lines = TEXT.lines().skip_while(|line| *line != head);
-    lines.take_while(|line| line.starts_with('|')).collect()
-}
-
-#[test]
-fn tables() {
-    for (says, wait) in TABLES {
-        let right = table(says, wait);
-        let given = table_under(&right[0]);
-        assert_eq!(given, right, "the table should be\n{}\n", right.join("\n"));
-    }
-}
-
-/// What the page says of the first table: for the first in a queue it is that of the sharp bound, too.
+/// What the page says of both formulas for the first in a queue.
 #[test]
 fn an_even_source_and_the_first_in_a_queue() {
     for (k, m) in (0..=10).flat_map(|k| (1..=1 << k).map(move |m| (k, m))) {
-        assert_eq!(paced(k, m, 1 << k), by_rate(k, m, 1)[0]);
+        let divides = (2 * stray(k, m)).is_multiple_of(m);
+        let first = even(k, m) + u128::from(divides);
+        assert_eq!(by_rate(k, m, 1)[0], first, "k = {k}, m = {m}");
     }
 }
 
-/// A line of a table that has a column for each k.
-fn line(says: &str, numbers: impl Iterator<Item = u128>) -> String {
-    let numbers = numbers.map(|number| grouped(number as u64));
-    format!("| {says} | {} |", numbers.collect::<Vec<_>>().join(" | "))
+/// And where the rate is exact for it.
+#[test]
+fn the_rate_at_the_head_of_the_queue() {
+    for (k, m) in (0..=10).flat_map(|k| (1..=1_u64 << k).map(move |m| (k, m))) {
+        let lowest = m & m.wrapping_neg();
+        let of_two_powers = (m + lowest).is_power_of_two();
+        let exact = at_head(k, m) == by_rate(k, m, 1)[0];
+        assert_eq!(exact, of_two_powers || m == 1 << k, "k = {k}, m = {m}");
+    }
+}
+
+/// A table that has a column for each k: what each line says, and its numbers by k.
+fn by_k<const LINES: usize>(says: [&str; LINES], numbers: &[[u128; LINES]]) -> Vec<String> {
+    let line = |line: usize| {
+        let numbers = numbers.iter().map(|lines| grouped(lines[line] as u64));
+        row(&[says[line].into()]
+            .into_iter()
+            .chain(numbers)
+            .collect::<Vec<_>>())
+    };
+    table(line(0), (1..LINES).map(line))
 }
 
 /// The waits of the seams: in the run that falls furthest behind there are cells for all places before the w-th.
@@ -165,50 +192,38 @@ fn reached() -> Vec<String> {
         assert_eq!(by_rate(seam.k, m as u64, w as u64), [length + 1; 2]);
         [seam.k.into(), m, w, length + 1]
     });
-    let lines = ["k", "m", "w", "slots"].into_iter().enumerate();
-    let lines = lines.map(|(column, says)| line(says, waits.iter().map(|wait| wait[column])));
-    lines.collect()
+    by_k(["k", "m", "w", "slots"], &waits)
 }
 
-/// The first in the queue where it comes nearest to what the sharp bound allows, for those k for which it never comes to that.
-fn nearest() -> Vec<String> {
-    let waits = [5, 6, 7, 8, 9, 10].map(|k| {
-        let ratio = |m: u64| at_head(k, m) as f64 / by_rate(k, m, 1)[0] as f64;
-        let by_ratio = |one: &u64, other: &u64| ratio(*one).total_cmp(&ratio(*other));
-        let m = (1..=1 << k).rev().max_by(by_ratio).expect("a cell");
-        let [sharp, demanded] = by_rate(k, m, 1);
-        assert!(at_head(k, m) < sharp);
-        [k.into(), m.into(), at_head(k, m), sharp, demanded]
+/// The first in the queue where its wait is the shortest beside what the rate allows, the least such m, for those k for which it is
+/// shorter at all.
+fn shortest() -> Vec<String> {
+    let waits = [3, 4, 5, 6, 7, 8, 9, 10].map(|k| {
+        let times = |m: u64| by_rate(k, m, 1)[0] as f64 / at_head(k, m) as f64;
+        let by_times = |one: &u64, other: &u64| times(*one).total_cmp(&times(*other));
+        let m = (1..=1 << k).rev().max_by(by_times).expect("a cell");
+        [k.into(), m.into(), at_head(k, m), by_rate(k, m, 1)[0]]
     });
-    let lines = ["k", "m", "exactly", "by 2p(k)", "by (2k + 1)/3"]
-        .into_iter()
-        .enumerate();
-    let lines = lines.map(|(column, says)| line(says, waits.iter().map(|wait| wait[column])));
-    lines.collect()
+    by_k(["k", "m", "exactly", "by 2s"], &waits)
 }
 
+/// The page has these tables and no other.
 #[test]
-fn tables_of_how_near() {
-    for right in [reached(), nearest()] {
-        let mut given = table_under(&right[0]);
-        given.remove(1);
-        assert_eq!(given, right, "the table should be\n{}\n", right.join("\n"));
+fn tables() {
+    let tables = WAITS.into_iter().map(waits);
+    let right: Vec<_> = tables.chain([reached(), shortest()]).collect();
+    let given = page::tables(TEXT);
+    assert_eq!(given.len(), right.len());
+    for (given, right) in given.iter().zip(right) {
+        assert_eq!(*given, right, "the table should be\n{}\n", right.join("\n"));
     }
-}
-
-#[test]
-fn no_other_tables() {
-    let heads = TEXT.lines().filter(|line| line.starts_with("| k |"));
-    assert_eq!(heads.count(), TABLES.len() + 2);
 }
 
 #[test]
 fn sentences() {
-    let lines: Vec<&str> = TEXT.lines().collect();
-    let text = lines.join(" ");
-    for sentence in [examples(), sound_and_picture()].concat() {
-        assert!(text.contains(&sentence), "missing: {sentence}");
-    }
+    let sentences = [examples(), sound_and_picture(), slowest()].concat();
+    // k goes up to 10, and what is over 2^k is named.
+    page::holds(TEXT, &sentences, &["10", "1/2"]);
 }
 
 /// Numbers that were worked out by hand, so that the formatting is held to something too.
@@ -217,5 +232,6 @@ fn cells_of_the_tables_by_hand() {
     assert_eq!(in_frames(7_055, 10), "7,055 (6.890)");
     assert_eq!(in_frames(1, 0), "1 (1.000)");
     assert_eq!(in_frames(7, 2), "7 (1.750)");
-    assert_eq!(in_frames(1, 4), "1 (0.063)", "a half is rounded up");
+    assert_eq!(in_frames(1, 4), "1 (0.062)", "a half to the even digit");
+    assert_eq!(in_frames(3, 4), "3 (0.188)", "a half to the even digit");
 }

@@ -11,7 +11,8 @@ use crate::build_case::{build_and_compare, has_several_links, lend, over_links, 
 use crate::hits::{Hits, CHAIN_CHANGED, CHAIN_OVER_LINKS};
 use crate::queue_case::{check_card, check_queue};
 use crate::share_case::{
-    check_share, class_of, every_class, every_link, expect_chain, expect_share, random_whose,
+    check_fewest_and_most, check_share, class_of, every_class, every_link, expect_chain,
+    expect_every_run, note_bound, random_whose,
 };
 use crate::verdict::Verdict;
 use crate::wait_case::{check_first_waits, check_waits};
@@ -48,6 +49,8 @@ pub fn check_chain(
     for whose in counted_on_chain(shape, flows, flow, random) {
         let course = Course::of(&chain, whose);
         check_share(&course, whose, random, hits)?;
+        note_bound(&course, hits);
+        check_fewest_and_most(&course, whose)?;
         check_queue(&course, whose, random, hits)?;
         check_waits(&course, whose, 1, random, hits)?;
     }
@@ -114,14 +117,14 @@ fn call_on_chain(
     over_links(call, random)
 }
 
-/// Holds every flow, input, output and link of a chain to the bounds on the run that strays furthest, the first in its queue to the
-/// longest wait, and every link to what its card needs.
+/// Holds every run of every flow, input, output and link of a chain to its bounds, the first in its queue to the longest wait, and every
+/// link to what its card needs.
 fn check_every_class(chain: &[Frame], ports: u64, flows: usize, hits: &mut Hits) -> Verdict {
     let classes = every_class(ports, flows).map(Whose::Class);
     let mut all = classes.chain(every_link(ports));
     all.try_for_each(|whose| {
         let course = Course::of(chain, whose);
-        expect_share(&course, whose, course.furthest_run())?;
+        expect_every_run(&course, whose)?;
         if let Whose::Link { .. } = whose {
             check_card(&course, whose)?;
         }

@@ -50,11 +50,15 @@ pub const ODD_SETTLED: &str = "build with odd counts settled";
 /// No block of a built frame had one.
 pub const NONE_SETTLED: &str = "build with none settled";
 
-/// A run strayed from its share by the whole of the sharp bound.
+/// A run of a chain that may be off at both ends was held to the bound of its loads, the one nearest to it.
+pub const BOUND_COMPARED: &str = "bound of the load compared";
+/// It strayed from its share by the whole of it.
+pub const BOUND_REACHED: &str = "bound of the load reached";
+/// A run strayed from its share by the whole of the sharp bound, which no load exceeds.
 pub const RUN_REACHED: &str = "sharp bound reached";
-/// As many cells waited after a slot as the sharp bound allows.
+/// As many cells waited after a slot as the loads allow.
 pub const QUEUE_REACHED_AFTER: &str = "queue bound reached after a slot";
-/// As many cells waited before a slot's cell left as the sharp bound allows.
+/// As many cells waited before a slot's cell left as the loads allow.
 pub const QUEUE_REACHED_BEFORE: &str = "queue bound reached before a cell leaves";
 
 /// A run of one repeating frame had a lead of p(k) cells or more, ahead or behind.
@@ -77,25 +81,27 @@ pub const LINK_UNBALANCED: &str = "block of 2^k slots unbalanced in a link alone
 
 /// The longest run of a chain with fewer than so many cells was held to both bounds.
 pub const WAIT_COMPARED: &str = "longest wait compared";
-/// A queue was run cell by cell, and each held to the sharp bound.
+/// A queue was run cell by cell, and each held to the bound of the load.
 pub const QUEUE_BY_CELLS: &str = "queue run cell by cell";
-/// A wait was as long as the sharp bound allows.
-pub const WAIT_REACHED: &str = "longest wait as long as the sharp bound allows";
+/// A wait was as long as the load allows.
+pub const WAIT_REACHED: &str = "longest wait as long as the load allows";
 /// The same of the first in the queue.
-pub const FIRST_WAIT_REACHED: &str = "longest wait of the first as long as the sharp bound allows";
+pub const FIRST_WAIT_REACHED: &str = "longest wait of the first as long as the load allows";
 
-/// The cells of a queue that was fed as fast as it may be were held to what its source may be ahead by and the sharp bound.
+/// The cells of a queue that was fed as fast as it may be were held to what its source may be ahead by and the strays.
 pub const PACED_COMPARED: &str = "longest wait of a paced queue compared";
 /// One of them waited as long as that.
 pub const PACED_REACHED: &str = "longest wait of a paced queue as long as is allowed";
 
 /// What is counted for each k from 1 to 10; with k = 0 nothing strays.
-pub const FOR_EACH_K: [&str; 16] = [
+pub const FOR_EACH_K: [&str; 18] = [
     FLOW_UNBALANCED,
     INPUT_UNBALANCED,
     OUTPUT_UNBALANCED,
     LINK_UNBALANCED,
     TOTAL_UNBALANCED,
+    BOUND_COMPARED,
+    BOUND_REACHED,
     RUN_REACHED,
     TOTAL_REACHED,
     LEAD_REACHED,
@@ -118,7 +124,7 @@ pub enum Queued {
 }
 
 /// The longest wait, in slots, of a cell that is w-th in its queue, where every frame has m cells or more, beside the longest
-/// that the sharp bound allows. In a paced queue w stands for what its source may be ahead by, in parts of 1/2^k of a cell.
+/// that the load allows. In a paced queue w stands for what its source may be ahead by, in parts of 1/2^k of a cell.
 #[derive(Clone, Copy, Debug)]
 pub struct Waited {
     pub slots: u64,
@@ -137,6 +143,28 @@ impl Waited {
     }
 }
 
+/// What used a part of the bound of its load: a run of a chain that may be off at both ends, or a lead of one frame.
+#[derive(Clone, Copy, Debug, PartialEq, Eq, PartialOrd, Ord)]
+pub enum Used {
+    Run,
+    Lead,
+}
+
+/// How far a run was from its share, and how far it might have been, in parts of 1/2^k of a cell.
+#[derive(Clone, Copy, Debug)]
+pub struct Part {
+    pub seen: i128,
+    pub bound: i128,
+}
+
+impl Part {
+    /// Greater is a larger part; of those that are as large, that of the larger bound.
+    fn largeness(&self, other: &Part) -> Ordering {
+        let larger = (self.seen * other.bound).cmp(&(other.seen * self.bound));
+        larger.then(self.bound.cmp(&other.bound))
+    }
+}
+
 /// How many times each named thing happened, how deep queues stood, how far leads were from 0, how long cells waited, and how many
 /// odd counts were settled.
 #[derive(Clone, Debug, Default)]
@@ -147,6 +175,8 @@ pub struct Hits {
     depths: BTreeMap<(u32, usize), i128>,
     /// By k, the furthest from 0 of the leads of built frames.
     leads: BTreeMap<u32, i128>,
+    /// By k, the largest parts of the bounds of loads.
+    parts: BTreeMap<(u32, Used), Part>,
     /// By k, the waits that came nearest to what is allowed.
     waits: BTreeMap<(u32, Queued), Waited>,
     /// By k, the most odd counts that a build of 16 ports settled.
@@ -173,6 +203,18 @@ impl Hits {
     pub fn stray(&mut self, k: u32, parts: i128) {
         let furthest = self.leads.entry(k).or_insert(parts);
         *furthest = parts.max(*furthest);
+    }
+
+    /// Something was so far from its share on frames of 2^k slots, and so far its load might be; where that is 0 nothing is noted.
+    pub fn part(&mut self, k: u32, used: Used, seen: i128, bound: i128) {
+        let part = Part { seen, bound };
+        if bound == 0 {
+            return;
+        }
+        let largest = self.parts.entry((k, used)).or_insert(part);
+        if part.largeness(largest).is_gt() {
+            *largest = part;
+        }
     }
 
     /// A cell waited so long on frames of 2^k slots.
@@ -202,6 +244,9 @@ impl Hits {
         for (k, parts) in other.leads {
             self.stray(k, parts);
         }
+        for ((k, used), Part { seen, bound }) in other.parts {
+            self.part(k, used, seen, bound);
+        }
         for ((k, queued), waited) in other.waits {
             self.wait(k, queued, waited);
         }
@@ -222,6 +267,11 @@ impl Hits {
     /// The lead that was furthest from 0, where a built frame was counted.
     pub fn furthest_lead(&self, k: u32) -> Option<i128> {
         self.leads.get(&k).copied()
+    }
+
+    /// The largest part of the bound of its load that something used, where one was noted.
+    pub fn largest_part(&self, k: u32, used: Used) -> Option<Part> {
+        self.parts.get(&(k, used)).copied()
     }
 
     /// The wait that came nearest to what is allowed, where one was noted.
@@ -272,17 +322,18 @@ impl Hits {
             names.extend((2..=10).map(|k| name_at(name, k)));
         }
         names.extend((1..=10).map(|k| name_at(TOTAL_UNBALANCED, k)));
+        names.extend((1..=10).map(|k| name_at(BOUND_REACHED, k)));
         names.extend((1..=10).map(|k| name_at(RUN_REACHED, k)));
         names.extend((1..=10).map(|k| name_at(TOTAL_REACHED, k)));
         names.extend((1..=10).map(|k| name_at(LEAD_REACHED, k)));
         names.extend((0..=10).map(|k| name_at(WAIT_COMPARED, k)));
         names.extend((0..=10).map(|k| name_at(QUEUE_BY_CELLS, k)));
         names.extend((1..=10).map(|k| name_at(WAIT_REACHED, k)));
-        names.extend((1..=4).map(|k| name_at(FIRST_WAIT_REACHED, k)));
+        names.extend((1..=10).map(|k| name_at(FIRST_WAIT_REACHED, k)));
         names.extend((0..=10).map(|k| name_at(PACED_COMPARED, k)));
         names.extend((1..=10).map(|k| name_at(PACED_REACHED, k)));
-        names.push(name_at(QUEUE_REACHED_AFTER, 1));
-        names.push(name_at(QUEUE_REACHED_BEFORE, 1));
+        names.extend((1..=10).map(|k| name_at(QUEUE_REACHED_AFTER, k)));
+        names.extend((1..=10).map(|k| name_at(QUEUE_REACHED_BEFORE, k)));
         names.extend((2..=5).map(|switches| format!("row of {switches} switches")));
         names.push("row of all cells together".into());
         let kinds = Kind::all().into_iter();

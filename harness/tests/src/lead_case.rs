@@ -3,14 +3,14 @@
 use calls::{Calls, Class, Count, Service};
 use loads::{load_of_shape, random_shape, Call, Followed, LoadKind, Random, Seam, Shape};
 use reference::queue::{pass, Source};
-use reference::wire::{deviation, Course, Run, Whose};
+use reference::wire::{deviation, repeat_deviation, Course, Run, Whose};
 use reference::LONGEST_RUN;
 
 use crate::build_case::{lend, wire_frame};
 use crate::chain_case::straying_load;
-use crate::hits::{Hits, LEAD_REACHED};
+use crate::hits::{Hits, Used, LEAD_REACHED};
 use crate::lent::Lent;
-use crate::share_case::{class_of, every_class, every_link, expect_share};
+use crate::share_case::{class_of, every_class, every_link, expect_every_run, expect_total};
 use crate::verdict::{expect, expect_equal, Verdict};
 
 /// The slots that a case looks at, all its classes together.
@@ -85,14 +85,28 @@ fn links_of(call: &Call, random: &mut Random) -> Vec<Whose> {
     links
 }
 
-/// Holds a link, for which Service count is not asked, to the bounds on the runs on which it gets furthest ahead and falls furthest
-/// behind.
+/// Holds every run of a link, for which Service count is not asked, to the bounds.
 fn check_link(course: &Course, link: Whose, random: &mut Random, hits: &mut Hits) -> Verdict {
-    for run in [course.furthest_ahead(), course.furthest_behind()] {
-        expect_share(course, link, run)?;
-        hits.stray(course.k(), course.lead(run).abs());
-    }
+    expect_every_run(course, link)?;
+    expect_lead(course, link, hits)?;
     check_queue(course, link, random)
+}
+
+/// Holds the runs that get furthest ahead and fall furthest behind to what one frame that repeats allows, and notes how far they are.
+fn expect_lead(course: &Course, whose: Whose, hits: &mut Hits) -> Verdict {
+    let k = course.k();
+    for run in [course.furthest_ahead(), course.furthest_behind()] {
+        let lead = course.lead(run).abs();
+        expect(lead <= repeat_deviation(k), || {
+            format!("{whose:?} in {run:?}: a lead of {lead} is too far from 0 for one frame")
+        })?;
+        hits.stray(k, lead);
+        hits.part(k, Used::Lead, lead, 2 * course.largest_stray());
+        if lead >= deviation(k) {
+            hits.add_at(LEAD_REACHED, k);
+        }
+    }
+    Ok(())
 }
 
 impl Built<'_> {
@@ -103,8 +117,8 @@ impl Built<'_> {
             .service_count(ports, slots, list, frame, class, run)
     }
 
-    /// Holds a whole turn to the load, and the runs that get furthest ahead and fall furthest behind to the bounds; the
-    /// course is that of two turns, so that runs across the end of the frame are in it.
+    /// Holds a whole turn to the load, the runs that get furthest ahead and fall furthest behind to the reference, and every run to the
+    /// bounds; the course is that of two turns, so that runs across the end of the frame are in it.
     fn check(
         &self,
         class: Class,
@@ -121,27 +135,22 @@ impl Built<'_> {
         expect_equal("count of a whole turn", &turn, &Ok(reserved))?;
         for run in [course.furthest_ahead(), course.furthest_behind()] {
             self.check_run(class, course, run, random)?;
-            let lead = course.lead(run).abs();
-            hits.stray(course.k(), lead);
-            if lead >= deviation(course.k()) {
-                hits.add_at(LEAD_REACHED, course.k());
-            }
         }
+        expect_every_run(course, class.into())?;
+        expect_lead(course, class.into(), hits)?;
         check_queue(course, class.into(), random)
     }
 
-    /// Holds all cells together to the bounds, on the runs on which they get furthest ahead and fall furthest behind. Service
-    /// count is not asked for the total, but has to give the total's cells and lead in those of all inputs.
+    /// Holds every run of all cells together to the bounds. Service count is not asked for the total, but has to give the total's cells
+    /// and lead in those of all inputs, on the runs on which they get furthest ahead and fall furthest behind.
     fn check_total(&self, course: &Course, random: &mut Random, hits: &mut Hits) -> Verdict {
+        expect_every_run(course, Whose::Total)?;
+        expect_total(course)?;
+        expect_lead(course, Whose::Total, hits)?;
         for run in [course.furthest_ahead(), course.furthest_behind()] {
-            expect(course.has_its_share(run), || {
-                let lead = course.lead(run);
-                format!("all cells in {run:?}: a lead of {lead} is too far from 0")
-            })?;
             let counted = self.count_all_inputs(run)?;
             let right = (course.cells(run), course.lead(run));
             expect_equal("counts of all inputs, added", &counted, &right)?;
-            hits.stray(course.k(), course.lead(run).abs());
         }
         check_queue(course, Whose::Total, random)
     }

@@ -2,7 +2,7 @@
 
 use loads::Random;
 use reference::queue::{pass, pass_card, Source};
-use reference::wire::{deviation, Course, Run, Whose};
+use reference::wire::{Course, Run, Whose};
 
 use crate::hits::{Hits, QUEUE_REACHED_AFTER, QUEUE_REACHED_BEFORE};
 use crate::verdict::{expect, Verdict};
@@ -35,11 +35,15 @@ pub fn check_queue(course: &Course, whose: Whose, random: &mut Random, hits: &mu
     })
 }
 
-/// Runs the buffer at the card of a link whose line takes as many cells a frame as the link has in any, and holds it to what its card needs.
+/// Runs the buffer at the card of a link whose line takes as many cells a frame as the link has in any, and one of a line that takes the
+/// next power of two, and holds both to what their cards need.
 pub fn check_card(course: &Course, whose: Whose) -> Verdict {
     let loads = course.given.iter().map(|slot| slot.load);
-    let most = loads.max().unwrap_or_default();
-    [0, course.slots - 1].into_iter().try_for_each(|phase| {
+    let largest = loads.max().unwrap_or_default();
+    let limits = [largest, largest.next_power_of_two()];
+    let lines = limits.map(|limit| [0, course.slots - 1].map(|phase| (limit, phase)));
+    let mut lines = lines.into_iter().flatten();
+    lines.try_for_each(|(most, phase)| {
         let depth = pass_card(course, most, phase);
         expect(depth.after <= 0 && depth.before <= 0, || {
             format!("at the card of {whose:?}, whose line takes {most} from {phase} on, too many wait: {depth:?}")
@@ -50,9 +54,12 @@ pub fn check_card(course: &Course, whose: Whose) -> Verdict {
 /// How far the source may be ahead, in parts of 1/2^k of a cell: any, whole cells, or what leaves whole cells to wait at
 /// the end of the run in which the flow falls furthest behind, after its last slot or before the next one's cell leaves.
 fn random_allowance(course: &Course, behind: Run, random: &mut Random) -> u64 {
-    let next = course.given.get(behind.start + behind.length);
-    let load = next.map_or(0, |slot| slot.load);
-    let most_behind = 2 * deviation(course.k()) as u64;
+    let next = behind.start + behind.length;
+    let stray = |slot: usize| match course.given.get(slot) {
+        Some(_) => (course.largest_stray() + course.stray_at(slot)) as u64,
+        None => 0,
+    };
+    let load = course.given.get(next).map_or(0, |slot| slot.load);
     let filling_up = |parts: u64| {
         let whole = parts.next_multiple_of(course.slots);
         course.slots + whole - parts
@@ -60,8 +67,8 @@ fn random_allowance(course: &Course, behind: Run, random: &mut Random) -> u64 {
     match random.below(4) {
         0 => random.between(0, 3 * course.slots),
         1 => random.between(0, 3) * course.slots,
-        2 => filling_up(most_behind),
-        _ => filling_up(most_behind + load),
+        2 => filling_up(stray(next.saturating_sub(1))),
+        _ => filling_up(stray(next) + load),
     }
 }
 

@@ -50,7 +50,7 @@ pub fn check_row(candidate: &dyn Calls, random: &mut Random, hits: &mut Hits) ->
     let passed = pass_row(&switches, &row.arrivals(random));
     let k = row.slots.trailing_zeros();
     for (place, passed) in (1..).zip(passed).skip(1) {
-        let depth = passed.depth(ahead_behind_a_switch(k));
+        let depth = passed.depth(ahead_behind_a_switch(k, row.cells as u64));
         hits.deepen(k, place, i128::from(row.slots as u64 * passed.waiting));
         expect(depth.after <= 0 && depth.before <= 0, || {
             let (cells, slots) = (row.cells, row.slots);

@@ -2,10 +2,11 @@
 
 use calls::Class;
 use loads::{Followed, Random};
+use reference::stray::stray;
 use reference::wire::{self, deviation, Course, Frame, Run, Whose};
 use reference::LINKS;
 
-use crate::hits::{Hits, RUN_REACHED, TOTAL_REACHED};
+use crate::hits::{Hits, Used, BOUND_COMPARED, BOUND_REACHED, RUN_REACHED, TOTAL_REACHED};
 use crate::verdict::{expect, Verdict};
 
 /// Fails where the frames are of several shapes.
@@ -13,27 +14,85 @@ pub fn expect_chain(chain: &[Frame]) -> Verdict {
     expect(wire::is_chain(chain), || "frames of several shapes".into())
 }
 
-/// Holds any run of a chain of built frames, the furthest of all and the furthest that begins with a frame to their bounds. The
-/// total has half the bound of a class: its extra cell always goes to the first half.
+/// Holds every run of a chain of built frames to its bounds, and once more any run and the furthest that begins with a frame. The
+/// total is ahead only by what a run ends in, and behind only by what it begins in: its extra cell always goes to the first half.
 pub fn check_share(course: &Course, whose: Whose, random: &mut Random, hits: &mut Hits) -> Verdict {
-    let furthest = course.furthest_run();
-    let others = [random_run(course, random), course.furthest_from_a_frame()];
-    for run in [furthest].into_iter().chain(others) {
+    expect_every_run(course, whose)?;
+    for run in [random_run(course, random), course.furthest_from_a_frame()] {
         expect_share(course, whose, run)?;
     }
-    let (lead, k) = (course.lead(furthest).abs(), course.k());
+    let (lead, k) = (course.lead(course.furthest_run()).abs(), course.k());
     if lead == 2 * deviation(k) {
         hits.add_at(RUN_REACHED, k);
     }
     if whose == Whose::Total {
-        expect(lead <= deviation(k), || {
-            format!("the total of built frames strays by {lead} parts in {furthest:?}")
-        })?;
+        expect_total(course)?;
         if lead == deviation(k) {
             hits.add_at(TOTAL_REACHED, k);
         }
     }
     Ok(())
+}
+
+/// Fails where some run is too far from its share: the furthest of all by demand 3, or the one nearest to its bound by that.
+pub fn expect_every_run(course: &Course, whose: Whose) -> Verdict {
+    expect_share(course, whose, course.furthest_run())?;
+    expect_share(course, whose, course.nearest_run())
+}
+
+/// Fails where some run of all cells of built frames is too far from its share.
+pub fn expect_total(course: &Course) -> Verdict {
+    let run = course.nearest_of_total();
+    expect(course.total_has_its_share(run), || {
+        let lead = course.lead(run);
+        format!("the total of built frames strays by {lead} parts in {run:?}")
+    })
+}
+
+/// Holds a chain to the fewest and to the most cells that its frames have, and to the powers of two below and above: where every frame
+/// has m cells or more, a run lacks at most twice the stray of m of its share of m a frame, and where every frame has at most m, it has
+/// at most so much more.
+pub fn check_fewest_and_most(course: &Course, whose: Whose) -> Verdict {
+    let loads = || course.given.iter().map(|slot| slot.load);
+    let fewest = loads().min().unwrap_or_default();
+    let most = loads().max().unwrap_or_default();
+    let k = course.k();
+    for m in [fewest, power_below(fewest)] {
+        let course = course.against(m);
+        let lead = course.lead(course.furthest_behind());
+        expect(-lead <= 2 * i128::from(stray(k, m)), || {
+            format!(
+                "{whose:?} with {m} cells or more in each frame has a lead of {lead} beside {m}"
+            )
+        })?;
+    }
+    for m in [most, most.next_power_of_two()] {
+        let course = course.against(m);
+        let lead = course.lead(course.furthest_ahead());
+        expect(lead <= 2 * i128::from(stray(k, m)), || {
+            format!("{whose:?} with up to {m} cells in each frame has a lead of {lead} beside {m}")
+        })?;
+    }
+    Ok(())
+}
+
+/// The greatest power of two that is not above the number, and 0 for 0.
+fn power_below(number: u64) -> u64 {
+    number.checked_ilog2().map_or(0, |power| 1 << power)
+}
+
+/// Notes how much of the bound of its loads a run uses that may be off at both ends, the one that comes nearest to it.
+pub fn note_bound(course: &Course, hits: &mut Hits) {
+    let (run, k) = (course.nearest_off_at_both(), course.k());
+    let (lead, bound) = (course.lead(run).abs(), course.bound(run));
+    if bound == 0 {
+        return;
+    }
+    hits.add_at(BOUND_COMPARED, k);
+    hits.part(k, Used::Run, lead, bound);
+    if lead == bound {
+        hits.add_at(BOUND_REACHED, k);
+    }
 }
 
 /// Fails where the run is too far from its share.

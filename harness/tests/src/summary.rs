@@ -1,21 +1,22 @@
 //! What is said of the bounds at the end of a run.
 
 use reference::wait::Allowed;
-use reference::wire::{demanded, deviation};
+use reference::wire::{demanded, deviation, repeat_deviation};
 use reference::work::bound;
 
-use crate::hits::{Hits, Queued, Waited, FOR_EACH_K};
+use crate::hits::{Hits, Part, Queued, Used, Waited, BOUND_COMPARED, BOUND_REACHED, FOR_EACH_K};
 
 /// The places of a row that have a column: one switch by itself, then the second to the fifth of a row.
 const PLACES: [usize; 5] = [1, 2, 3, 4, 5];
 
-/// A line for each thing that is counted for each k, then the tables of the furthest leads, the deepest queues, the longest waits
+/// A line for each thing that is counted for each k, then the tables of the bounds of loads, of the furthest leads, the deepest queues, the longest waits
 /// and the most odd counts settled.
 pub fn summary(hits: &Hits) -> Vec<String> {
     let mut lines: Vec<String> = FOR_EACH_K
         .iter()
         .filter_map(|name| line(hits, name))
         .collect();
+    lines.extend(parts(hits));
     lines.extend(leads(hits));
     lines.extend(depths(hits));
     lines.extend(waits(hits));
@@ -45,21 +46,50 @@ fn line(hits: &Hits, name: &'static str) -> Option<String> {
     any.then(|| format!("{name}: {}", said.join(", ")))
 }
 
+/// The largest parts of the bounds of loads that runs of chains used, and leads of one frame; nothing where none was counted.
+fn parts(hits: &Hits) -> Vec<String> {
+    let rows = (1..=10).filter_map(|k| {
+        let largest = [Used::Run, Used::Lead].map(|used| hits.largest_part(k, used));
+        let any = largest.iter().any(Option::is_some);
+        let [run, lead] = largest.map(part_columns);
+        let [reached, compared] =
+            [BOUND_REACHED, BOUND_COMPARED].map(|name| hits.count_at(name, k));
+        any.then(|| format!("{k:>3} |{run} {reached:>8} {compared:>9} |{lead}"))
+    });
+    let title = "largest part of the bound of the load, in parts of 1/2^k of a cell: of runs of chains that may be off at both ends, and how often they came to all of it; of leads of one frame";
+    let [run, lead] = [(); 2].map(|()| part_row(["seen", "bound", "part"].map(String::from)));
+    let head = format!("{:>3} |{run} {:>8} {:>9} |{lead}", "k", "reached", "of");
+    table(title, head, rows)
+}
+
+fn part_columns(part: Option<Part>) -> String {
+    let Some(Part { seen, bound }) = part else {
+        return part_row([(); 3].map(|()| "-".into()));
+    };
+    let part = seen as f64 / bound as f64;
+    part_row([seen.to_string(), bound.to_string(), format!("{part:.4}")])
+}
+
+fn part_row(columns: [String; 3]) -> String {
+    let columns = columns.iter().map(|column| format!(" {column:>8}"));
+    columns.collect()
+}
+
 /// The leads of built frames that were furthest from 0, beside what is allowed; nothing where no such frame was counted.
 fn leads(hits: &Hits) -> Vec<String> {
     let rows = (0..=10).filter_map(|k| {
         let seen = hits.furthest_lead(k)?;
-        let (slots, sharp) = (1 << k, 2 * deviation(k));
+        let (slots, most) = (1 << k, repeat_deviation(k));
         let allowed = demanded(k) as f64 / 3.0;
         let ratio = seen as f64 / allowed;
         Some(format!(
-            "{k:>3} {slots:>9} {seen:>9} {allowed:>13.3} {sharp:>9} {ratio:>9.4}"
+            "{k:>3} {slots:>9} {seen:>9} {allowed:>13.3} {most:>9} {ratio:>9.4}"
         ))
     });
     let title = "furthest leads of built frames, in parts of 1/2^k of a cell";
     let head = format!(
         "{:>3} {:>9} {:>9} {:>13} {:>9} {:>9}",
-        "k", "slots", "seen", "(2k+1)2^k/3", "2^k 2p(k)", "ratio"
+        "k", "slots", "seen", "(2k+1)2^k/3", "at most", "ratio"
     );
     table(title, head, rows)
 }
@@ -96,7 +126,7 @@ fn waits(hits: &Hits) -> Vec<String> {
         let [first, other] = nearest.map(|waited| wait_columns(k, waited));
         any.then(|| format!("{k:>3} {slots:>6} |{first} |{other}"))
     });
-    let title = "longest waits in slots, nearest to the sharp bound: of the first in the queue; of the w-th";
+    let title = "longest waits in slots, nearest to the bound of the load: of the first in the queue; of the w-th";
     let columns = wait_row(["wait", "allowed", "(2k+1)/3", "ratio", "m", "w"].map(String::from));
     let head = format!("{:>3} {:>6} |{columns} |{columns}", "k", "slots");
     table(title, head, rows)

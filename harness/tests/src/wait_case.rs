@@ -1,7 +1,7 @@
 //! How long cells wait on a chain.
 
 use loads::Random;
-use reference::wait::{by_blocks, paced, pass_each, stretches, Allowed, Stretch};
+use reference::wait::{by_blocks, paced_at_seams, pass_each, stretches, Allowed, Stretch};
 use reference::wire::{Course, Run, Whose};
 
 use crate::hits::{
@@ -42,7 +42,7 @@ fn check_wait(stretch: &Stretch, whose: Whose, w: u64, hits: &mut Hits) -> Verdi
     let run = stretch.longest_run(w);
     let slots = run.length as u64 + 1;
     let [allowed, demanded] =
-        [Allowed::sharp(k, m), Allowed::demanded(k, m)].map(|allowed| allowed.longest(w));
+        [Allowed::by_load(k, m), Allowed::demanded(k, m)].map(|allowed| allowed.longest(w));
     let waited = Waited {
         slots,
         allowed,
@@ -96,7 +96,7 @@ pub fn check_each_cell(
         coming
     });
     let arrivals: Vec<u64> = arrivals.collect();
-    let allowed = Allowed::sharp(k, m);
+    let allowed = Allowed::by_load(k, m);
     hits.add_at(QUEUE_BY_CELLS, k);
     let mut waits = pass_each(stretch.given, &arrivals).into_iter();
     waits.try_for_each(|cell| {
@@ -119,7 +119,7 @@ pub fn check_paced(
     let source = random_source(&course, random);
     let waits = pass_each(&course.given, &source.arrivals(&course));
     let slots = waits.iter().map(|cell| cell.slots).max().unwrap_or(0);
-    let allowed = paced(k, m, source.ahead);
+    let allowed = paced_at_seams(k, m, course.largest_stray() as u64, source.ahead);
     hits.add_at(PACED_COMPARED, k);
     if slots > 0 && m <= 1 << k {
         let w = source.ahead;

@@ -5,7 +5,7 @@ use loads::{flows_of_matrix, list_of, load_beside, Random, FLOW_NUMBERS, MOST_FL
 use reference::queue::{ahead_behind_a_switch, pass_row, Depth, Switch};
 use reference::slots_each;
 use reference::wait::{stretches, Allowed, Stretch};
-use reference::wire::{Course, Frame, Run, Whose};
+use reference::wire::{demanded, deviation, repeat_deviation, Course, Frame, Run, Whose};
 use tests::broken::{self, Broken, BuildCall};
 use tests::{check_each_cell, check_paced, check_waits, run, Hits, Settings};
 
@@ -429,6 +429,33 @@ fn half_load(builder: &Broken, slots: u64, times: usize) -> Course {
     Course::of(&vec![frame; times], Class::Input { port: 1 })
 }
 
+/// Half of the slots, two at a time, are no further from their share than some loads may be, and further than this one may.
+#[test]
+fn beyond_the_bound_of_the_load_alone() {
+    let builder = sent_back!(build: slots_exchanged, "lead/");
+    sent_back!(build: slots_exchanged, "build/");
+    for k in 4..=10 {
+        let course = half_load(&builder, 1 << k, 2);
+        let lead = course.lead(course.furthest_run()).abs();
+        assert!(lead <= repeat_deviation(k) && 3 * lead <= demanded(k));
+        let from_a_frame = course.lead(course.furthest_from_a_frame()).abs();
+        assert!(from_a_frame <= deviation(k), "k = {k}");
+        assert!(!course.has_its_share(course.nearest_run()), "k = {k}");
+        let right = half_load(&Broken::default(), 1 << k, 2);
+        assert!(right.has_its_share(right.nearest_run()), "k = {k}");
+    }
+}
+
+/// A frame read backwards is as balanced as it was, and each class keeps to its bound: all cells together are late.
+#[test]
+fn a_total_that_is_late() {
+    let builder = sent_back!(build: other_tie, "lead/");
+    let frame = carried(&builder, 1, 4, &[1, 1, 3, 1]);
+    let course = Course::of(&[frame], Whose::Total);
+    assert!(course.has_its_share(course.nearest_run()));
+    assert!(!course.total_has_its_share(course.nearest_of_total()));
+}
+
 /// How deep the second of two switches stands where the first has cells enough to send all the time.
 fn second_of_two(builders: [&Broken; 2]) -> Depth {
     let row = builders.map(|builder| Switch {
@@ -437,7 +464,7 @@ fn second_of_two(builders: [&Broken; 2]) -> Depth {
     });
     let mut arrivals = vec![0; row[0].course.given.len()];
     arrivals[0] = 1_000;
-    pass_row(&row, &arrivals)[1].depth(ahead_behind_a_switch(5))
+    pass_row(&row, &arrivals)[1].depth(ahead_behind_a_switch(5, 16))
 }
 
 #[test]
@@ -484,7 +511,7 @@ fn a_bunched_flow_waits_too_long() {
             "{cells} cells or more in each frame has fewer than 1 in Run {{ start: {cells}, length: {idle} }}"
         );
         assert!(complaint.contains(&said), "{complaint}");
-        let allowed = Allowed::sharp(4, cells.into()).longest(1);
+        let allowed = Allowed::by_load(4, cells.into()).longest(1);
         assert!(u128::from(idle) + 1 > allowed, "{complaint}");
     }
 }
@@ -541,7 +568,7 @@ fn a_total_waits_too_long() {
         let complaint = waits(&chain, Whose::Total).unwrap_err();
         let said = "4 cells or more in each frame has fewer than 1 in Run { start: 1, length: 3 }";
         assert!(complaint.contains(said), "{complaint}");
-        assert_eq!(Allowed::sharp(2, 4).longest(1), 2);
+        assert_eq!(Allowed::by_load(2, 4).longest(1), 1);
     }
 }
 

@@ -1,32 +1,77 @@
-//! The sharp bound is reached for every k from 1 to 10, on frames that the proved Build made.
+//! The bound of each load is reached, and with it the sharp bound of every k from 1 to 10, on frames that the proved Build made.
 
-use calls::{Calls, Class, Library};
-use loads::{Seam, SEAMS};
+use calls::{Calls, Class, InC, Library};
+use loads::{load_alone, load_beside, Seam, SEAMS};
 use reference::queue::{ahead_behind_a_switch, pass, pass_row, Source, Switch};
 use reference::slots_each;
+use reference::stray::stray;
 use reference::wire::{deviation, Course, Frame, Run};
 
 const FLOW: Class = Class::Flow { number: 2 };
 
-fn built(seam: Seam, list: [u16; 8]) -> Frame {
-    let mut entries = vec![0xa5a5; 2 * seam.slots as usize];
-    let limits = slots_each(seam.slots);
-    let answer = Library::default().build(2, seam.slots, &list, &limits, &mut entries);
+fn built(calls: &dyn Calls, slots: u64, list: [u16; 8]) -> Frame {
+    let mut entries = vec![0xa5a5; 2 * slots as usize];
+    let answer = calls.build(2, slots, &list, &slots_each(slots), &mut entries);
     assert!(answer.is_ok(), "{answer:?}");
     Frame {
         ports: 2,
-        slots: seam.slots,
+        slots,
         list: list.to_vec(),
         entries,
     }
 }
 
 fn alone(seam: Seam) -> Frame {
-    built(seam, seam.alone())
+    built(&Library::default(), seam.slots, seam.alone())
 }
 
 fn beside(seam: Seam) -> Frame {
-    built(seam, seam.beside())
+    built(&Library::default(), seam.slots, seam.beside())
+}
+
+/// After how many slots of a frame the flow is furthest from its share.
+fn edge(frame: &Frame) -> usize {
+    let course = Course::of(std::slice::from_ref(frame), FLOW);
+    course.furthest_from_a_frame().length
+}
+
+/// A flow alone has the earliest frame of its load, and behind one of the same input that has all other slots it has the latest: at
+/// their seam, either way round, it is off by twice the stray of its load, which is as far as the load allows.
+fn every_load_reaches_its_bound(calls: &dyn Calls) {
+    for (k, m) in (0..=10).flat_map(|k| (0..=1_u64 << k).map(move |m| (k, m))) {
+        let slots = 1 << k;
+        let lists = [load_alone(m as u16), load_beside(slots, m as u16)];
+        let [alone, beside] = lists.map(|list| built(calls, slots, list));
+        let bound = 2 * i128::from(stray(k, m));
+        let edge = edge(&alone);
+        let back = slots as usize - edge;
+        let seams = [
+            ([&alone, &beside], edge, 2 * back, -bound),
+            ([&beside, &alone], back, 2 * edge, bound),
+        ];
+        for (frames, start, length, lead) in seams {
+            let course = Course::of(&frames.map(Frame::clone), FLOW);
+            let run = Run { start, length };
+            assert_eq!(course.lead(run), lead, "k = {k}, m = {m}");
+            assert!(course.has_its_share(run), "k = {k}, m = {m}");
+            assert!(
+                course.has_its_share(course.nearest_run()),
+                "k = {k}, m = {m}"
+            );
+            let furthest = course.lead(course.furthest_run());
+            assert_eq!(furthest.abs(), bound, "k = {k}, m = {m}");
+        }
+    }
+}
+
+#[test]
+fn every_load_through_rust() {
+    every_load_reaches_its_bound(&Library::default());
+}
+
+#[test]
+fn every_load_through_c() {
+    every_load_reaches_its_bound(&InC::default());
 }
 
 /// The run from slot t of the first frame to slot 2^k - t of the second, and what the seam's two frames give the flow.
@@ -134,7 +179,7 @@ fn rows_as_deep_as_allowed() {
         let mut arrivals = vec![0; 3 * slots];
         arrivals[slots - turn] = 3 * seam.slots;
         let second = &pass_row(&row, &arrivals)[1];
-        let depth = second.depth(ahead_behind_a_switch(seam.k));
+        let depth = second.depth(ahead_behind_a_switch(seam.k, seam.cells.into()));
         assert_eq!(depth.after, 0, "{seam:?}");
     }
 }

@@ -4,6 +4,7 @@ use std::slice;
 
 use calls::{Calls, Class, Library};
 use loads::{load_alone, load_beside, SEAMS};
+use reference::order::at_once;
 use reference::queue::Source;
 use reference::slots_each;
 use reference::wait::{by_blocks, paced, pass_each, stretches, Allowed};
@@ -47,7 +48,7 @@ fn longest(course: &Course, w: u64) -> Option<(u64, u128)> {
 /// In the run in which the flow falls furthest behind it has cells for all places before the w-th.
 #[test]
 fn the_longest_wait_of_both_bounds() {
-    println!("  k  slots     m     w      wait     sharp  (2k+1)/3");
+    println!("  k  slots     m     w      wait   by load  (2k+1)/3");
     for of in SEAMS {
         let (k, m) = (of.k, u64::from(of.cells));
         let course = seam(k, m);
@@ -56,65 +57,71 @@ fn the_longest_wait_of_both_bounds() {
             length: 2 * (of.slots as usize - of.turn),
         };
         let w = course.cells(run) as u64 + 1;
-        let [sharp, demanded] =
-            [Allowed::sharp(k, m), Allowed::demanded(k, m)].map(|allowed| allowed.longest(w));
+        let [by_load, demanded] =
+            [Allowed::by_load(k, m), Allowed::demanded(k, m)].map(|allowed| allowed.longest(w));
         let found = longest(&course, w).expect("the flow has cells in both frames");
         let (slots, wait) = (of.slots, found.1);
-        println!("{k:>3} {slots:>6} {m:>5} {w:>5} {wait:>9} {sharp:>9} {demanded:>9}");
+        println!("{k:>3} {slots:>6} {m:>5} {w:>5} {wait:>9} {by_load:>9} {demanded:>9}");
         assert_eq!(found, (m, run.length as u128 + 1), "{of:?}");
-        assert_eq!((wait, wait), (sharp, demanded), "{of:?}");
+        assert_eq!((wait, wait), (by_load, demanded), "{of:?}");
         assert_eq!(stretches(&course, 1)[0].hardest_place(), w, "{of:?}");
     }
 }
 
-/// A source that sends evenly from where the flow begins to fall behind, one cell ahead: on the two frames of a seam, the second
-/// carried twice, some cell waits as long as any of such a source may, and that is as long as the sharp bound allows the first.
+/// Every k up to 10, and every m from 1 on that fits.
+fn every_load() -> impl Iterator<Item = (u32, u64)> {
+    (0..=10).flat_map(|k| (1..=1 << k).map(move |m| (k, m)))
+}
+
+/// With any m some place of the queue waits as long as the bound of the load allows.
 #[test]
-fn the_longest_wait_of_an_even_source() {
-    for of in SEAMS {
-        let (k, m) = (of.k, u64::from(of.cells));
-        let loads = [of.alone(), of.beside(), of.beside()];
-        let course = Course::of(&loads.map(|load| built(k, load)), FLOW);
-        let source = Source {
-            from: of.turn,
-            ahead: of.slots,
-        };
-        let waits = pass_each(&course.given, &source.arrivals(&course));
-        let longest = waits.iter().map(|cell| cell.slots).max();
-        let allowed = paced(k, m, source.ahead);
-        assert_eq!(longest.map(u128::from), Some(allowed), "{of:?}");
-        assert_eq!(allowed, Allowed::sharp(k, m).longest(1), "{of:?}");
+fn the_longest_wait_of_every_load() {
+    for (k, m) in every_load() {
+        let course = seam(k, m);
+        let w = stretches(&course, 1)[0].hardest_place();
+        let allowed = Allowed::by_load(k, m).longest(w);
+        assert_eq!(longest(&course, w), Some((m, allowed)), "k = {k}, m = {m}");
     }
 }
 
-/// With any m the two frames of a seam have the longest wait that there is of the first in a queue; how near it comes to what
-/// the sharp bound allows, and for which m it comes to all of that.
+/// A source that sends evenly from where the flow begins to fall behind: on the two frames of a seam, the second carried twice, some
+/// cell waits as long as any of such a source may, whatever m is. So it does where the source may be a whole cell ahead.
+#[test]
+fn the_longest_wait_of_an_even_source() {
+    for (k, m) in every_load() {
+        let beside = load_beside(1 << k, m as u16);
+        let loads = [load_alone(m as u16), beside, beside];
+        let course = Course::of(&loads.map(|load| built(k, load)), FLOW);
+        let from = course.furthest_behind().start;
+        for ahead in [at_once(k, 1), 1 << k] {
+            let arrivals = Source { from, ahead }.arrivals(&course);
+            let waits = pass_each(&course.given, &arrivals);
+            let longest = waits.iter().map(|cell| cell.slots).max();
+            let allowed = Some(paced(k, m, ahead));
+            assert_eq!(longest.map(u128::from), allowed, "k = {k}, m = {m}");
+        }
+    }
+}
+
+/// With any m the two frames of a seam have the longest wait that there is of the first in a queue; for how many m it comes to all that
+/// the load allows, and for which m the load allows the most times as long.
 #[test]
 fn the_longest_wait_of_the_first_in_the_queue() {
-    println!("  k  slots  nearest m     wait  allowed   ratio  as long as allowed for m");
+    println!("  k  slots  as long as allowed  furthest m     wait  allowed");
     for k in 0..=10 {
         let slots = 1_u64 << k;
         let wait = |m: u64| by_blocks(k, m, 1);
-        let allowed = |m: u64| Allowed::sharp(k, m).longest(1);
+        let allowed = |m: u64| Allowed::by_load(k, m).longest(1);
         for m in 1..=slots {
             assert_eq!(longest(&seam(k, m), 1), Some((m, wait(m))), "k = {k}");
             assert!(wait(m) <= allowed(m), "k = {k}, m = {m}");
         }
-        let ratio = |m: u64| wait(m) as f64 / allowed(m) as f64;
-        let by_ratio = |one: &u64, other: &u64| ratio(*one).total_cmp(&ratio(*other));
-        let m = (1..=slots).rev().max_by(by_ratio).expect("a slot");
-        let equal = (1..=slots).filter(|&m| wait(m) == allowed(m));
-        let equal: Vec<u64> = equal.collect();
-        let (wait, allowed, ratio) = (wait(m), allowed(m), ratio(m));
-        println!("{k:>3} {slots:>6} {m:>10} {wait:>8} {allowed:>8} {ratio:>7.4}  {equal:?}");
-        let reached: &[u64] = match k {
-            0 | 1 => &[1],
-            2 => &[1, 3],
-            3 => &[3, 7],
-            4 => &[7],
-            _ => &[],
-        };
-        assert_eq!(equal, reached, "k = {k}");
+        let equal = (1..=slots).filter(|&m| wait(m) == allowed(m)).count();
+        let times = |m: u64| allowed(m) as f64 / wait(m) as f64;
+        let by_times = |one: &u64, other: &u64| times(*one).total_cmp(&times(*other));
+        let m = (1..=slots).rev().max_by(by_times).expect("a slot");
+        let (wait, allowed) = (wait(m), allowed(m));
+        println!("{k:>3} {slots:>6} {equal:>19} {m:>11} {wait:>8} {allowed:>8}");
     }
 }
 

@@ -148,6 +148,17 @@ pub fn bunched(asked: Asked, frame: &mut [u16]) -> Built {
     Ok(settled)
 }
 
+/// Exchanges the second and the third slot of every four: what has every other slot then has two at a time.
+pub fn slots_exchanged(asked: Asked, frame: &mut [u16]) -> Built {
+    let settled = asked.build(frame)?;
+    let ports = asked.ports as usize;
+    for four in frame.chunks_exact_mut(4 * ports) {
+        let (front, back) = four.split_at_mut(2 * ports);
+        front[ports..].swap_with_slice(&mut back[..ports]);
+    }
+    Ok(settled)
+}
+
 /// Counts blocks of one slot as well.
 pub fn one_slot_counted(asked: Asked, frame: &mut [u16]) -> Built {
     let settled = asked.build(frame)?;
