@@ -13,7 +13,7 @@
 #define MARGIN 64
 #define BUFFER 65536
 
-enum call { ADMIT, BUILD, INSPECT, SLOT_VIEW, COUNT_FLOW, COUNT_INPUT, COUNT_OUTPUT };
+enum call { ADMIT, BUILD, INSPECT, SLOT_VIEW, COUNT_FLOW, COUNT_INPUT, COUNT_OUTPUT, DEPTH_FLOW, DEPTH_INPUT, DEPTH_OUTPUT };
 
 /* What a call may have written to and must not have. */
 enum harm { NONE, LIMITS, AROUND_LIMITS, LIST, AROUND_LIST, FRAME, AROUND_FRAME };
@@ -22,7 +22,7 @@ struct record {
     uint64_t call, ports, slots, list_length, frame_length;
     uint64_t slot; /* Service count: the start */
     uint64_t length;
-    uint64_t whose; /* Service count: the flow or the port */
+    uint64_t whose; /* Service count and Depth: the flow or the port */
 };
 
 struct answer {
@@ -141,6 +141,12 @@ static size_t make_call(const struct record *r, const struct slices *s, size_t *
         return frame_builder_inspect(r->ports, r->slots, list, r->list_length, frame, r->frame_length, first, second);
     case SLOT_VIEW:
         return frame_builder_slot_view(r->ports, r->slots, frame, r->frame_length, r->slot, first, second);
+    case DEPTH_FLOW:
+        return frame_builder_depth_flow(r->ports, r->slots, list, r->list_length, r->whose, first, second);
+    case DEPTH_INPUT:
+        return frame_builder_depth_input(r->ports, r->slots, list, r->list_length, r->whose, first, second);
+    case DEPTH_OUTPUT:
+        return frame_builder_depth_output(r->ports, r->slots, list, r->list_length, r->whose, first, second);
     }
     int64_t lead = INT64_MAX;
     size_t number = count_of(r->call)(r->ports, r->slots, list, r->list_length, frame, r->frame_length, r->whose, r->slot, r->length,

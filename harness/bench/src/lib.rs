@@ -2,7 +2,7 @@
 
 #![forbid(unsafe_code)]
 
-use frame_builder::{slots_each, Flow, Limits};
+use frame_builder::{slots_each, Flow, Limits, Who};
 use loads::{full_load, full_load_of_flows, Call, Random, Shape};
 use loads::{FLOW_NUMBERS, LINKS, MOST_FLOWS};
 
@@ -41,6 +41,16 @@ impl Load {
             numbers: call.list,
             limits: slots_each(shape.slots),
         }
+    }
+
+    /// The last flow, the last input and the last output.
+    pub fn last_of_each(&self) -> [Who; 3] {
+        let ports = self.shape.ports;
+        [
+            Who::Flow(self.list.len()),
+            Who::Input(ports),
+            Who::Output(ports),
+        ]
     }
 }
 

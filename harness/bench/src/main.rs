@@ -22,6 +22,9 @@ const SAMPLE_TIME: f64 = 200_000.0;
 /// The most that Inspect may take of the time of the Build that made the frame.
 const INSPECT_LIMIT: Option<f64> = Some(2.0);
 
+/// The most that Depth may take of the time of a Build of the same list.
+const DEPTH_LIMIT: Option<f64> = Some(0.10);
+
 /// Ports and slots, the load of every port, and the flows of a list.
 #[derive(Clone, Copy)]
 struct Size {
@@ -221,6 +224,27 @@ fn inspect_row(size: Size, repetitions: usize) -> Row {
     compare(size.name(), INSPECT_LIMIT, repetitions, left, right)
 }
 
+/// Times Depth of a flow, an input and an output in turn against builds of the same loads.
+fn depth_row(size: Size, repetitions: usize) -> Row {
+    let loads = loads_of(size.shape, size.cells, size.flows);
+    let asked = loads
+        .iter()
+        .flat_map(|load| load.last_of_each().map(|who| (load, who)));
+    let asked: Vec<_> = asked.collect();
+    let mut frame = vec![0; size.shape.frame_length()];
+    let (mut next_left, mut next_right) = (in_turn(&asked), in_turn(&loads));
+    let left = || {
+        let &(load, who) = next_left();
+        let Shape { ports, slots } = load.shape;
+        let depth = frame_builder::depth(ports, slots, &load.list, who);
+        assert!(black_box(depth).is_ok());
+    };
+    let right = || {
+        build_once(next_right(), &mut frame);
+    };
+    compare(size.name(), DEPTH_LIMIT, repetitions, left, right)
+}
+
 /// Times Service count of a flow and of an input against that of an output, over full frames.
 fn count_rows((start, length): (usize, usize), repetitions: usize) -> [Row; 2] {
     let size = SIZES[0];
@@ -282,6 +306,10 @@ fn main() -> ExitCode {
     let headings = ["inspect, clean", "inspect median ns", "build median ns"];
     print_table(headings, NANOSECONDS, &inspections);
     println!();
+    let depths = [SIZES[0], SIZES[1]].map(|size| depth_row(size, repetitions));
+    let headings = ["depth", "depth median ns", "build median ns"];
+    print_table(headings, NANOSECONDS, &depths);
+    println!();
     let counts = RUNS.map(|run| count_rows(run, repetitions));
     let headings = [
         "count 16 x 1024, full",
@@ -291,6 +319,6 @@ fn main() -> ExitCode {
     print_table(headings, MICROSECONDS, counts.as_flattened());
     println!();
     print_budget(repetitions);
-    let above = builds.iter().chain(&inspections).any(Row::is_above);
-    ExitCode::from(u8::from(above))
+    let mut limited = builds.iter().chain(&inspections).chain(&depths);
+    ExitCode::from(u8::from(limited.any(Row::is_above)))
 }

@@ -4,7 +4,10 @@ use std::io::{BufReader, Read, Write};
 use std::process::{Child, ChildStdin, ChildStdout, Command, Stdio};
 use std::sync::Mutex;
 
-use crate::{Answer, Built, Calls, Class, Count, Inspection, Limits, Refusal, Service};
+use crate::{
+    program, Answer, Bounded, Built, Calls, Class, Count, Depth, Inspection, Limits, Refusal,
+    Service, SheetProgram,
+};
 
 /// The calls as `harness/c/calls.c` numbers them.
 #[derive(Clone, Copy, Default)]
@@ -17,6 +20,9 @@ enum Call {
     CountFlow,
     CountInput,
     CountOutput,
+    DepthFlow,
+    DepthInput,
+    DepthOutput,
 }
 
 /// A call as the C program reads it.
@@ -32,7 +38,7 @@ struct Record<'r> {
     /// Service count: the start.
     slot: u64,
     length: u64,
-    /// The flow or the port that is counted.
+    /// The flow or the port that is counted, or asked about.
     whose: u64,
 }
 
@@ -69,7 +75,7 @@ const HARMS: [&str; 7] = [
 /// The proved frame builder, called by a C program.
 #[derive(Debug)]
 pub struct InC {
-    program: &'static str,
+    program: String,
     /// Running programs that no thread is using.
     idle: Mutex<Vec<Process>>,
 }
@@ -86,17 +92,19 @@ impl InC {
         InC::over(env!("CALLS_WRITING_OUTSIDE"))
     }
 
-    fn over(program: &'static str) -> InC {
+    /// The builder that this program calls, which reads the same records.
+    pub fn over(program: &str) -> InC {
         InC {
-            program,
+            program: program.into(),
             idle: Mutex::default(),
         }
     }
 
-    /// The answer's number and its three values, a count's cells and lead; a frame lent for writing is written.
+    /// The answer's number and its three values, a count's cells and lead, a depth's parts and cells; a frame lent for writing is
+    /// written.
     fn make(&self, record: &[u8], written: &mut [u16]) -> [u64; 4] {
         let idle = self.idle.lock().expect("no thread panics here").pop();
-        let mut process = idle.unwrap_or_else(|| Process::start(self.program));
+        let mut process = idle.unwrap_or_else(|| Process::start(&self.program));
         let [number, first, second, third, harm] = process.ask(record, written);
         let touched = HARMS.get(harm as usize).unwrap_or(&"something");
         assert!(harm == 0, "wrote to {touched}");
@@ -298,5 +306,31 @@ impl Calls for InC {
             }),
             refused => Err(refusal_of(refused)),
         }
+    }
+
+    fn depth(&self, ports: u64, slots: u64, list: &[u16], class: Class) -> Bounded {
+        let (call, whose) = match class {
+            Class::Flow { number } => (Call::DepthFlow, number),
+            Class::Input { port } => (Call::DepthInput, port),
+            Class::Output { port } => (Call::DepthOutput, port),
+        };
+        let record = Record {
+            call,
+            ports,
+            slots,
+            list,
+            whose,
+            ..Record::default()
+        };
+        match self.make(&record.bytes(), &mut []) {
+            [0, parts, cells, 0] => Ok(Depth { parts, cells }),
+            refused => Err(refusal_of(refused)),
+        }
+    }
+}
+
+impl SheetProgram for InC {
+    fn respond(&self, sheet: &[u8]) -> Vec<u8> {
+        program::respond(sheet)
     }
 }

@@ -8,7 +8,7 @@ mod program;
 
 pub use in_c::InC;
 pub use library::Library;
-pub use reference::{Class, Count, Inspection, Limits, Refusal};
+pub use reference::{Class, Count, Depth, Inspection, Limits, Refusal};
 
 /// What Admit answers.
 pub type Answer = Result<(), Refusal>;
@@ -18,6 +18,9 @@ pub type Built = Result<u64, Refusal>;
 
 /// What Service count answers.
 pub type Service = Result<Count, Refusal>;
+
+/// What Depth answers.
+pub type Bounded = Result<Depth, Refusal>;
 
 /// The calls a program makes on a frame builder; a list is its numbers, four to a flow, however many there are.
 pub trait Calls {
@@ -57,6 +60,9 @@ pub trait Calls {
         class: Class,
         run: (u64, u64),
     ) -> Service;
+
+    /// Says how far from its share a class can get, and how many cells to order for it.
+    fn depth(&self, ports: u64, slots: u64, list: &[u16], class: Class) -> Bounded;
 }
 
 /// The sheet program: standard input in, standard output back.
@@ -112,6 +118,10 @@ impl Calls for Reference {
         (start, length): (u64, u64),
     ) -> Service {
         reference::service_count(ports, slots, list, frame, class, start, length)
+    }
+
+    fn depth(&self, ports: u64, slots: u64, list: &[u16], class: Class) -> Bounded {
+        reference::depth(ports, slots, list, class)
     }
 }
 

@@ -3,8 +3,8 @@
 use frame_builder::{Fault, Flow, Who};
 
 use crate::{
-    program, Answer, Built, Calls, Class, Count, InC, Inspection, Limits, Refusal, Service,
-    SheetProgram,
+    program, Answer, Bounded, Built, Calls, Class, Count, Depth, InC, Inspection, Limits, Refusal,
+    Service, SheetProgram,
 };
 
 /// The numbers of a flow in a list.
@@ -115,6 +115,13 @@ fn count_of(count: frame_builder::Count) -> Count {
     }
 }
 
+fn depth_of(depth: frame_builder::Depth) -> Depth {
+    Depth {
+        parts: depth.parts as u64,
+        cells: depth.cells as u64,
+    }
+}
+
 impl Calls for Library {
     fn admit(&self, ports: u64, slots: u64, list: &[u16], limits: &Limits) -> Answer {
         let Some(lent) = Lent::of(list) else {
@@ -186,6 +193,16 @@ impl Calls for Library {
         let answer = frame_builder::service_count(ports, slots, flows, frame, who, start, length);
         lent.give_back(list);
         answer.map(count_of).map_err(refusal_of)
+    }
+
+    fn depth(&self, ports: u64, slots: u64, list: &[u16], class: Class) -> Bounded {
+        let Some(lent) = Lent::of(list) else {
+            return self.in_c.depth(ports, slots, list, class);
+        };
+        let (flows, who) = (lent.flows(), who_of(class));
+        let answer = frame_builder::depth(ports as usize, slots as usize, flows, who);
+        lent.give_back(list);
+        answer.map(depth_of).map_err(refusal_of)
     }
 }
 

@@ -38,13 +38,8 @@ pub(crate) fn check_frame(ports: u64, slots: u64, frame: &[u16]) -> Result<(), R
     require(length == slots * ports, Refusal::FrameLength)
 }
 
-/// Refusals 5, 6 and 24: all inputs are looked at before any output, and all outputs before any link.
-pub(crate) fn check_loads(
-    ports: u64,
-    slots: u64,
-    flows: &[Flow],
-    limits: &Limits,
-) -> Result<(), Refusal> {
+/// Refusals 5 and 6: all inputs are looked at before any output.
+pub(crate) fn check_port_loads(ports: u64, slots: u64, flows: &[Flow]) -> Result<(), Refusal> {
     for port in 1..=ports {
         let cells = cells_of(flows, |flow| flow.input == port);
         require(cells <= slots, Refusal::InputLoad { port, cells })?;
@@ -53,6 +48,17 @@ pub(crate) fn check_loads(
         let cells = cells_of(flows, |flow| flow.output == port);
         require(cells <= slots, Refusal::OutputLoad { port, cells })?;
     }
+    Ok(())
+}
+
+/// Refusals 5, 6 and 24: all ports are looked at before any link.
+pub(crate) fn check_loads(
+    ports: u64,
+    slots: u64,
+    flows: &[Flow],
+    limits: &Limits,
+) -> Result<(), Refusal> {
+    check_port_loads(ports, slots, flows)?;
     for ((output, link), &limit) in links_of(ports).zip(limits) {
         let cells = cells_of(flows, |flow| flow.is_on(output, link));
         let refusal = Refusal::LinkLoad {

@@ -4,6 +4,7 @@
 
 mod admission;
 mod build;
+mod depth;
 mod flow;
 mod inspect;
 pub mod order;
@@ -19,6 +20,7 @@ pub mod work;
 
 pub use admission::admit;
 pub use build::build;
+pub use depth::{depth, Depth};
 pub use flow::{slots_each, Limits, LINKS, MOST_FLOWS};
 pub use inspect::{inspect, Inspection};
 pub use query::{service_count, slot_view, Class, Count, LONGEST_RUN};

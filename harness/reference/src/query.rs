@@ -3,13 +3,13 @@
 use std::ops::Range;
 
 use crate::admission::{check_frame, check_list, check_ports, check_slots};
-use crate::flow::{numbered, sent_in, Flow};
+use crate::flow::{cells_of, numbered, sent_in, Flow};
 use crate::refusal::{require, Refusal};
 
 /// The longest run Service count takes.
 pub const LONGEST_RUN: u64 = 1_000_000;
 
-/// Whose cells Service count counts; flows and ports are numbered from 1.
+/// Whose cells Service count counts, and whose bound Depth has; flows and ports are numbered from 1.
 #[derive(Clone, Copy, Debug, PartialEq, Eq)]
 pub enum Class {
     Flow { number: u64 },
@@ -19,7 +19,7 @@ pub enum Class {
 
 impl Class {
     /// Whether it is a flow of the list, or a port of the switch.
-    fn is_within(self, ports: u64, flows: &[Flow]) -> bool {
+    pub(crate) fn is_within(self, ports: u64, flows: &[Flow]) -> bool {
         match self {
             Class::Flow { number } => numbered(flows, number).is_some(),
             Class::Input { port } | Class::Output { port } => (1..=ports).contains(&port),
@@ -38,6 +38,15 @@ impl Class {
             },
             Class::Input { port } => u64::from(slot[(port - 1) as usize] != 0),
             Class::Output { port } => sent_in(slot, flows, |flow| flow.output == port),
+        }
+    }
+
+    /// The load of the class; that of a flow that is not in the list is 0.
+    pub(crate) fn load_in(self, flows: &[Flow]) -> u64 {
+        match self {
+            Class::Flow { number } => numbered(flows, number).map_or(0, |flow| flow.cells),
+            Class::Input { port } => cells_of(flows, |flow| flow.input == port),
+            Class::Output { port } => cells_of(flows, |flow| flow.output == port),
         }
     }
 }

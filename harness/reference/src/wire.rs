@@ -1,6 +1,6 @@
 //! The accuracy rule: what the wire carried, counted entry by entry against the share.
 
-use crate::flow::{cells_of, flows_of, numbered, sent_in, Flow};
+use crate::flow::{cells_of, flows_of, sent_in, Flow};
 use crate::query::Class;
 use crate::stray::stray;
 
@@ -31,11 +31,7 @@ impl Whose {
     /// Their load; that of a flow that is not in the list is 0.
     fn load_in(self, flows: &[Flow]) -> u64 {
         match self {
-            Whose::Class(Class::Flow { number }) => {
-                numbered(flows, number).map_or(0, |flow| flow.cells)
-            }
-            Whose::Class(Class::Input { port }) => cells_of(flows, |flow| flow.input == port),
-            Whose::Class(Class::Output { port }) => cells_of(flows, |flow| flow.output == port),
+            Whose::Class(class) => class.load_in(flows),
             Whose::Link { output, link } => cells_of(flows, |flow| flow.is_on(output, link)),
             Whose::Total => cells_of(flows, |_| true),
         }

@@ -4,8 +4,8 @@ mod ample;
 
 use ample::build;
 use reference::{
-    inspect, service_count, slot_view, slots_each, Class, Count, Inspection, Limits, Refusal,
-    LONGEST_RUN, MOST_FLOWS,
+    inspect, service_count, slot_view, slots_each, Class, Count, Depth, Inspection, Limits,
+    Refusal, LONGEST_RUN, MOST_FLOWS,
 };
 
 const HEADER: &str = include_str!("../../../include/frame_builder.h");
@@ -390,6 +390,32 @@ fn count_order() {
     assert_eq!(count(2, 2, &[], 4, port(2), 2, LONGEST_RUN), Ok(longest));
     let behind = Count { cells: 2, lead: -1 };
     assert_eq!(count(2, 2, &[], 4, port(1), 2, 5), Ok(behind));
+}
+
+/// Every condition with 12 besides, and no limit is asked for.
+#[test]
+fn depth_order() {
+    let port = |port| Class::Input { port };
+    let depth = |ports, slots, list: &[u16], class| {
+        let answer = reference::depth(ports, slots, list, class);
+        answer.map_err(Refusal::numbers)
+    };
+    let refused = |ports, slots, list: &[u16]| depth(ports, slots, list, port(17)).unwrap_err();
+    assert_eq!(refused(17, 3, &not_whole()), [1]);
+    assert_eq!(refused(2, 3, &not_whole()), [2]);
+    assert_eq!(refused(2, 8, &not_whole()), [3]);
+    assert_eq!(refused(2, 8, &too_many()), [21]);
+    assert_eq!(refused(2, 8, &OUTSIDE), [22]);
+    assert_eq!(refused(2, 8, &LINK_OUTSIDE), [23]);
+    assert_eq!(refused(2, 8, &OVERLOADED), [5, 1, 9]);
+    assert_eq!(refused(2, 8, &[1, 2, 8, 1, 2, 2, 1, 2]), [6, 2, 9]);
+    assert_eq!(refused(2, 8, &OVER_LINKS), [12]);
+    let fourth = Class::Flow { number: 4 };
+    let three_of_eight = Depth {
+        parts: 18,
+        cells: 3,
+    };
+    assert_eq!(depth(2, 8, &OVER_LINKS, fourth), Ok(three_of_eight));
 }
 
 /// 12 is for a flow that is not in the list, however few flows it has, and for a port outside the switch.

@@ -28,10 +28,11 @@ pub fn read_settings(mut words: impl Iterator<Item = String>, count: u64) -> Opt
     Some(settings)
 }
 
-/// Runs cases as the settings say and prints what they came to; without settings, how to give them.
+/// Runs cases as the settings say, so many of each kind or call, and prints what they came to; without settings, how to give them.
 pub fn run_as_told(
     settings: Option<Settings>,
     usage: &str,
+    each: &str,
     run: impl Fn(&Settings) -> Report,
 ) -> ExitCode {
     let Some(settings) = settings else {
@@ -39,7 +40,7 @@ pub fn run_as_told(
         return ExitCode::from(2);
     };
     println!(
-        "seed {}, {} cases of each kind",
+        "seed {}, {} cases of each {each}",
         settings.seed, settings.count
     );
     let report = run(&settings);

@@ -13,5 +13,5 @@ const COUNT: u64 = 2_000;
 fn main() -> ExitCode {
     let library = Library::default();
     let settings = read_settings(std::env::args().skip(1), COUNT);
-    run_as_told(settings, USAGE, |settings| run(&library, settings))
+    run_as_told(settings, USAGE, "kind", |settings| run(&library, settings))
 }

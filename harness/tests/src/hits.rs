@@ -316,6 +316,8 @@ impl Hits {
         names.extend((0..=10).map(|k| format!("build with {} slots", 1 << k)));
         names.extend(CHAIN_EVENTS.map(str::to_string));
         names.extend((0..=10).map(|k| format!("leads of a frame of {} slots", 1 << k)));
+        names.extend((0..=10).map(|k| format!("depth in {} slots", 1 << k)));
+        names.extend((0..=8).map(|cells| format!("depth with {cells} to order")));
         for name in CLASSES_UNBALANCED {
             names.extend((2..=10).map(|k| name_at(name, k)));
         }
@@ -348,7 +350,9 @@ fn name_at(name: &str, k: u32) -> String {
 /// Each answer of each call.
 pub fn outcomes() -> Vec<String> {
     let mut names = vec!["inspect clean".to_string()];
-    names.extend(["admit", "build", "view", "count"].map(|call| format!("{call} accepted")));
+    names.extend(
+        ["admit", "build", "view", "count", "depth"].map(|call| format!("{call} accepted")),
+    );
     names.extend([ODD_SETTLED, NONE_SETTLED].map(str::to_string));
     for fault in ["wrong entry", "output twice", "flow count"] {
         names.push(format!("inspect {fault}"));
@@ -360,12 +364,15 @@ pub fn outcomes() -> Vec<String> {
         ("build", &[4, 5, 6, 24]),
         ("inspect", &[4]),
         ("count", &[4, 11, 12, 13]),
+        ("depth", &[5, 6, 12]),
     ] {
         names.extend(refusal_names(call, &of_list));
         names.extend(refusal_names(call, others));
     }
     names.extend(refusal_names("view", &[1, 2, 4, 11]));
-    names.extend(["flow", "input", "output"].map(|class| format!("count of {class}")));
+    for call in ["count", "depth"] {
+        names.extend(["flow", "input", "output"].map(|class| format!("{call} of {class}")));
+    }
     names.extend(["above 0", "0", "below 0"].map(|lead| format!("count with lead {lead}")));
     names
 }

@@ -16,7 +16,8 @@ fn main() -> ExitCode {
     let million = words.iter().any(|word| word == "--million");
     words.retain(|word| word != "--million");
     let calls = if million { 1_000_000 } else { CALLS };
-    let settings = read_settings(words.into_iter(), calls / HostileKind::ALL.len() as u64);
+    let kinds = HostileKind::ALL.len() as u64;
+    let settings = read_settings(words.into_iter(), calls.div_ceil(kinds));
     let (in_c, library) = (InC::default(), Library::default());
     let faces = [
         Face {
@@ -28,5 +29,7 @@ fn main() -> ExitCode {
             calls: &library,
         },
     ];
-    run_as_told(settings, USAGE, |settings| run_hostile(&faces, settings))
+    run_as_told(settings, USAGE, "call", |settings| {
+        run_hostile(&faces, settings)
+    })
 }

@@ -28,6 +28,7 @@ loads::kinds! {
         Inspect = "inspect",
         View = "view",
         Count = "count",
+        Depth = "depth",
     }
 }
 
@@ -40,6 +41,7 @@ impl HostileKind {
             HostileKind::Count => &[
                 "ports", "slots", "start", "length", "flow", "input", "output",
             ],
+            HostileKind::Depth => &["ports", "slots", "flow", "input", "output"],
         }
     }
 
@@ -51,7 +53,7 @@ impl HostileKind {
     /// The places for a slice.
     pub fn slices(self) -> &'static [&'static str] {
         match self {
-            HostileKind::Admit => &["list"],
+            HostileKind::Admit | HostileKind::Depth => &["list"],
             HostileKind::Build | HostileKind::Inspect | HostileKind::Count => &["list", "frame"],
             HostileKind::View => &["frame"],
         }
@@ -111,7 +113,7 @@ fn good_call(kind: HostileKind, random: &mut Random) -> Given {
     let call = load_of_shape(random.pick(loads), shape, random);
     let mut call = over_links(call, random);
     let frame = match kind {
-        HostileKind::Admit => Vec::new(),
+        HostileKind::Admit | HostileKind::Depth => Vec::new(),
         HostileKind::Build => random.entries(call.frame_length),
         _ => any_frame(shape, &mut call, random),
     };
@@ -155,6 +157,8 @@ impl Spoiler<'_> {
         if self.kind == HostileKind::Count {
             given.slot = self.number("start", given.slot);
             given.length = self.number("length", given.length);
+        }
+        if matches!(self.kind, HostileKind::Count | HostileKind::Depth) {
             given.class = self.class(given.class);
         }
     }

@@ -4,6 +4,7 @@ use calls::Calls;
 use loads::{LengthKind, LimitKind, Random, HOSTILE};
 
 use crate::build_case::{admit_and_compare, build_and_compare, lend};
+use crate::depth_case::depth_and_compare;
 use crate::hits::{outcomes, Hits};
 use crate::hostile_call::{hostile_call, name_of, Given, HostileKind};
 use crate::inspect_case::inspect_and_compare;
@@ -93,5 +94,6 @@ fn make_call(
             let run = (given.slot, given.length);
             count_and_compare(calls, call, &frame, given.class, run, random, hits)
         }
+        HostileKind::Depth => depth_and_compare(calls, call, given.class, random, hits),
     }
 }

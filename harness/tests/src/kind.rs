@@ -5,6 +5,7 @@ use loads::{Damage, LoadKind, Random, SheetKind, Uneven};
 
 use crate::build_case::{check_admit, check_build};
 use crate::chain_case::{check_chain, ChainKind};
+use crate::depth_case::check_depth;
 use crate::hits::Hits;
 use crate::inspect_case::{check_inspection, check_total, check_uneven};
 use crate::lead_case::check_leads;
@@ -20,6 +21,15 @@ const ADMITTED: [LoadKind; 5] = [
     LoadKind::MostFlows,
     LoadKind::SpreadLinks,
     LoadKind::ExactLimits,
+];
+
+/// Of the loads that fit, those that Depth is given: it looks at the load of one flow or one port, and at no limit.
+const BOUNDED: [LoadKind; 5] = [
+    LoadKind::NoFlows,
+    LoadKind::Full,
+    LoadKind::Scattered,
+    LoadKind::SingleFlow,
+    LoadKind::SpreadLinks,
 ];
 
 /// Loads that Build is given in chains, rows and leads only: `scattered` and `apart` show what they show.
@@ -40,17 +50,18 @@ pub enum Kind {
     Chain(ChainKind),
     Row,
     Lead,
+    Depth(LoadKind),
 }
 
 impl Kind {
     pub fn all() -> Vec<Kind> {
         let mut kinds = Vec::new();
         let loads = LoadKind::ALL.iter().copied();
-        let is_admitted =
-            |kind: &LoadKind| ADMITTED.contains(kind) || !LoadKind::FITTING.contains(kind);
+        let is_refused = |kind: &LoadKind| !LoadKind::FITTING.contains(kind);
+        let is_admitted = |kind: &LoadKind| ADMITTED.contains(kind) || is_refused(kind);
         kinds.extend(loads.clone().filter(is_admitted).map(Kind::Admit));
         let is_built = |kind: &LoadKind| !SHOWN_BY_OTHERS.contains(kind);
-        kinds.extend(loads.filter(is_built).map(Kind::Build));
+        kinds.extend(loads.clone().filter(is_built).map(Kind::Build));
         kinds.extend(Damage::ALL.iter().copied().map(Kind::Inspect));
         kinds.extend(Uneven::ALL.iter().copied().map(Kind::InspectUneven));
         kinds.push(Kind::InspectTotal);
@@ -59,6 +70,8 @@ impl Kind {
         kinds.extend(SheetKind::ALL.iter().copied().map(Kind::Sheet));
         kinds.extend(ChainKind::ALL.iter().copied().map(Kind::Chain));
         kinds.extend([Kind::Row, Kind::Lead]);
+        let is_bounded = |kind: &LoadKind| BOUNDED.contains(kind) || is_refused(kind);
+        kinds.extend(loads.filter(is_bounded).map(Kind::Depth));
         kinds
     }
 
@@ -75,6 +88,7 @@ impl Kind {
             Kind::Chain(kind) => ("chain", kind.name()),
             Kind::Row => ("row", "random"),
             Kind::Lead => ("lead", "built"),
+            Kind::Depth(kind) => ("depth", kind.name()),
         };
         format!("{call}/{given}")
     }
@@ -98,6 +112,7 @@ impl Kind {
             Kind::Chain(kind) => check_chain(candidate, kind, random, hits),
             Kind::Row => check_row(candidate, random, hits),
             Kind::Lead => check_leads(candidate, random, hits),
+            Kind::Depth(kind) => check_depth(candidate, kind, random, hits),
         }
     }
 }

@@ -6,6 +6,7 @@ pub mod broken;
 mod build_case;
 mod chain_case;
 pub mod command;
+mod depth_case;
 mod hits;
 mod hostile_call;
 mod hostile_case;

@@ -215,7 +215,7 @@ fn random_number(good: u64, random: &mut Random) -> u64 {
 }
 
 /// A class that names a port outside the switch or a flow that is not in the list, one that may still fit a byte or 16 bits.
-fn junk_class(call: &Call, random: &mut Random) -> Class {
+pub fn junk_class(call: &Call, random: &mut Random) -> Class {
     let far = random.pick(&[0, 17, 255, 256, u64::MAX, (1 << 32) + 1]);
     let outside = |last: u64, random: &mut Random| random.pick(&[last.wrapping_add(1), far]);
     match random.below(4) {
@@ -239,7 +239,7 @@ fn lead_name(lead: i64) -> &'static str {
     }
 }
 
-fn class_name(class: Class) -> &'static str {
+pub fn class_name(class: Class) -> &'static str {
     match class {
         Class::Flow { .. } => "flow",
         Class::Input { .. } => "input",

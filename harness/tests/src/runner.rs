@@ -46,7 +46,7 @@ impl Report {
         (self.failures.len() + self.never_hit.len()) as u64
     }
 
-    fn merge(&mut self, other: Report) {
+    pub fn merge(&mut self, other: Report) {
         self.passed += other.passed;
         self.failures.extend(other.failures);
         self.hits.merge(other.hits);

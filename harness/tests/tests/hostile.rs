@@ -45,6 +45,7 @@ fn numbers_cut_to_32_bits() {
     sent_back!(service_count: cut_run, "hostile/count", 4_000);
     sent_back!(service_count: cut_flow, "hostile/count", 12_000);
     sent_back!(service_count: cut_lead, "hostile/count", 4_000);
+    sent_back!(depth: sixteen_bit_port, "hostile/depth", 12_000);
 }
 
 #[test]
@@ -52,6 +53,15 @@ fn leads_out_of_the_air() {
     sent_back!(service_count: lead_turned_round, "hostile/count");
     sent_back!(service_count: load_of_the_run, "hostile/count");
     sent_back!(service_count: lead_of_short_runs, "hostile/count");
+}
+
+#[test]
+fn depths_out_of_the_air() {
+    sent_back!(depth: one_end_of_a_run, "hostile/depth");
+    sent_back!(depth: rounded_up, "hostile/depth");
+    sent_back!(depth: class_before_loads, "hostile/depth", 4_000);
+    sent_back!(depth: overloads_elsewhere, "hostile/depth");
+    sent_back!(depth: unknown_flow_without_cells, "hostile/depth");
 }
 
 #[test]

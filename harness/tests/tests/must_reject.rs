@@ -753,6 +753,111 @@ fn leads_of_broken_frames() {
     sent_back!(build: refuse_all, "lead/");
 }
 
+/// The bounds in parts and the cells to order of flows with 0 to 4 cells, each alone in four slots.
+fn depths(builder: &Broken) -> [(u64, u64); 5] {
+    [0, 1, 2, 3, 4].map(|cells| {
+        let answer = builder.depth(1, 4, &[1, 1, cells, 1], FIRST_FLOW);
+        let depth = answer.expect("the load fits");
+        (depth.parts, depth.cells)
+    })
+}
+
+#[test]
+fn depths_by_halves_are_not_sent_back() {
+    let builder = Broken {
+        depth: broken::right_depth,
+        ..Broken::default()
+    };
+    assert_eq!(failures(&builder, "depth/"), 0);
+    assert_eq!(depths(&builder), [(0, 0), (6, 2), (4, 2), (6, 3), (0, 1)]);
+}
+
+#[test]
+fn bounds_out_of_the_air() {
+    let builder = sent_back!(depth: one_end_of_a_run, "depth/");
+    assert_eq!(depths(&builder), [(0, 0), (3, 1), (2, 1), (3, 2), (0, 1)]);
+    let builder = sent_back!(depth: smaller_half_first, "depth/");
+    assert_eq!(depths(&builder), [(0, 0), (0, 1), (0, 1), (0, 1), (0, 1)]);
+    let builder = sent_back!(depth: both_halves_larger, "depth/");
+    assert_eq!(depths(&builder), [(0, 0), (24, 7), (16, 5), (8, 3), (0, 1)]);
+    let builder = sent_back!(depth: first_half_only, "depth/");
+    assert_eq!(depths(&builder), [(0, 0), (6, 2), (4, 2), (4, 2), (0, 1)]);
+    let builder = sent_back!(depth: middle_only, "depth/");
+    assert_eq!(depths(&builder), [(0, 0), (4, 2), (0, 1), (4, 2), (0, 1)]);
+    for builder in [
+        sent_back!(depth: whatever_the_load, "depth/"),
+        sent_back!(depth: bound_of_demand_3, "depth/"),
+    ] {
+        assert_eq!(depths(&builder), [(6, 2), (6, 2), (6, 2), (6, 3), (6, 3)]);
+    }
+}
+
+#[test]
+fn other_cells_to_order() {
+    let builder = sent_back!(depth: a_whole_cell_early, "depth/");
+    assert_eq!(depths(&builder), [(0, 1), (6, 2), (4, 2), (6, 3), (0, 2)]);
+    let builder = sent_back!(depth: never_early, "depth/");
+    assert_eq!(depths(&builder), [(0, 0), (6, 1), (4, 1), (6, 2), (0, 1)]);
+    let builder = sent_back!(depth: after_the_slot, "depth/");
+    assert_eq!(depths(&builder), [(0, 0), (6, 2), (4, 1), (6, 2), (0, 0)]);
+    let builder = sent_back!(depth: rounded_up, "depth/");
+    assert_eq!(depths(&builder), [(0, 1), (6, 3), (4, 3), (6, 3), (0, 2)]);
+}
+
+/// Flows of one cell and of two from input 1, to outputs 1 and 2.
+#[test]
+fn depths_of_other_classes() {
+    let list = [1, 1, 1, 1, 1, 2, 2, 1];
+    let parts = |builder: &Broken, class| {
+        let depth = builder.depth(2, 4, &list, class);
+        depth.map(|depth| depth.parts)
+    };
+    let output = Class::Output { port: 2 };
+    let right = Broken::default();
+    let rights = [FIRST_FLOW, Class::Flow { number: 2 }, output].map(|class| parts(&right, class));
+    assert_eq!(rights, [Ok(6), Ok(4), Ok(4)]);
+    let builder = sent_back!(depth: next_flow, "depth/");
+    assert_eq!(parts(&builder, FIRST_FLOW), Ok(4));
+    let builder = sent_back!(depth: input_of_the_flow, "depth/");
+    assert_eq!(parts(&builder, Class::Flow { number: 2 }), Ok(6));
+    let builder = sent_back!(depth: input_for_output, "depth/");
+    assert_eq!(parts(&builder, output), Ok(0));
+    let builder = sent_back!(depth: unknown_flow_without_cells, "depth/");
+    assert_eq!(parts(&builder, Class::Flow { number: 3 }), Ok(0));
+    assert_eq!(
+        parts(&right, Class::Flow { number: 3 }),
+        Err(Refusal::FlowOrPort)
+    );
+}
+
+/// Flow 1 has the four slots of input 1 and of output 1, and flow 2 five cells from input 2 to output 1.
+#[test]
+fn depths_of_overloads() {
+    let list = [1, 1, 4, 1, 2, 1, 5, 1];
+    let refusal = |builder: &Broken, number| {
+        let answer = builder.depth(2, 4, &list, Class::Flow { number });
+        answer.map_err(Refusal::numbers).err()
+    };
+    assert_eq!(refusal(&Broken::default(), 1), Some(vec![5, 2, 5]));
+    let builder = sent_back!(depth: overloads_elsewhere, "depth/");
+    assert_eq!(refusal(&builder, 1), None);
+    assert_eq!(refusal(&builder, 2), Some(vec![5, 2, 5]));
+    let builder = sent_back!(depth: outputs_before_inputs, "depth/");
+    assert_eq!(refusal(&builder, 1), Some(vec![6, 1, 9]));
+    let builder = sent_back!(depth: class_before_loads, "depth/");
+    assert_eq!(refusal(&builder, 1), Some(vec![5, 2, 5]));
+    assert_eq!(refusal(&builder, 3), Some(vec![12]));
+}
+
+/// Two cells on one link of four slots.
+#[test]
+fn depth_with_limits() {
+    let answer = |builder: &Broken| builder.depth(1, 4, &[1, 1, 2, 3], FIRST_FLOW);
+    assert!(answer(&Broken::default()).is_ok());
+    let builder = sent_back!(depth: limits_of_a_quarter, "depth/");
+    assert_eq!(answer(&builder).map(|_| ()), over(1, 3, 2));
+}
+
 #[test]
 fn sheets_without_an_answer() {
     sent_back!(respond: silent_refusal, "sheet/");

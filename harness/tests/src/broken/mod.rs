@@ -3,6 +3,7 @@
 mod admissions;
 mod builds;
 mod counts;
+mod depths;
 mod inspections;
 mod sheets;
 mod splits;
@@ -11,12 +12,13 @@ mod views;
 pub use admissions::*;
 pub use builds::*;
 pub use counts::*;
+pub use depths::*;
 pub use inspections::*;
 pub use sheets::*;
 pub use splits::*;
 pub use views::*;
 
-use calls::{Answer, Built, Calls, Class, Inspection, Limits, Service, SheetProgram};
+use calls::{Answer, Bounded, Built, Calls, Class, Inspection, Limits, Service, SheetProgram};
 
 /// What Admit and Build are asked for.
 #[derive(Clone, Copy)]
@@ -67,11 +69,28 @@ impl AskedCount<'_> {
     }
 }
 
+/// What Depth is asked for.
+#[derive(Clone, Copy)]
+pub struct AskedDepth<'a> {
+    pub ports: u64,
+    pub slots: u64,
+    pub list: &'a [u16],
+    pub class: Class,
+}
+
+impl AskedDepth<'_> {
+    /// What the reference answers.
+    fn depth(self) -> Bounded {
+        reference::depth(self.ports, self.slots, self.list, self.class)
+    }
+}
+
 type AdmitCall = fn(Asked) -> Answer;
 pub type BuildCall = fn(Asked, &mut [u16]) -> Built;
 type InspectCall = fn(u64, u64, &[u16], &[u16]) -> Inspection;
 type ViewCall = for<'f> fn(u64, u64, &'f [u16], u64, &mut u64) -> &'f [u16];
 type CountCall = fn(AskedCount) -> Service;
+type DepthCall = fn(AskedDepth) -> Bounded;
 
 /// A builder made up of calls from different hands.
 pub struct Broken {
@@ -80,6 +99,7 @@ pub struct Broken {
     pub inspect: InspectCall,
     pub slot_view: ViewCall,
     pub service_count: CountCall,
+    pub depth: DepthCall,
     pub respond: fn(&[u8]) -> Vec<u8>,
 }
 
@@ -92,6 +112,7 @@ impl Default for Broken {
             inspect: reference::inspect,
             slot_view: right_view,
             service_count: |asked| asked.count(),
+            depth: |asked| asked.depth(),
             respond: reference::respond,
         }
     }
@@ -156,6 +177,15 @@ impl Calls for Broken {
             class,
             start,
             length,
+        })
+    }
+
+    fn depth(&self, ports: u64, slots: u64, list: &[u16], class: Class) -> Bounded {
+        (self.depth)(AskedDepth {
+            ports,
+            slots,
+            list,
+            class,
         })
     }
 }

@@ -82,6 +82,17 @@ pub fn count(
     })
 }
 
+/// Depth; the values are the bound in parts and the cells to order.
+pub fn depth(ports: u64, slots: u64, list: &[u16], class: Class) -> Asked {
+    let list = list.to_vec();
+    Box::new(move |calls| {
+        let answer = calls.depth(ports, slots, &list, class);
+        answer.map_or_else(refused, |depth| {
+            accepted([depth.parts, depth.cells].map(|value| value as i64))
+        })
+    })
+}
+
 pub fn flow(number: u64) -> Class {
     Class::Flow { number }
 }

@@ -16,9 +16,11 @@ mod admits;
 mod asked;
 mod builds;
 mod counts;
+mod depths;
 mod links;
 mod lists;
 mod refused_counts;
+mod refused_depths;
 mod views;
 mod wire;
 
