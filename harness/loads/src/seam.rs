@@ -67,8 +67,8 @@ impl Seam {
     }
 
     /// Other cells for the flow, one or more, that leave a slot or more to its partner. At such a seam the first cell of a queue
-    /// waits as long as any does; it comes nearest to what the sharp bound allows where the cells are a power of two less 1, and to
-    /// all of it with half of the slots less 1, for k from 2 to 4.
+    /// waits as long as any does; it waits as long as its load allows where the cells are the difference of two powers of two, such as
+    /// half of the slots less 1.
     pub fn other_cells(self, random: &mut Random) -> u16 {
         let cells = match random.below(4) {
             0 | 1 => (self.slots / 2).max(2) - 1,

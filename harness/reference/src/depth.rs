@@ -1,6 +1,7 @@
 //! Depth.
 
 use crate::admission::{check_list, check_port_loads};
+use crate::order::{at_once, to_order};
 use crate::query::Class;
 use crate::refusal::{require, Refusal};
 use crate::stray::stray;
@@ -20,7 +21,8 @@ pub fn depth(ports: u64, slots: u64, list: &[u16], class: Class) -> Result<Depth
     check_port_loads(ports, slots, &flows)?;
     require(class.is_within(ports, &flows), Refusal::FlowOrPort)?;
     let load = class.load_in(&flows);
-    let parts = 2 * stray(slots.trailing_zeros(), load);
-    let cells = (slots - 1 + parts + load) / slots;
+    let k = slots.trailing_zeros();
+    let parts = 2 * stray(k, load);
+    let cells = to_order(k, load, at_once(k, 1));
     Ok(Depth { parts, cells })
 }

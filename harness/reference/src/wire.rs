@@ -1,6 +1,6 @@
 //! The accuracy rule: what the wire carried, counted entry by entry against the share.
 
-use crate::flow::{cells_of, flows_of, numbered, sent_in, Flow};
+use crate::flow::{cells_of, flows_of, sent_in, Flow};
 use crate::query::Class;
 use crate::stray::stray;
 
@@ -31,11 +31,7 @@ impl Whose {
     /// Their load; that of a flow that is not in the list is 0.
     fn load_in(self, flows: &[Flow]) -> u64 {
         match self {
-            Whose::Class(Class::Flow { number }) => {
-                numbered(flows, number).map_or(0, |flow| flow.cells)
-            }
-            Whose::Class(Class::Input { port }) => cells_of(flows, |flow| flow.input == port),
-            Whose::Class(Class::Output { port }) => cells_of(flows, |flow| flow.output == port),
+            Whose::Class(class) => class.load_in(flows),
             Whose::Link { output, link } => cells_of(flows, |flow| flow.is_on(output, link)),
             Whose::Total => cells_of(flows, |_| true),
         }
@@ -187,8 +183,7 @@ impl Course {
 
     /// The run on which the cells stray furthest from their share.
     pub fn furthest_run(&self) -> Run {
-        let found = [1, -1].map(|sign| self.greatest(sign, anywhere, anywhere));
-        further(found)
+        further([1, -1].map(|sign| self.greatest(sign, anywhere, anywhere)))
     }
 
     /// The run on which the cells get furthest ahead of their share.
@@ -307,8 +302,8 @@ pub fn deviation(k: u32) -> i128 {
     }
 }
 
-/// How far a run of one frame of 2^k slots that repeats can be from its share, whatever the load: from four slots on twice as far as
-/// two frames of half the slots.
+/// How far a run of one frame of 2^k slots that repeats can be from its share, in parts of 1/2^k of a cell, whatever the load: from four
+/// slots on by as many cells as a run across two different frames of half the slots.
 pub fn repeat_deviation(k: u32) -> i128 {
     match k {
         0 => 0,

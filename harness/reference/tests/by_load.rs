@@ -1,5 +1,7 @@
 //! The bound of each load on chains, held to its definition; frames that keep to what is allowed whatever the load and break it.
 
+mod balanced;
+
 use loads::Random;
 use reference::queue::{pass, pass_card, Source};
 use reference::stray::stray;
@@ -24,21 +26,6 @@ fn every_run(course: &Course) -> impl Iterator<Item = Run> {
         let lengths = 0..=slots - start;
         lengths.map(move |length| Run { start, length })
     })
-}
-
-/// The frames of 2^k slots with up to one cell in each whose blocks all have halves that differ by at most a cell.
-fn balanced(k: u32) -> Vec<Vec<u64>> {
-    if k == 0 {
-        return vec![vec![0], vec![1]];
-    }
-    let halves = balanced(k - 1);
-    let sum = |half: &[u64]| half.iter().sum::<u64>();
-    let couples = halves
-        .iter()
-        .flat_map(|one| halves.iter().map(move |other| (one, other)));
-    let near = couples.filter(|(one, other)| sum(one).abs_diff(sum(other)) < 2);
-    near.map(|(one, other)| [&one[..], other].concat())
-        .collect()
 }
 
 /// A run is within the strays of the loads of the frames that its ends are in, and an end between two frames is off in neither.
@@ -79,7 +66,8 @@ fn the_bound_of_a_run_by_its_definition() {
 #[test]
 fn every_chain_of_two_short_frames() {
     for k in 0..=3 {
-        let frames = balanced(k);
+        let frames = (0..=1 << k).flat_map(|m| balanced::frames(k, m));
+        let frames: Vec<_> = frames.collect();
         let mut reached = [[[false; 2]; 9]; 9];
         for (one, other) in frames
             .iter()

@@ -1,6 +1,7 @@
 //! The sharp bound of demand 3, held to its definition.
 
 mod ample;
+mod balanced;
 
 use reference::wire::{demanded, deviation, Course, Frame, Slot};
 use reference::Class;
@@ -20,14 +21,6 @@ fn no_more_than_demand_3_allows() {
     }
 }
 
-/// Whether the halves of every block differ by at most a cell.
-fn is_balanced(cells: &[u64]) -> bool {
-    let (first, second) = cells.split_at(cells.len() / 2);
-    let sum = |half: &[u64]| half.iter().sum::<u64>();
-    first.is_empty()
-        || sum(first).abs_diff(sum(second)) <= 1 && is_balanced(first) && is_balanced(second)
-}
-
 /// How far the course strays from its beginning on.
 fn furthest(course: &Course) -> i128 {
     course.lead(course.furthest_from_a_frame()).abs()
@@ -37,11 +30,8 @@ fn furthest(course: &Course) -> i128 {
 fn the_furthest_of_all_balanced_frames() {
     for k in 0..=4 {
         let slots = 1 << k;
-        let every = (0..1_u64 << slots).map(|bits| -> Vec<u64> {
-            let slots = 0..slots;
-            slots.map(|slot| bits >> slot & 1).collect()
-        });
-        let furthest = every.filter(|cells| is_balanced(cells)).map(|cells| {
+        let every = (0..=slots).flat_map(|m| balanced::frames(k, m));
+        let furthest = every.map(|cells| {
             let load = cells.iter().sum();
             let given = cells.into_iter().map(|cells| Slot { load, cells });
             let given = given.collect();

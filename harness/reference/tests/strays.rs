@@ -1,22 +1,9 @@
 //! The strays of loads, held to their definition.
 
+mod balanced;
+
 use reference::stray::{earliest, stray};
 use reference::wire::deviation;
-
-/// Every balanced frame of 2^k slots with m cells, as the cells of each slot.
-fn balanced(k: u32, m: u64) -> Vec<Vec<u64>> {
-    if k == 0 {
-        return vec![vec![m]];
-    }
-    let mut frames = Vec::new();
-    for first in m / 2..=m.div_ceil(2) {
-        for front in balanced(k - 1, first) {
-            let backs = balanced(k - 1, m - first).into_iter();
-            frames.extend(backs.map(|back| [front.clone(), back].concat()));
-        }
-    }
-    frames
-}
 
 /// The cells of the first slots, for each number of them from 0 on.
 fn running(frame: &[u64]) -> Vec<u64> {
@@ -33,7 +20,10 @@ fn small() -> impl Iterator<Item = (u32, u64)> {
 #[test]
 fn the_earliest_of_all_balanced_frames() {
     for (k, m) in small() {
-        let frames: Vec<_> = balanced(k, m).iter().map(|frame| running(frame)).collect();
+        let frames: Vec<_> = balanced::frames(k, m)
+            .iter()
+            .map(|frame| running(frame))
+            .collect();
         for slots in 0..=1_usize << k {
             let [t, others] = [slots as u64, (1 << k) - slots as u64];
             let cells = || frames.iter().map(|cells| cells[slots]);
@@ -49,7 +39,7 @@ fn the_furthest_of_all_balanced_frames_by_load() {
     for (k, m) in small() {
         let lead = |slots, cells| (cells << k) as i64 - slots * m as i64;
         let mut leads = Vec::new();
-        for frame in balanced(k, m) {
+        for frame in balanced::frames(k, m) {
             let cells = (0..).zip(running(&frame));
             leads.extend(cells.map(|(slots, cells)| lead(slots, cells)));
         }

@@ -75,8 +75,9 @@ fn any_load_that_fits() {
     }
 }
 
-/// Since the extra cell always goes to the first half, the total is never behind after the first slots of a frame; from there
-/// on it strays no further than half the sharp bound, in frames that follow each other too, and so far it does stray.
+/// Since the extra cell always goes to the first half, the total is never behind after the first slots of a frame: a run is ahead by
+/// the stray of the frame that it ends in at most, and behind by that of the frame that it begins in, so that none strays further than
+/// half the sharp bound; and so far some do.
 #[test]
 fn the_total_strays_half_as_far_as_a_flow_can() {
     for k in 0..=6 {
@@ -99,6 +100,8 @@ fn the_total_strays_half_as_far_as_a_flow_can() {
             .flat_map(|one| loads.clone().map(move |other| [one, other]));
         let furthest = couples.map(|couple| {
             let course = Course::of(&couple.map(frame), Whose::Total);
+            let nearest = course.nearest_of_total();
+            assert!(course.total_has_its_share(nearest), "{couple:?}");
             course.lead(course.furthest_run()).abs()
         });
         assert_eq!(furthest.max(), Some(deviation(k)), "k = {k}");

@@ -56,9 +56,9 @@ pub const BOUND_COMPARED: &str = "bound of the load compared";
 pub const BOUND_REACHED: &str = "bound of the load reached";
 /// A run strayed from its share by the whole of the sharp bound, which no load exceeds.
 pub const RUN_REACHED: &str = "sharp bound reached";
-/// As many cells waited after a slot as the loads allow.
+/// As many cells waited after a slot as the loads allow, some of which stray.
 pub const QUEUE_REACHED_AFTER: &str = "queue bound reached after a slot";
-/// As many cells waited before a slot's cell left as the loads allow.
+/// The same before a slot's cell left.
 pub const QUEUE_REACHED_BEFORE: &str = "queue bound reached before a cell leaves";
 
 /// A run of one repeating frame had a lead of p(k) cells or more, ahead or behind.

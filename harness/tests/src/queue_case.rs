@@ -24,10 +24,11 @@ pub fn check_queue(course: &Course, whose: Whose, random: &mut Random, hits: &mu
     let depth = passed.depth(source.ahead);
     let above = i128::from(course.slots * passed.waiting) - i128::from(source.ahead);
     hits.deepen(course.k(), 1, above);
-    if depth.after == 0 {
+    let strays = course.largest_stray() > 0;
+    if strays && depth.after == 0 {
         hits.add_at(QUEUE_REACHED_AFTER, course.k());
     }
-    if depth.before == 0 {
+    if strays && depth.before == 0 {
         hits.add_at(QUEUE_REACHED_BEFORE, course.k());
     }
     expect(depth.after <= 0 && depth.before <= 0, || {
