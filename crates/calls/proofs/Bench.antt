@@ -3,6 +3,7 @@
 use Prim.Native.Nat.{ℕ, suc, _*_}
 use mathlib.Core.Path.{_≡_, refl}
 use mathlib.Core.List.{List, [], _∷_, _++_, map}
+use mathlib.Core.Bool.{true, false}
 use lib.IntN.{ℤ, pos, negsuc}
 use lib.ListN.{replicate}
 use Rattle.rules.specs.Words.{sumTo}
@@ -13,7 +14,7 @@ use Rattle.rules.specs.Schedule.{walk, settleAt, favours, slotOf, frameOf}
 use Rattle.calls.specs.Work.{work}
 use Rattle.calls.specs.Build.{buildChecks, built, frameAfter}
 use Rattle.calls.specs.Inspect.{isWrong, twiceIn, usedTwice, wrongCount, unbalanced, unbalancedNumber, unbalancedAt, inspected}
-use Rattle.calls.specs.Service.{viewChecks, viewNumber, viewStart, viewSize, viewed, lead, Reply, countChecks, service}
+use Rattle.calls.specs.Service.{viewChecks, viewNumber, viewStart, viewSize, viewed, lead, Reply, bad-length, countChecks, service}
 use Rattle.strays.specs.Stray.{earliest, largest, stray}
 use Rattle.calls.specs.Depth.{depthChecks, depth}
 use Rattle.calls.specs.declared.Who.{Who}
@@ -216,6 +217,10 @@ others =
 pub others-answered : map (λ c. c .gives) others ≡ map (λ c. c .says) others
 unfolding others views frame turnedAwayBy turnedAway counting counts countsAny inspects inspected isWrong twiceIn usedTwice wrongCount unbalanced unbalancedNumber unbalancedAt sumTo portOf countsOf loadIn cells runOf work admitted buildChecks countChecks service repeated lead viewChecks walk settleAt favours slotOf frameOf
 others-answered = refl
+
+-- the longest run has 1,000,000 slots
+longest-run : map (λ len. bad-length len .0) (1000000 ∷ 1000001 ∷ []) ≡ false ∷ true ∷ []
+longest-run = refl
 
 -- ---- Depth
 -- Flows of 3 cells, 1 and 1: input 1 to output 1, input 2 to output 2 and to output 1, in four slots.

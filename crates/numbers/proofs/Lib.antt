@@ -1,3 +1,2 @@
 -- Laws of the numbers of an answer.
 pub mod Told
-pub mod Valued

@@ -1,6 +1,6 @@
 -- Writing piece by piece.
 use Prim.Native.Nat.{ℕ, suc, _+_, _-_, _*_, _/_, _%_, _≤_, _<_}
-use mathlib.Core.Path.{_≡_, refl, sym, ap, subst, _∙_}
+use mathlib.Core.Path.{_≡_, refl, sym, ap, _∙_}
 use mathlib.Core.List.{List, [], _∷_, _++_, append-assoc, append-nil}
 use mathlib.Core.Bool.{Bool, true, false}
 use native.Mathlib.Omega.{arith}
@@ -11,7 +11,7 @@ use lib.ListN.{length, getD, set, take, drop, length-append, length-take, length
 use lib.Seq.{sets, length-sets, set-out, drop-cons, drop-drop}
 use mir.Syntax.{w64}
 use mir.Val.{Fits}
-use borrow.Author.Tests.{eq-eqb, ne-eqb, eqb-true, le-leb, lt-leb, leb-true, lt-ltb, le-ltb}
+use borrow.Author.Tests.{eq-eqb, ne-eqb, eqb-true, le-leb, lt-leb, leb-true}
 use Rattle.rules.specs.Words.{if, both}
 use Rattle.sheets.specs.Text.{text, decimal}
 use Rattle.sheets.specs.Sheet.{printCells, printSlots, printFrame, printRefusal}
@@ -19,8 +19,6 @@ use Rattle.calls.specs.Refusals.{refusal}
 use Rattle.calls.specs.declared.Refusal.{Refusal}
 use Rattle.rules.proofs.Cases.{both-true}
 use Rattle.sheets.proofs.Text.{decimal-one, decimal-go, decimal-most}
-use Rattle.numbers.specs.Numbers.{Values3}
-use Rattle.numbers.proofs.Valued.{valued-is}
 use Rattle.printing.specs.Printing.{Printed, PrintedIn, Prints, Sized, ofSize, frameBytes, wordThen, cellOf, slotLine}
 
 -- ---- one piece behind another
@@ -161,28 +159,10 @@ link-printed out number o x cells mid at′ mid2 at2 mid3 at3 mid4 at4 new next 
     (piece (text " (output ") o (text ") (link " ++ (decimal x ++ (text ") (cells " ++ (decimal cells ++ text "))\n"))))
     (prints-as out 0 all mid at′ long short e (piece (text "(refused ") number long (prints-all out 0 all) a)) b) c) d) u)
 
--- the list of a refusal, by its number
-module _ (out : List ℕ) (r : Refusal) (n first second third : ℕ) (new : List ℕ) (next : ℕ) (t : Values3 (refusal r) n first second third) where
-  abbrev Is : List ℕ → Type 0
-  Is l = Printed out 0 (printRefusal l) new next
-
-  pub low-plain : n < 5 → Is (n ∷ []) → Is (refusal r)
-  low-plain a x = subst Is (valued-is r t) (rw (lt-ltb n 5 a) x)
-
-  module _ (a : 5 ≤ n) where
-    pub with-load : n < 7 → Is (n ∷ first ∷ second ∷ []) → Is (refusal r)
-    with-load b x = subst Is (valued-is r t) (rw (le-ltb n 5 a, lt-ltb n 7 b) x)
-
-    module _ (b : 7 ≤ n) where
-      pub with-line : n < 9 → Is (n ∷ first ∷ []) → Is (refusal r)
-      with-line c x = subst Is (valued-is r t) (rw (le-ltb n 5 a, le-ltb n 7 b, lt-ltb n 9 c) x)
-
-      module _ (c : 9 ≤ n) where
-        pub high-plain : n < 24 → Is (n ∷ []) → Is (refusal r)
-        high-plain d x = subst Is (valued-is r t) (rw (le-ltb n 5 a, le-ltb n 7 b, le-ltb n 9 c, lt-ltb n 24 d) x)
-
-        pub with-three : 24 ≤ n → Is (n ∷ first ∷ second ∷ third ∷ []) → Is (refusal r)
-        with-three d x = subst Is (valued-is r t) (rw (le-ltb n 5 a, le-ltb n 7 b, le-ltb n 9 c, le-ltb n 24 d) x)
+-- the line of a refusal is that of its case
+pub case-printed : {r own : Refusal} {out new : List ℕ} {next : ℕ} → r ≡ own → Printed out 0 (printRefusal (refusal own)) new next
+    → Printed out 0 (printRefusal (refusal r)) new next
+case-printed e x = rw e x
 
 -- ---- a slot
 pub cell-none : (out : List ℕ) (at e : ℕ) → e ≡ 0 → PrintedIn 21 out at (cellOf e) out at

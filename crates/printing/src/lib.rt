@@ -106,20 +106,28 @@ fn put_link(out: &mut [u8], number: usize, output: usize, link: usize, cells: us
 pub fn put_refusal(out: &mut [u8], r: Refusal) -> usize
     ensures { λ n. ⌜ Printed (now (out .entry)) 0 (printRefusal (refusal r)) (now (out .exit)) n ⌝ }
 {
-    let n = numbers::of_refusal(r);
-    if n.number < 5 {
-        return put_plain(out, n.number);
+    match r {
+        Refusal::Ports => put_plain(out, 1),
+        Refusal::Slots => put_plain(out, 2),
+        Refusal::ListLength => put_plain(out, 3),
+        Refusal::FrameLength => put_plain(out, 4),
+        Refusal::InputLoad { port, cells } => put_load(out, 5, port, cells),
+        Refusal::OutputLoad { port, cells } => put_load(out, 6, port, cells),
+        Refusal::LineForm { line } => put_line(out, 7, line),
+        Refusal::LinePort { line } => put_line(out, 8, line),
+        Refusal::SheetLength => put_plain(out, 10),
+        Refusal::SlotNumber => put_plain(out, 11),
+        Refusal::FlowOrPort => put_plain(out, 12),
+        Refusal::RunLength => put_plain(out, 13),
+        Refusal::TooManyFlows => put_plain(out, 21),
+        Refusal::FlowPort => put_plain(out, 22),
+        Refusal::FlowLink => put_plain(out, 23),
+        Refusal::LinkLoad {
+            output,
+            link,
+            cells,
+        } => put_link(out, 24, output, link, cells),
     }
-    if n.number < 7 {
-        return put_load(out, n.number, n.first, n.second);
-    }
-    if n.number < 9 {
-        return put_line(out, n.number, n.first);
-    }
-    if n.number < 24 {
-        return put_plain(out, n.number);
-    }
-    put_link(out, n.number, n.first, n.second, n.third)
 }
 
 // Writes the flow that an input sends a cell of in a slot: nothing where it is idle.

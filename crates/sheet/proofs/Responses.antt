@@ -196,7 +196,8 @@ module _ (s frame : List ℕ) (r : Reading) (x : Answered (readSheet s) frame r)
   whole h =
       let c = counted in
       let l = response-most s in
-      record { size = c; most = omega arith; is = response-in one new n (omega arith) y ∙ ap (λ k. response s ++ drop k one) (sym c) }
+      let stands = response-in one new n (omega arith) y ∙ ap (λ k. response s ++ drop k one) (sym c) in
+      record { size = c; most = omega arith; is = search stands }
 
 -- the whole response lies in its buffer
 pub whole-inside : {bytes out new : List ℕ} {r : ℕ} → Whole bytes out new r → r ≤ length new

@@ -4,10 +4,11 @@ use Prim.Native.Nat.{ℕ}
 use Prim.Native.String.{String}
 use mathlib.Core.Path.{_≡_, refl}
 use mathlib.Core.List.{List, [], _∷_, _++_, map}
+use lib.ListN.{replicate}
 use Rattle.rules.specs.Words.{sumTo}
 use Rattle.rules.specs.Flows.{portOf, countsOf, loadIn}
 use Rattle.sheets.specs.Text.{text, digits, lines, numbersFrom}
-use Rattle.sheets.specs.Sheet.{portsLine, slotsLine, pairLine, readPairs, loads, readSheet, printSlots, printRefusal, response}
+use Rattle.sheets.specs.Sheet.{portsLine, slotsLine, pairLine, Asked, refused, readPairs, loads, readSheet, printSlots, printRefusal, response}
 use Rattle.rules.specs.Schedule.{walk, settleAt, favours, slotOf, frameOf}
 use Rattle.calls.proofs.Bench.{Case, table7, table7-framed}
 use Rattle.calls.proofs.Bench as called
@@ -62,6 +63,15 @@ others =
     -- three values, which are refusal 24's: no sheet is refused with it
     ∷ record { gives = printRefusal (24 ∷ 2 ∷ 3 ∷ 15 ∷ []); says = text "(refused 24 (output 2) (link 3) (cells 15))\n" }
     ∷ []
+
+-- A pair line behind 512 others, each of which was a flow.
+line515 : List ℕ → Asked
+line515 line = readPairs 2 1 515 (replicate 2048 1) (line ∷ [])
+
+-- it is refused with 7 where its form is broken, and else with 21
+line515-refused : (line515 [] ≡ refused (7 ∷ 515 ∷ [])) × (line515 (text "(pair (in 1) (out 1) (cells 0))\n") ≡ refused (21 ∷ []))
+unfolding line515 readPairs pairLine digits numbersFrom
+line515-refused = (refl, refl)
 
 pub others-answered : map (λ c. c .gives) others ≡ map (λ c. c .says) others
 unfolding others answers digits portsLine slotsLine pairLine lines numbersFrom readPairs readSheet printSlots response sumTo portOf countsOf loadIn walk settleAt favours slotOf frameOf

@@ -2,7 +2,7 @@
 use Prim.Native.Nat.{ℕ, suc, zero, _+_, _-_, _*_, _^_, _≤_, _<_}
 use mathlib.Core.Path.{_≡_, refl, ap}
 use mathlib.Core.List.{List, [], _∷_, _++_}
-use mathlib.Core.Bool.{true, not}
+use mathlib.Core.Bool.{true, false, not}
 use native.Mathlib.Omega.{arith}
 use lib.Dec.{eqb, ltb, leb}
 use lib.ListN.{length, getD, set, take, drop, replicate, length-append, length-take}
@@ -295,6 +295,10 @@ printed-most (loads ports slots list) x =
     frame-most ports slots (frameOf ports (portOf list) (levels slots) (countsOf list)) (x .rack) (x .power)
     (frame-low ports (portOf list) (levels slots) 512 (countsOf list) (omega (arith, counts-length list, x .few)))
 
+-- a sheet that is not refused with 10 has at most 32,768 bytes
+sheet-most : (bytes : List ℕ) → bad-sheet bytes .0 ≡ false → length bytes ≤ 32768
+sheet-most bytes e = omega (arith, ltb-false _ (length bytes) e)
+
 -- No response is longer than 76,749 bytes, whatever the sheet.
 pub response-most : (bytes : List ℕ) → length (response bytes) ≤ 76749
 unfolding response readSheet
@@ -302,6 +306,6 @@ response-most bytes =
     printed-most (readSheet bytes)
     (unless-asks (bad-sheet bytes ∷ []) (overloaded (readPorts (lines bytes))) ((omega arith, tt), tt)
     (λ e.
-    let a = both-true (not (ltb 32768 (length bytes))) true e in
+    let a = both-true (not (bad-sheet bytes .0)) true e in
     overloaded-asks (readPorts (lines bytes)) (ports-read (lines bytes)
-    (let b = ltb-false 32768 (length bytes) (not-true _ (a .0)) in omega (arith, lines-most bytes)))))
+    (omega (arith, sheet-most bytes (not-true _ (a .0)), lines-most bytes)))))

@@ -24,5 +24,8 @@ put-link-spec =
     let link = cells .before .before .before .before .before in
     let output = link .before .before .before .before .before in
     let number = output .before .before .before .before .before in
-    link-printed _ _ _ _ _ _ _ _ _ _ _ _ _ _ _ (number .put-both .ensures) (output .put-both2 .ensures) (link .put-both3 .ensures) (cells .put-both4 .ensures)
-    (word .put-word .ensures)))
+    search (
+      needs,
+      link-printed _ _ _ _ _ _ _ _ _ _ _ _ _ _ _ (number .put-both .ensures) (output .put-both2 .ensures) (link .put-both3 .ensures) (cells .put-both4 .ensures)
+          (word .put-word .ensures),
+    )))

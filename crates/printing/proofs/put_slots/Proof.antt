@@ -27,6 +27,6 @@ put-slots-spec =
     (λ c κs. (search (needs, slot-place), search (needs, slot-size)))
     (λ c. search needs)
     (λ c. search needs)
-    (λ c. slots-next _ _ _ _ _ _ _ _ _ _ (c .before .before .before .before .before .before .loop .inv) (c .before .before .before .before .before .loop-test .taken) (c .before .before .put-slot .ensures))
+    (λ c. search (needs, slots-next))
     (λ c. prints-size _ _ _ _ _ _ (c .before .loop .inv .prints))
     (λ c. search (needs, slots-done)))

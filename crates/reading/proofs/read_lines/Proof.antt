@@ -1,8 +1,18 @@
-use mathlib.Core.Path.{refl}
 use Rattle.reading.proofs.Lines.{ports-known, ports-passed, slots-known, slots-passed, pairs-passed, pairs-read}
 use borrow.Author.Needs.{needs}
 use Rattle.reading.proofs.read_lines.Statement.{statement}
 use Rattle.reading.proofs.read_lines.Tie as tie
+
+returns-3 : tie.Need-returns-3
+returns-3 c =
+    let two = c .before .before .before in
+    let one = two .before .before .before .before in
+    let lent = one .before .before .before .before .before .args .list .now in
+    search (
+      needs,
+      pairs-passed _ lent _ _ _ _ _ _ (one .before .before .before .ports-line .ensures) (one .before .first .given .1)
+          (two .before .before .before .slots-line .ensures) (two .before .second .given .1) _ (c .before .read-pairs .result) (c .before .read-pairs .ensures) (c .match3 .keys2),
+    )
 
 pub read-lines-spec : {M : Type 1} → statement M
 read-lines-spec =
@@ -25,13 +35,9 @@ read-lines-spec =
     let second =
     slots-known (one .before .first .given .0 .0) (start .args .sheet .now) (one .before .first .given .0 .1 .0) _ _ _
     (two .before .before .before .slots-line .ensures) (two .before .second .given .1) in
-    (second .inside, record { least = first .least; most = first .most; power = second .power; empty = refl }))
+    (second .inside, record { least = first .least; most = first .most; power = second .power; empty = search needs }))
     (λ c. search needs)
-    (λ c.
-    let two = c .before .before .before in
-    let one = two .before .before .before .before in
-    pairs-passed _ _ _ _ _ _ _ _ (one .before .before .before .ports-line .ensures) (one .before .first .given .1)
-    (two .before .before .before .slots-line .ensures) (two .before .second .given .1) _ (c .before .read-pairs .result) (c .before .read-pairs .ensures) (c .match3 .keys2))
+    returns-3
     (λ c.
     let pairs = c .before .before .before in
     let two = pairs .before .before in

@@ -24,12 +24,10 @@ pair : (c : tie.After-known-told Inv-loop μ-loop)
 pair c = pair-known _ _ _ _ _ _ _ _ _ (c .before .before .before .pair-line .ensures) (c .before .read .given .1)
 
 returns : tie.Need-returns Inv-loop μ-loop
-returns c = pair-passed _ _ _ _ _ _ _ (c .before .pair-line .result) (c .before .before .before .loop .inv) (c .before .pair-line .ensures) (c .match .keys2)
+returns c = search (needs, pair-passed)
 
 loop-again : tie.Need-loop-again Inv-loop μ-loop
-loop-again c =
-    let read = c .before .before in
-    reached-on _ _ _ _ _ _ _ _ _ _ _ (read .before .before .before .before .before .loop .inv) (pair read) _ (c .put-flow .ensures)
+loop-again c = let read = pair (c .before .before) in search (needs, read, reached-on)
 
 pub read-pairs-spec : {M : Type 1} → statement M
 read-pairs-spec =

@@ -10,7 +10,7 @@ pub read-sheet-spec : {M : Type 1} → statement M
 read-sheet-spec =
     tie.close
     (tie.spec
-    (λ c. sheet-long _ _ (c .if1 .taken))
+    (λ c. search (needs, sheet-long))
     (λ c κs. search needs)
     (λ c. search needs)
     (λ c. sheet-passed _ (c .before .read-lines .last .1 .0) _ (c .before .read-lines .result) (c .before .before .before .if1 .left) (c .before .read-lines .ensures .0) (c .match .keys2))

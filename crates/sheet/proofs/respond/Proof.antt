@@ -1,6 +1,5 @@
 use Rattle.sheet.proofs.Responses.{whole}
 use borrow.Author.Needs.{needs}
-use native.Mathlib.Omega.{arith}
 use Rattle.sheet.proofs.respond.Statement.{statement}
 use Rattle.sheet.proofs.respond.Tie as tie
 
@@ -12,4 +11,4 @@ respond-spec =
     (λ c κs. search needs)
     (λ c. search needs)
     (λ c κs. search needs)
-    (λ c. whole _ _ _ (c .before .before .before .before .read-sheet .ensures) _ _ _ (c .put-answer .ensures) (omega (arith, c .before .before .put-answer-arg .given .0 .1))))
+    (λ c. whole _ _ _ (c .before .before .before .before .read-sheet .ensures) _ _ _ (c .put-answer .ensures) (search needs)))
