@@ -1,7 +1,7 @@
 //! Depths of something else.
 
 use calls::{Bounded, Class, Depth, Refusal};
-use loads::{flows_of, Flow, LINKS};
+use loads::{flows_of, Flow, FLOW_NUMBERS, LINKS};
 use reference::wire::{demanded, deviation};
 
 use crate::broken::AskedDepth;
@@ -37,6 +37,17 @@ impl Spread {
         (self.slots - 1 + parts + self.load) / self.slots
     }
 
+    /// This bound, and the cells to order by it.
+    fn depth(self, parts: u64) -> Depth {
+        let cells = self.ordered(parts);
+        Depth { parts, cells }
+    }
+
+    /// The bound by the rule.
+    fn bound(self) -> u64 {
+        2 * furthest(self.ahead(larger_first))
+    }
+
     /// The cells of each slot, those of a block being halved in this way.
     fn cells(self, halve: Halve) -> Vec<u64> {
         if self.slots == 1 {
@@ -69,13 +80,11 @@ fn larger_first(load: u64) -> [u64; 2] {
     [load.div_ceil(2), load / 2]
 }
 
-/// The right answers with another bound, and the cells to order by it.
+/// The right refusals, and depths by another bound.
 fn with_bound(asked: AskedDepth, bound: impl Fn(Spread) -> u64) -> Bounded {
     asked.depth()?;
     let spread = Spread::asked(asked);
-    let parts = bound(spread);
-    let cells = spread.ordered(parts);
-    Ok(Depth { parts, cells })
+    Ok(spread.depth(bound(spread)))
 }
 
 /// The right bound with other cells to order.
@@ -91,7 +100,7 @@ fn furthest(ahead: Vec<u64>) -> u64 {
 
 /// The rule as it is, by halves of halves.
 pub fn right_depth(asked: AskedDepth) -> Bounded {
-    with_bound(asked, |spread| 2 * furthest(spread.ahead(larger_first)))
+    with_bound(asked, Spread::bound)
 }
 
 /// Leaves out one of the two ends of a run.
@@ -198,14 +207,22 @@ pub fn input_of_the_flow(asked: AskedDepth) -> Bounded {
     })
 }
 
+/// The list with other numbers for each flow.
+fn relisted(list: &[u16], flow: fn([u16; FLOW_NUMBERS]) -> [u16; FLOW_NUMBERS]) -> Vec<u16> {
+    let (flows, _) = list.as_chunks();
+    flows.iter().flat_map(|&numbers| flow(numbers)).collect()
+}
+
 /// Whether the asked class is in the list or at the switch.
 fn is_known(asked: AskedDepth) -> bool {
-    let idle = asked
-        .list
-        .chunks_exact(4)
-        .flat_map(|flow| [flow[0], flow[1], 0, flow[3]]);
-    let list: &[u16] = &idle.collect::<Vec<_>>();
-    AskedDepth { list, ..asked }.depth() != Err(Refusal::FlowOrPort)
+    let idle = relisted(asked.list, |[input, output, _, link]| {
+        [input, output, 0, link]
+    });
+    let idle = AskedDepth {
+        list: &idle,
+        ..asked
+    };
+    idle.depth() != Err(Refusal::FlowOrPort)
 }
 
 /// Looks at the class before it looks at the loads: 12 before 5 and 6.
@@ -220,35 +237,33 @@ pub fn class_before_loads(asked: AskedDepth) -> Bounded {
 
 /// Looks at the outputs before it looks at the inputs: 6 before 5.
 pub fn outputs_before_inputs(asked: AskedDepth) -> Bounded {
-    let Err(Refusal::InputLoad { .. }) = asked.depth() else {
-        return asked.depth();
+    let answer = asked.depth();
+    let Err(Refusal::InputLoad { .. }) = answer else {
+        return answer;
     };
-    let turned = asked
-        .list
-        .chunks_exact(4)
-        .flat_map(|flow| [flow[1], flow[0], flow[2], flow[3]]);
-    let list: &[u16] = &turned.collect::<Vec<_>>();
-    match (AskedDepth { list, ..asked }).depth() {
+    let turned = relisted(asked.list, |[input, output, cells, link]| {
+        [output, input, cells, link]
+    });
+    let turned = AskedDepth {
+        list: &turned,
+        ..asked
+    };
+    match turned.depth() {
         Err(Refusal::InputLoad { port, cells }) => Err(Refusal::OutputLoad { port, cells }),
-        _ => asked.depth(),
+        _ => answer,
     }
 }
 
-/// Accepts an overload of a port that the asked flow is not at.
+/// Accepts an overload where the load that is asked about fits.
 pub fn overloads_elsewhere(asked: AskedDepth) -> Bounded {
-    let answer = asked.depth();
-    let (Err(Refusal::InputLoad { .. } | Refusal::OutputLoad { .. }), true) =
-        (answer, is_known(asked))
-    else {
-        return answer;
-    };
-    let spread = Spread::asked(asked);
-    if spread.load > spread.slots {
-        return answer;
-    }
-    let parts = 2 * furthest(spread.ahead(larger_first));
-    let cells = spread.ordered(parts);
-    Ok(Depth { parts, cells })
+    asked.depth().or_else(|refusal| {
+        let overloaded = matches!(refusal.number(), 5 | 6);
+        let spread = (overloaded && is_known(asked)).then(|| Spread::asked(asked));
+        let fitting = spread.filter(|spread| spread.load <= spread.slots);
+        fitting
+            .map(|spread| spread.depth(spread.bound()))
+            .ok_or(refusal)
+    })
 }
 
 /// Holds links to a quarter of the slots: 24 after 6.
