@@ -148,6 +148,34 @@ fn the_nearest_of_all_runs() {
     }
 }
 
+/// After each slot what the source is ahead, the largest stray of the chain and the stray of the slot's own load may wait, and before its
+/// cells leave the slot's share more.
+#[test]
+fn queues_at_seams_by_their_definition() {
+    let mut random = Random::new(2_034);
+    for _ in 0..400 {
+        let course = random_course(&mut random);
+        let arrivals: Vec<u64> = course.given.iter().map(|_| random.below(3)).collect();
+        let ahead = random.between(0, 3 * course.slots);
+        let strays = course.given.iter().map(|slot| stray(course.k(), slot.load));
+        let strays: Vec<i128> = strays.map(i128::from).collect();
+        let largest = strays.iter().max().expect("a slot");
+        let (mut waiting, mut after, mut before) = (0, Vec::new(), Vec::new());
+        for ((slot, arrived), stray) in course.given.iter().zip(&arrivals).zip(&strays) {
+            let allowed = i128::from(ahead) + largest + stray;
+            let parts = |cells: u64| i128::from(cells * course.slots);
+            before.push(parts(waiting + arrived) - allowed - i128::from(slot.load));
+            waiting = (waiting + arrived).saturating_sub(slot.cells);
+            after.push(parts(waiting) - allowed);
+        }
+        let depth = pass(&course, &arrivals).depth(ahead);
+        assert_eq!(Some(&depth.after), after.iter().max(), "{course:?}");
+        // Before any cell comes the queue is empty.
+        before.push(-i128::from(ahead) - 2 * largest);
+        assert_eq!(Some(&depth.before), before.iter().max(), "{course:?}");
+    }
+}
+
 /// Whether every run keeps to what is allowed whatever the load: demand 3 and the sharp bound.
 fn keeps_for_any_load(course: &Course) -> bool {
     let (lead, k) = (course.lead(course.furthest_run()).abs(), course.k());

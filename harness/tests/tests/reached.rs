@@ -35,13 +35,24 @@ fn edge(frame: &Frame) -> usize {
     course.furthest_from_a_frame().length
 }
 
+/// Every k up to 10, and every m that fits.
+fn every_load() -> impl Iterator<Item = (u32, u64)> {
+    (0..=10).flat_map(|k| (0..=1 << k).map(move |m| (k, m)))
+}
+
+/// The frame of a flow alone with m cells, and that of the flow behind one of the same input that has all other slots.
+fn seam(calls: &dyn Calls, k: u32, m: u64) -> (Frame, Frame) {
+    let slots = 1 << k;
+    let [alone, beside] = [load_alone(m as u16), load_beside(slots, m as u16)];
+    (built(calls, slots, alone), built(calls, slots, beside))
+}
+
 /// A flow alone has the earliest frame of its load, and behind one of the same input that has all other slots it has the latest: at
 /// their seam, either way round, it is off by twice the stray of its load, which is as far as the load allows.
 fn every_load_reaches_its_bound(calls: &dyn Calls) {
-    for (k, m) in (0..=10).flat_map(|k| (0..=1_u64 << k).map(move |m| (k, m))) {
+    for (k, m) in every_load() {
         let slots = 1 << k;
-        let lists = [load_alone(m as u16), load_beside(slots, m as u16)];
-        let [alone, beside] = lists.map(|list| built(calls, slots, list));
+        let (alone, beside) = seam(calls, k, m);
         let bound = 2 * i128::from(stray(k, m));
         let edge = edge(&alone);
         let back = slots as usize - edge;
@@ -142,21 +153,21 @@ fn the_same_by_service_count() {
     }
 }
 
-/// A source that begins with the run and may be ahead by what fills up the last cell.
+/// A source that begins with the run in which the flow falls furthest behind, and may be ahead by what fills up the last cell.
 #[test]
 fn queues_as_deep_as_allowed() {
-    for seam in SEAMS {
-        let (run, course) = behind(seam);
-        let most = 2 * deviation(seam.k) as u64;
+    for (k, m) in every_load() {
+        let (alone, beside) = seam(&Library::default(), k, m);
+        let course = Course::of(&[alone, beside], FLOW);
+        let from = course.furthest_behind().start;
+        let slots = 1_u64 << k;
         let depth = |parts: u64| {
-            let ahead = seam.slots + parts.next_multiple_of(seam.slots) - parts;
-            let from = run.start;
+            let ahead = slots + parts.next_multiple_of(slots) - parts;
             let arrivals = Source { from, ahead }.arrivals(&course);
             pass(&course, &arrivals).depth(ahead)
         };
-        assert_eq!(depth(most).after, 0, "{seam:?}");
-        let load = u64::from(seam.cells);
-        assert_eq!(depth(most + load).before, 0, "{seam:?}");
+        assert_eq!(depth(2 * stray(k, m)).after, 0, "k = {k}, m = {m}");
+        assert_eq!(depth(2 * stray(k, m) + m).before, 0, "k = {k}, m = {m}");
     }
 }
 
