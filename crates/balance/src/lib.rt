@@ -8,7 +8,7 @@ ghost use Rattle.rules.specs.Frames.{levels};
 ghost use Rattle.calls.specs.Refusals.{report};
 ghost use mathlib.Core.List.{[], _∷_};
 ghost use Rattle.calls.specs.Inspect.{finding, unbalanced, unbalancedNumber, unbalancedBlock};
-ghost use Rattle.tally.specs.Tally.{RightFrame};
+ghost use Rattle.tally.specs.Tally.{tallyPlaces, RightFrame};
 ghost use Rattle.balance.specs.Balance.{far};
 use calls::Inspection;
 use flows::flows_of;
@@ -35,7 +35,7 @@ fn apart(a: usize, b: usize) -> bool
 
 // The first of some places where two tallies differ by more than 1; the place past them where there is none.
 fn first_far(a: &[u16; TALLY_PLACES], b: &[u16; TALLY_PLACES], from: usize, count: usize) -> usize
-    requires { ⌜ (from + count ≤ 609) × (length (now a) ≡ 609) × (length (now b) ≡ 609) ⌝ }
+    requires { ⌜ (from + count ≤ tallyPlaces) × (length (now a) ≡ tallyPlaces) × (length (now b) ≡ tallyPlaces) ⌝ }
     ensures { λ r. ⌜ r ≡ first (far (now (a .entry)) (now (b .entry))) from count ⌝ }
 {
     let end = from + count;
