@@ -8,16 +8,16 @@ ghost use Rattle.rules.specs.Frames.{levels};
 ghost use Rattle.calls.specs.Refusals.{report};
 ghost use mathlib.Core.List.{[], _∷_};
 ghost use Rattle.calls.specs.Inspect.{finding, unbalanced, unbalancedNumber, unbalancedBlock};
-ghost use Rattle.tally.specs.Tally.{RightFrame};
+ghost use Rattle.tally.specs.Tally.{tallyPlaces, RightFrame};
 ghost use Rattle.balance.specs.Balance.{far};
 use calls::Inspection;
 use flows::flows_of;
 use tally::INPUTS_AT;
-use tally::LINKS_AT;
-use tally::OUTPUTS_AT;
 use tally::TALLY_PLACES;
-use tally::TOTAL_AT;
 use tally::tally_run;
+
+// The places behind the flows: inputs, outputs, links and the total. One that stands for none of them is 0 in every tally.
+const PAST_FLOWS: usize = TALLY_PLACES - INPUTS_AT;
 
 // Two counts differ by more than 1.
 fn apart(a: usize, b: usize) -> bool
@@ -35,7 +35,7 @@ fn apart(a: usize, b: usize) -> bool
 
 // The first of some places where two tallies differ by more than 1; the place past them where there is none.
 fn first_far(a: &[u16; TALLY_PLACES], b: &[u16; TALLY_PLACES], from: usize, count: usize) -> usize
-    requires { ⌜ (from + count ≤ 609) × (length (now a) ≡ 609) × (length (now b) ≡ 609) ⌝ }
+    requires { ⌜ (from + count ≤ tallyPlaces) × (length (now a) ≡ tallyPlaces) × (length (now b) ≡ tallyPlaces) ⌝ }
     ensures { λ r. ⌜ r ≡ first (far (now (a .entry)) (now (b .entry))) from count ⌝ }
 {
     let end = from + count;
@@ -69,19 +69,7 @@ fn unbalanced_at(
     if first_far(&front, &back, 0, count) < count {
         return true;
     }
-    if first_far(&front, &back, INPUTS_AT, ports) < INPUTS_AT + ports {
-        return true;
-    }
-    if first_far(&front, &back, OUTPUTS_AT, ports) < OUTPUTS_AT + ports {
-        return true;
-    }
-    if first_far(&front, &back, LINKS_AT, ports * 4) < LINKS_AT + ports * 4 {
-        return true;
-    }
-    if first_far(&front, &back, TOTAL_AT, 1) < TALLY_PLACES {
-        return true;
-    }
-    false
+    first_far(&front, &back, INPUTS_AT, PAST_FLOWS) < TALLY_PLACES
 }
 
 // The number of the first unbalanced block among some, end to end, of twice half slots; their count where there is none.

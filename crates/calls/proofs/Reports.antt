@@ -7,7 +7,6 @@ use mathlib.Core.Bool.{Bool, true, false, not, true≢false}
 use native.Mathlib.Omega.{arith}
 use lib.Dec.{eqb, ltb}
 use lib.ListN.{length, getD, take}
-use lib.Pow.{pow-pos}
 use borrow.Author.Tests.{eqb-true, eqb-false, eq-eqb, ne-eqb, le-ltb, ltb-false, not-false}
 use Rattle.rules.specs.Words.{within, first, Every, Within}
 use Rattle.rules.specs.Flows.{stride, flows, numberOf, End, inputs, links, placeOf}
@@ -19,7 +18,7 @@ use Rattle.calls.specs.declared.Refusal.{Refusal}
 use Rattle.calls.specs.declared.Refusal.the-variants.{Ports, Slots, ListLength, FrameLength, InputLoad, OutputLoad, LineForm, LinePort, SheetLength, SlotNumber, FlowOrPort, RunLength, TooManyFlows, FlowPort, FlowLink, LinkLoad}
 use Rattle.rules.proofs.Cases.{byBool, within-yes, within-true, both-true, both-yes}
 use Rattle.rules.proofs.Searches.{first-none, first-before}
-use Rattle.rules.proofs.Levels.{power-known, power-most, known-power}
+use Rattle.rules.proofs.Levels.{power-known, known-power}
 
 module _ (c : Check) (cs : List Check) (asked : List ℕ) where
   pub report-found : {answer : List ℕ} → c ≡ (true, answer) → report (c ∷ cs) asked ≡ answer
@@ -216,8 +215,3 @@ length-tells len = most-tells 1000000 len _
 -- ---- what holds where a condition does not
 pub within-known : {n most : ℕ} {r : Bool} → r ≡ not (within 1 most n) → r ≡ false → Within 1 most n
 within-known {n} {most} e f = range-tells 1 most n [] .known (sym e ∙ f)
-
-pub slots-known : {slots : ℕ} {r : Bool} → r ≡ eqb (levels slots) 11 → r ≡ false → Within 1 1024 slots
-slots-known {slots} e f =
-    let p = slots-tells slots .known (sym e ∙ f) in
-    omega (arith, p .is, pow-pos (p .k), power-most p)

@@ -1,15 +1,24 @@
--- 22 and 23, of one flow, and by a loop: of the flows of a list, none of those tried has a port or a link outside.
+-- A number outside its range; 22 and 23, of one flow, and by a loop: of the flows of a list, none of those tried has a port or a link outside.
 use Prim.Native.Nat.{ℕ, _+_, _≤_, _<_}
 use mathlib.Core.Path.{_≡_, sym, _∙_}
 use mathlib.Core.List.{List}
 use mathlib.Core.Bool.{Bool, true, false, not}
 use native.Mathlib.Omega.{arith}
 use lib.Dec.{ltb}
-use borrow.Author.Tests.{lt-ltb, le-ltb, not-true, not-false}
+use borrow.Author.Tests.{lt-ltb, le-ltb, le-leb, lt-leb, not-true, not-false}
 use Rattle.rules.specs.Words.{within, first}
 use Rattle.rules.specs.Flows.{flows, numberOf}
 use Rattle.calls.specs.Refusals.{portsWithin, linkWithin}
+use Rattle.rules.proofs.Cases.{byLt}
 use Rattle.rules.proofs.Searches.{Passed, passed-start, passed-on, passed-found, passed-done}
+
+-- ---- a number outside 1, 2, .., most
+module _ (most n : ℕ) where
+  pub below-one : n < 1 → true ≡ not (within 1 most n)
+  below-one h = rw (lt-leb 1 n h)
+
+  pub above-most : 1 ≤ n → ltb most n ≡ not (within 1 most n)
+  above-most h = byLt most n (λ l. rw (le-leb 1 n h, lt-ltb most n l, lt-leb n most l)) (λ l. rw (le-leb 1 n h, le-ltb most n l, le-leb n most l))
 
 -- ---- one flow, by its two ports
 module _ (ports f : ℕ) (list : List ℕ) {x : ℕ} {q : Bool} (input : x ≡ numberOf 0 list f) (one : q ≡ not (within 1 ports x)) where

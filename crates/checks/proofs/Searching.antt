@@ -1,6 +1,6 @@
 -- The searches of Admit by a loop.
 use Prim.Native.Nat.{ℕ, _+_, _-_, _*_, _^_, _≤_, _<_}
-use mathlib.Core.Path.{_≡_, refl, sym, _∙_, subst}
+use mathlib.Core.Path.{_≡_, refl, sym, ap, _∙_, subst}
 use mathlib.Core.Bool.{Bool}
 use native.Mathlib.Omega.{arith}
 use native.Mathlib.Nat.{pow-le-pow-right, two-pow-succ}
@@ -35,6 +35,10 @@ module _ {slots k power : ℕ} (c : Climbing slots k power) where
 
   pub climbing-none : 11 ≤ k → k ≡ levels slots
   climbing-none l = passed-done (c .passed) l
+
+-- 2, by the level
+pub level-told : (slots : ℕ) {k : ℕ} → k ≡ levels slots → eqb k 11 ≡ eqb (levels slots) 11
+level-told slots e = ap (λ z. eqb z 11) e
 
 -- ---- the lowest place above its bound: of so many places, none of those tried is
 pub record Passing (size : ℕ) (bound loads : ℕ → ℕ) (untried : ℕ) : Type 0 where

@@ -424,7 +424,7 @@ tally-length : (ports : ℕ) (list entries : List ℕ) → length (tallyOf ports
 unfolding tallyOf
 tally-length ports list entries = map-length (numberAt ports list entries) 0 609
 
-tally-at : (ports : ℕ) (list entries : List ℕ) (x : ℕ) → x < 609 → getD (tallyOf ports list entries) x 0 ≡ numberAt ports list entries x
+pub tally-at : (ports : ℕ) (list entries : List ℕ) (x : ℕ) → x < 609 → getD (tallyOf ports list entries) x 0 ≡ numberAt ports list entries x
 unfolding tallyOf
 tally-at ports list entries x h = map-at (numberAt ports list entries) 0 609 x h ∙ ap (numberAt ports list entries) (omega arith)
 
@@ -435,37 +435,37 @@ module _ (ports : ℕ) (list entries : List ℕ) where
   number-class s (flow f) of = rw (lt-ltb f (flows list) of)
   number-class s (portOn input i) of =
       let e : 512 + i - 512 ≡ i = omega arith in
-      rw (le-ltb (512 + i) (flows list) (omega (arith, s .few)), within-yes 512 (511 + ports) (512 + i) (omega arith) (omega arith), e)
+      rw (le-ltb (512 + i) (flows list) (omega (arith, s .few)), within-yes 512 (512 + ports - 1) (512 + i) (omega arith) (omega arith), e)
   number-class s (portOn output o) of =
       let e : 528 + o - 528 ≡ o = omega arith in
-      rw (le-ltb (528 + o) (flows list) (omega (arith, s .few)), within-above 512 (511 + ports) (528 + o) (omega arith) (omega (arith, s .most)), within-yes 528 (527 + ports) (528 + o) (omega arith) (omega arith), e)
+      rw (le-ltb (528 + o) (flows list) (omega (arith, s .few)), within-above 512 (512 + ports - 1) (528 + o) (omega arith) (omega (arith, s .most)), within-yes 528 (528 + ports - 1) (528 + o) (omega arith) (omega arith), e)
   number-class s (link x) of =
       let e : 544 + x - 544 ≡ x = omega arith in
       rw (
         le-ltb (544 + x) (flows list) (omega (arith, s .few)),
-        within-above 512 (511 + ports) (544 + x) (omega arith) (omega (arith, s .most)),
-        within-above 528 (527 + ports) (544 + x) (omega arith) (omega (arith, s .most)),
-        within-yes 544 (543 + ports * 4) (544 + x) (omega arith) (omega arith),
+        within-above 512 (512 + ports - 1) (544 + x) (omega arith) (omega (arith, s .most)),
+        within-above 528 (528 + ports - 1) (544 + x) (omega arith) (omega (arith, s .most)),
+        within-yes 544 (544 + ports * 4 - 1) (544 + x) (omega arith) (omega arith),
         e,
       )
   number-class s total of =
       rw (
         le-ltb 608 (flows list) (omega (arith, s .few)),
-        within-above 512 (511 + ports) 608 (omega arith) (omega (arith, s .most)),
-        within-above 528 (527 + ports) 608 (omega arith) (omega (arith, s .most)),
-        within-above 544 (543 + ports * 4) 608 (omega arith) (omega (arith, s .most)),
+        within-above 512 (512 + ports - 1) 608 (omega arith) (omega (arith, s .most)),
+        within-above 528 (528 + ports - 1) 608 (omega arith) (omega (arith, s .most)),
+        within-above 544 (544 + ports * 4 - 1) 608 (omega arith) (omega (arith, s .most)),
       )
 
   module _ (tally : List ℕ) (y : Tally ports list entries tally) (x : ℕ) where
     at-class : (c : Class) → InList ports list c → place c ≡ x → getD tally x 0 ≡ cells c ports list entries
     at-class c of e = ap (λ z. getD tally z 0) (sym e) ∙ y .each c of
 
-    vacant : flows list ≤ x → within 512 (511 + ports) x ≡ false → within 528 (527 + ports) x ≡ false
-        → within 544 (543 + ports * 4) x ≡ false → x ≢ 608 → Vacant ports list x
+    vacant : flows list ≤ x → within 512 (512 + ports - 1) x ≡ false → within 528 (528 + ports - 1) x ≡ false
+        → within 544 (544 + ports * 4 - 1) x ≡ false → x ≢ 608 → Vacant ports list x
     vacant h f g k n (flow y) of e = omega arith
-    vacant h f g k n (portOn input i) of e = true≢false (sym (within-yes 512 (511 + ports) x (omega arith) (omega arith)) ∙ f)
-    vacant h f g k n (portOn output o) of e = true≢false (sym (within-yes 528 (527 + ports) x (omega arith) (omega arith)) ∙ g)
-    vacant h f g k n (link y) of e = true≢false (sym (within-yes 544 (543 + ports * 4) x (omega arith) (omega arith)) ∙ k)
+    vacant h f g k n (portOn input i) of e = true≢false (sym (within-yes 512 (512 + ports - 1) x (omega arith) (omega arith)) ∙ f)
+    vacant h f g k n (portOn output o) of e = true≢false (sym (within-yes 528 (528 + ports - 1) x (omega arith) (omega arith)) ∙ g)
+    vacant h f g k n (link y) of e = true≢false (sym (within-yes 544 (544 + ports * 4 - 1) x (omega arith) (omega arith)) ∙ k)
     vacant h f g k n total of e = n e
 
     number-is : getD tally x 0 ≡ numberAt ports list entries x
@@ -474,14 +474,14 @@ module _ (ports : ℕ) (list entries : List ℕ) where
         byLt x (flows list)
         (λ h. rw (lt-ltb x (flows list) h) (at-class (flow x) h refl))
         (λ h. rw (le-ltb x (flows list) h)
-        (byBool (within 512 (511 + ports) x)
-        (λ f. let w = within-true 512 (511 + ports) x f in rw f (at-class (portOn input (x - 512)) (omega arith) (omega arith)))
+        (byBool (within 512 (512 + ports - 1) x)
+        (λ f. let w = within-true 512 (512 + ports - 1) x f in rw f (at-class (portOn input (x - 512)) (omega arith) (omega arith)))
         (λ f. rw f
-        (byBool (within 528 (527 + ports) x)
-        (λ g. let w = within-true 528 (527 + ports) x g in rw g (at-class (portOn output (x - 528)) (omega arith) (omega arith)))
+        (byBool (within 528 (528 + ports - 1) x)
+        (λ g. let w = within-true 528 (528 + ports - 1) x g in rw g (at-class (portOn output (x - 528)) (omega arith) (omega arith)))
         (λ g. rw g
-        (byBool (within 544 (543 + ports * 4) x)
-        (λ k. let w = within-true 544 (543 + ports * 4) x k in rw k (at-class (link (x - 544)) (omega arith) (omega arith)))
+        (byBool (within 544 (544 + ports * 4 - 1) x)
+        (λ k. let w = within-true 544 (544 + ports * 4 - 1) x k in rw k (at-class (link (x - 544)) (omega arith) (omega arith)))
         (λ k. rw k
         (byEq x 608
         (λ e. rw (eq-eqb x 608 e) (at-class total tt (sym e)))
@@ -491,6 +491,21 @@ module _ (ports : ℕ) (list entries : List ℕ) where
   tally-is tally y =
       ext-getD 0 tally (tallyOf ports list entries) (y .size ∙ sym (tally-length ports list entries))
       (λ x h. number-is tally y x ∙ sym (tally-at ports list entries x (omega (arith, y .size))))
+
+-- a place behind the flows is that of a class, or has 0 in every tally
+pub by-place : {P : Type 0} (ports : ℕ) (list : List ℕ) (x : ℕ) → flows list ≤ x → ((c : Class) → InList ports list c → place c ≡ x → P)
+    → (((entries : List ℕ) → numberAt ports list entries x ≡ 0) → P) → P
+unfolding numberAt
+by-place ports list x h class other =
+    byBool (within 512 (512 + ports - 1) x)
+    (λ f. let w = within-true 512 (512 + ports - 1) x f in class (portOn input (x - 512)) (omega arith) (omega arith))
+    (λ f. byBool (within 528 (528 + ports - 1) x)
+    (λ g. let w = within-true 528 (528 + ports - 1) x g in class (portOn output (x - 528)) (omega arith) (omega arith))
+    (λ g. byBool (within 544 (544 + ports * 4 - 1) x)
+    (λ k. let w = within-true 544 (544 + ports * 4 - 1) x k in class (link (x - 544)) (omega arith) (omega arith))
+    (λ k. byEq x 608
+    (λ e. class total tt (sym e))
+    (λ n. other (λ entries. rw (le-ltb x (flows list) h, f, g, k, ne-eqb x 608 n))))))
 
 pub tally-end : (ports start len t : ℕ) (list frame tally : List ℕ) → Tally ports list (runOf ports start t frame) tally → t ≤ len → len ≤ t
     → tally ≡ tallyOf ports list (runOf ports start len frame)

@@ -12,14 +12,29 @@ use Rattle.rules.specs.Frames.{right, counts, cells}
 use Rattle.calls.proofs.Inspected.{InList}
 use Rattle.checks.specs.Fits.{ListFits, FrameFits}
 
--- The flows stand in the order of the list, with room for 512, then the sixteen inputs, then the sixteen outputs,
--- then their links, then the total.
+-- The flows stand in the order of the list, with room for 512, then the sixteen inputs, then the sixteen outputs, then their links,
+-- then the total: where each begins, and how many places there are.
+abbrev pub inputsAt : ℕ
+inputsAt = 512
+
+abbrev pub outputsAt : ℕ
+outputsAt = 528
+
+abbrev pub linksAt : ℕ
+linksAt = 544
+
+abbrev pub totalAt : ℕ
+totalAt = 608
+
+abbrev pub tallyPlaces : ℕ
+tallyPlaces = 609
+
 abbrev pub place : Class → ℕ
 place (flow f) = f
-place (portOn input i) = 512 + i
-place (portOn output o) = 528 + o
-place (link x) = 544 + x
-place total = 608
+place (portOn input i) = inputsAt + i
+place (portOn output o) = outputsAt + o
+place (link x) = linksAt + x
+place total = totalAt
 
 -- No class stands at place x.
 abbrev pub Vacant : ℕ → List ℕ → ℕ → Type 0
@@ -39,12 +54,12 @@ pub record RightAt (ports : ℕ) (list : List ℕ) (i entry : ℕ) : Type 0 wher
 
 -- A tally has its places, and no number above a limit.
 pub record Room (limit : ℕ) (tally : List ℕ) : Type 0 where
-  pub size : length tally ≡ 609
+  pub size : length tally ≡ tallyPlaces
   pub each : (x : ℕ) → getD tally x 0 ≤ limit
 
 -- `new` is the tally `old` with `more` counted: a number for each class, at no other place, and none more than `most` higher.
 pub record Adds (ports : ℕ) (list : List ℕ) (most : ℕ) (more : Class → ℕ) (old new : List ℕ) : Type 0 where
-  pub size : length new ≡ 609
+  pub size : length new ≡ tallyPlaces
   pub each : (c : Class) → InList ports list c → getD new (place c) 0 ≡ getD old (place c) 0 + more c
   pub none : (x : ℕ) → Vacant ports list x → getD new x 0 ≡ getD old x 0
   pub bound : (x : ℕ) → getD new x 0 ≤ getD old x 0 + most
@@ -72,11 +87,11 @@ ofSlot ports list slot c = cells c ports list slot
 unfoldable pub numberAt : ℕ → List ℕ → List ℕ → ℕ → ℕ
 numberAt ports list entries x =
     if (ltb x (flows list)) (cells (flow x) ports list entries)
-    (if (within 512 (511 + ports) x) (cells (portOn input (x - 512)) ports list entries)
-    (if (within 528 (527 + ports) x) (cells (portOn output (x - 528)) ports list entries)
-    (if (within 544 (543 + ports * 4) x) (cells (link (x - 544)) ports list entries)
-    (if (eqb x 608) (cells total ports list entries) 0))))
+    (if (within inputsAt (inputsAt + ports - 1) x) (cells (portOn input (x - inputsAt)) ports list entries)
+    (if (within outputsAt (outputsAt + ports - 1) x) (cells (portOn output (x - outputsAt)) ports list entries)
+    (if (within linksAt (linksAt + ports * 4 - 1) x) (cells (link (x - linksAt)) ports list entries)
+    (if (eqb x totalAt) (cells total ports list entries) 0))))
 
--- The tally of some slots: the numbers at its 609 places.
+-- The tally of some slots: the numbers at its places.
 unfoldable pub tallyOf : ℕ → List ℕ → List ℕ → List ℕ
-tallyOf ports list entries = map (numberAt ports list entries) (upFrom 0 609)
+tallyOf ports list entries = map (numberAt ports list entries) (upFrom 0 tallyPlaces)

@@ -5,7 +5,7 @@ ghost use lib.ListN.{getD, set, replicate};
 ghost use Rattle.rules.specs.Words.{bit};
 ghost use Rattle.rules.specs.Flows.{total};
 ghost use Rattle.rules.specs.Frames.{counts, runOf};
-ghost use Rattle.tally.specs.Tally.{RightFrame, RightAt, Room, Adds, ofEntry, ofSlot, tallyOf};
+ghost use Rattle.tally.specs.Tally.{tallyPlaces, RightFrame, RightAt, Room, Adds, ofEntry, ofSlot, tallyOf};
 
 // Places of a tally: 512 flows, then 16 inputs, 16 outputs, 64 links and the total.
 pub const TALLY_PLACES: usize = 609;
@@ -21,7 +21,7 @@ pub const TOTAL_AT: usize = 608;
 
 // Counts one more at a place of a tally.
 fn add_one(tally: &mut [u16; TALLY_PLACES], x: usize)
-    requires { ⌜ (x < 609) × Room 65534 (now tally) ⌝ }
+    requires { ⌜ (x < tallyPlaces) × Room 65534 (now tally) ⌝ }
     ensures { λ _. ⌜ now (tally .exit) ≡ set (now (tally .entry)) x (getD (now (tally .entry)) x 0 + 1) ⌝ }
 {
     tally[x] = tally[x] + 1;
@@ -76,7 +76,7 @@ pub fn tally_run(
     len: usize,
     tally: &mut [u16; TALLY_PLACES],
 )
-    requires { ⌜ RightFrame ports slots (now list) (now frame) × (start + len ≤ slots) × (now tally ≡ replicate 609 0) ⌝ }
+    requires { ⌜ RightFrame ports slots (now list) (now frame) × (start + len ≤ slots) × (now tally ≡ replicate tallyPlaces 0) ⌝ }
     ensures { λ _. ⌜ now (tally .exit) ≡ tallyOf ports (now (list .entry)) (runOf ports start len (now (frame .entry))) ⌝ }
 {
     let mut t: usize = 0;

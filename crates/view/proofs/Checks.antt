@@ -144,4 +144,4 @@ module _ (ports slots : ℕ) (entries : List ℕ) (slot start size : ℕ) (s : s
   part-viewed = let e : start + size - start ≡ size = omega arith in rw (e, s, z)
 
 pub begins : (place : ℕ × ℕ) {a b : ℕ} → a ≡ b → (place .0, a * 2 + place .1) ≡ onward place b
-begins place {a} {b} e = let s : a * 2 + place .1 ≡ place .1 + 2 * b = omega arith in ap (λ z. (place .0, z)) s
+begins place {a} {b} e = let s : a * 2 + place .1 ≡ onward place b .1 = omega arith in ap (λ z. (place .0, z)) s

@@ -19,9 +19,8 @@ loop-again c =
     let at = first .before .before in
     let cells = third .number-of2 .ensures in
     let link = second .link-of .ensures in
-    let on = summed-on (at .before .before .before .pre) (at .loop .inv) (first .before .loop-test .taken) (cells .1)
-    (first .number-of .ensures .0) refl (link .0) (link .1) (cells .0) in
-    on refl refl refl
+    summed-on (at .before .before .before .pre) (at .loop .inv) (first .before .loop-test .taken) (cells .1)
+    (first .number-of .ensures .0) refl (link .0) (link .1) (search needs) (search needs) (search needs) (search needs)
 
 pub loads-of-spec : {M : Type 1} → statement M
 loads-of-spec =

@@ -1,3 +1,4 @@
+use native.Mathlib.Omega.{arith}
 use borrow.Author.Needs.{needs}
 use Rattle.admission.specs.Overloads.{valueAt}
 use Rattle.checks.proofs.Searching.{Passing, passing-start, passing-on, passing-found, passing-none}
@@ -23,7 +24,7 @@ lowest-past-spec =
     (λ c. search needs)
     (λ c. search needs)
     (λ c. search needs)
-    (λ c. passing-found (c .before .before .before .loop .inv) (c .if1 .taken) (c .before .before .loop-test .taken))
+    (λ c. omega (arith, passing-found (c .before .before .before .loop .inv) (omega (arith, c .if1 .taken)) (c .before .before .loop-test .taken)))
     (λ c. search needs)
     (λ c. search needs)
     (λ c. search (needs, passing-on))

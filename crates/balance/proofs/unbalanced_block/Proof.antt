@@ -16,7 +16,7 @@ unbalanced-block-spec =
     (tie.spec
     Inv-loop
     μ-loop
-    (λ c. depths-start _ _ _ _ _)
+    (λ c. search (needs, depths-start))
     (λ c κs. (search needs, search (needs, blocks-room)))
     (λ c. search (needs, size-fits))
     (λ c. search (needs, start-fits))

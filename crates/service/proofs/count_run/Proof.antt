@@ -18,7 +18,7 @@ lead-of-requires c κs =
 returns : tie.Need-returns
 returns c =
     let kept : toZ w64 (ofZ w64 (c .lead-of .result)) ≡ c .lead-of .result = search needs in
-    (search needs, kept ∙ c .lead-of .ensures ∙ lead-counted _ _ _ _ _ _ _ (c .before .run-cells .ensures) (c .before .before .slot-cells .ensures))
+    (search needs, kept ∙ c .lead-of .ensures ∙ search (needs, lead-counted))
 
 pub count-run-spec : {M : Type 1} → statement M
 count-run-spec =
