@@ -1,7 +1,7 @@
 -- A pair line, read word by word.
 use Prim.Native.Nat.{ℕ, _+_, _-_, _≤_}
-use mathlib.Core.Path.{_≡_, sym, ap, _∙_}
-use mathlib.Core.List.{List, _∷_, _++_, append-assoc}
+use mathlib.Core.Path.{_≡_, refl, sym, ap, _∙_}
+use mathlib.Core.List.{List, _++_, append-assoc}
 use mathlib.Core.Bool.{Bool, true, false, true≢false}
 use native.Mathlib.Omega.{arith}
 use lib.ListN.{drop}
@@ -26,35 +26,35 @@ unfolding pairLine
 pair-append i o m t = simp append-assoc
 
 abbrev behindIn : ℕ → ℕ → List ℕ → List ℕ
-behindIn o m t = drop 1 (text ") (out " ++ (decimal o ++ (text ") (cells " ++ (decimal m ++ (text "))\n" ++ t)))))
+behindIn o m t = text ") (out " ++ (decimal o ++ (text ") (cells " ++ (decimal m ++ (text "))\n" ++ t))))
 
 abbrev behindOut : ℕ → List ℕ → List ℕ
-behindOut m t = drop 1 (text ") (cells " ++ (decimal m ++ (text "))\n" ++ t)))
+behindOut m t = text ") (cells " ++ (decimal m ++ (text "))\n" ++ t))
 
 pub form-first : (s : List ℕ) (at : ℕ) (r : NumberRead) → NumberOf 65535 (text "(pair (in ") s at r → r ≡ NoNumber → NoPairAt s at
 form-first s at r y g =
     let x : NoNumberAt 65535 (text "(pair (in ") s at = rw g at y in
-    record { never = λ i o m t a b c e. x .never i (behindIn o m t) a (e ∙ pair-append i o m t) }
+    record { never = λ i o m t a b c e. x .never i (behindIn o m t) a (λ _. refl) (e ∙ pair-append i o m t) }
 
 module _ (s : List ℕ) (at : ℕ) (r1 : NumberRead) (i n1 : ℕ) (y1 : NumberOf 65535 (text "(pair (in ") s at r1) (e1 : r1 ≡ Number i n1) where
-  at-output : (j o m : ℕ) (t : List ℕ) → j ≤ 65535 → drop at s ≡ pairLine j o m ++ t → drop n1 s ≡ 41 ∷ behindIn o m t
+  at-output : (j o m : ℕ) (t : List ℕ) → j ≤ 65535 → drop at s ≡ pairLine j o m ++ t → drop n1 s ≡ behindIn o m t
   at-output j o m t a e =
-      rest-is 65535 (text "(pair (in ") s at i n1 j (behindIn o m t) (number-known 65535 (text "(pair (in ") s at r1 i n1 y1 e1) a (e ∙ pair-append j o m t)
+      rest-is 65535 (text "(pair (in ") s at i n1 j (behindIn o m t) (number-known 65535 (text "(pair (in ") s at r1 i n1 y1 e1) a (λ _. refl) (e ∙ pair-append j o m t)
 
   pub form-second : (r : NumberRead) → NumberOf 65535 (text ") (out ") s n1 r → r ≡ NoNumber → NoPairAt s at
   form-second r y g =
       let x : NoNumberAt 65535 (text ") (out ") s n1 = rw g at y in
-      record { never = λ j o m t a b c e. x .never o (behindOut m t) b (at-output j o m t a e) }
+      record { never = λ j o m t a b c e. x .never o (behindOut m t) b (λ _. refl) (at-output j o m t a e) }
 
   module _ (r2 : NumberRead) (o n2 : ℕ) (y2 : NumberOf 65535 (text ") (out ") s n1 r2) (e2 : r2 ≡ Number o n2) where
-    at-cells : (j p m : ℕ) (t : List ℕ) → j ≤ 65535 → p ≤ 65535 → drop at s ≡ pairLine j p m ++ t → drop n2 s ≡ 41 ∷ behindOut m t
+    at-cells : (j p m : ℕ) (t : List ℕ) → j ≤ 65535 → p ≤ 65535 → drop at s ≡ pairLine j p m ++ t → drop n2 s ≡ behindOut m t
     at-cells j p m t a b e =
-        rest-is 65535 (text ") (out ") s n1 o n2 p (behindOut m t) (number-known 65535 (text ") (out ") s n1 r2 o n2 y2 e2) b (at-output j p m t a e)
+        rest-is 65535 (text ") (out ") s n1 o n2 p (behindOut m t) (number-known 65535 (text ") (out ") s n1 r2 o n2 y2 e2) b (λ _. refl) (at-output j p m t a e)
 
     pub form-third : (r : NumberRead) → NumberOf 65535 (text ") (cells ") s n2 r → r ≡ NoNumber → NoPairAt s at
     form-third r y g =
         let x : NoNumberAt 65535 (text ") (cells ") s n2 = rw g at y in
-        record { never = λ j p m t a b c e. x .never m (drop 1 (text "))\n" ++ t)) c (at-cells j p m t a b e) }
+        record { never = λ j p m t a b c e. x .never m (text "))\n" ++ t) c (λ _. refl) (at-cells j p m t a b e) }
 
     module _ (r3 : NumberRead) (m n3 : ℕ) (b : Bool) (y3 : NumberOf 65535 (text ") (cells ") s n2 r3) (e3 : r3 ≡ Number m n3)
         (f : b ≡ starts (text "))\n") (drop n3 s)) where
@@ -77,6 +77,6 @@ module _ (s : List ℕ) (at : ℕ) (r1 : NumberRead) (i n1 : ℕ) (y1 : NumberOf
           record {
             never = λ j p n t a d c e.
                 let z = number-known 65535 (text ") (cells ") s n2 r3 m n3 y3 e3 in
-                let k = rest-is 65535 (text ") (cells ") s n2 m n3 n (drop 1 (text "))\n" ++ t)) z c (at-cells j p n t a d e) in
+                let k = rest-is 65535 (text ") (cells ") s n2 m n3 n (text "))\n" ++ t) z c (λ _. refl) (at-cells j p n t a d e) in
                 true≢false (sym (starts-self (text "))\n") t) ∙ (ap (starts (text "))\n")) (sym k) ∙ (sym f ∙ g)));
           }

@@ -13,7 +13,7 @@ use Rattle.rules.specs.Words.{both, within}
 use Rattle.sheets.specs.Text.{text, decimal, numbersFrom}
 use Rattle.rules.proofs.Cases.{byLt, both-true, within-yes, within-below, within-above}
 use Rattle.sheets.proofs.Text.{leading, decimal-one, decimal-more, numbers-decimal, number-grows, other-on}
-use Rattle.text.specs.Places.{starts, DigitAt, NumberAt, NoNumberAt, NumberOf, oneLine, LineAt, NoLineAt, Limit}
+use Rattle.text.specs.Places.{starts, DigitAt, Ended, NumberAt, NoNumberAt, NumberOf, oneLine, LineAt, NoLineAt, Limit}
 use Rattle.text.specs.declared.NumberRead.{NumberRead}
 use Rattle.text.specs.declared.NumberRead.the-variants.{Number, NoNumber}
 
@@ -113,9 +113,9 @@ pub record Counted (most : ℕ) (s : List ℕ) (at v next d : ℕ) : Type 0 wher
 pub number-none : (most : ℕ) (s : List ℕ) (at d : ℕ) → DigitAt s at d → 9 < d → NoNumberAt most [] s at
 number-none most s at d x h =
     record {
-      never = λ u t k e.
-          let l = leading u (41 ∷ t) in
-          true≢false (sym (within-yes 48 57 (getD (decimal u ++ (41 ∷ t)) 0 0) (l .low) (l .high))
+      never = λ u t k n e.
+          let l = leading u t in
+          true≢false (sym (within-yes 48 57 (getD (decimal u ++ t) 0 0) (l .low) (l .high))
           ∙ (ap (λ z. within 48 57 (getD z 0 0)) (sym e) ∙ x .other (omega arith)));
     }
 
@@ -127,8 +127,9 @@ number-zero most s at d next limit x h n z =
       stands = f ∙ (ap (λ y. (48 + d) ∷ drop y s) (sym n) ∙ ap (λ y. y ++ drop next s) (sym (decimal-one d (omega arith))));
       low = omega (arith, limit .one-digit);
       inside = omega arith;
-      only = λ u t k e. byLt u 1 (λ g. omega arith)
-          (λ g. absurd (let a = leading u (41 ∷ t) .first g in let b = ap (λ y. getD y 0 0) (sym e ∙ f) in omega arith));
+      ended = λ g. absurd (omega arith);
+      only = λ u t k m e. byLt u 1 (λ g. omega arith)
+          (λ g. absurd (let a = leading u t .first g in let b = ap (λ y. getD y 0 0) (sym e ∙ f) in omega arith));
     }
 
 pub number-start : (most : ℕ) (s : List ℕ) (at v next d : ℕ) → Limit most → DigitAt s at v → v ≤ 9 → next ≡ at + 1 → (v ≡ 0 → ⊥) → DigitAt s next d → Counted most s at v next d
@@ -163,23 +164,29 @@ number-more most s at v next d v′ next′ d′ x h ev l en y =
       limit = x .limit;
     }
 
--- the numbers that two readings of the same bytes begin with
-head-is : (l : List ℕ) (v u : ℕ) (t k : List ℕ) → l ≡ decimal v ++ t → l ≡ decimal u ++ (41 ∷ k) → getD (numbersFrom true v t) 0 0 ≡ u
-head-is l v u t k e f =
-    ap (λ z. getD z 0 0)
-    (sym (numbers-decimal v false t) ∙ (ap (numbersFrom false 0) (sym e ∙ f) ∙ (numbers-decimal u false (41 ∷ k) ∙ other-on u 41 k refl)))
-
-pub number-over : (most : ℕ) (s : List ℕ) (at v next d v′ : ℕ) → Counted most s at v next d → d < 10 → v′ ≡ 10 * v + d → most < v′ → NoNumberAt most [] s at
-number-over most s at v next d v′ x h ev g =
-    record {
-      never = λ u t k e.
-          omega (arith, number-grows (10 * v + d) (drop (next + 1) s), head-is (drop at s) (10 * v + d) u (drop (next + 1) s) t (counted-on most s at v next d x h) e);
-    }
-
 ends : (v : ℕ) (t : List ℕ) → within 48 57 (getD t 0 0) ≡ false → getD (numbersFrom true v t) 0 0 ≡ v
 unfolding numbersFrom
 ends v [] e = refl
 ends v (b ∷ t) e = ap (λ z. getD z 0 0) (other-on v b t e)
+
+-- the numbers that two readings of the same bytes begin with
+head-is : (l : List ℕ) (v u : ℕ) (t k : List ℕ) → 1 ≤ v → Ended u k → l ≡ decimal v ++ t → l ≡ decimal u ++ k → getD (numbersFrom true v t) 0 0 ≡ u
+head-is l v u t k some ended e f =
+    byLt u 1
+    (λ g.
+    let z : u ≡ 0 = omega arith in
+    let first = ap (λ y. getD y 0 0) (sym e ∙ (f ∙ ap (λ y. y ++ k) (ap decimal z ∙ decimal-one 0 (omega arith)))) in
+    absurd (omega (arith, leading v t .first some, first)))
+    (λ g.
+    ap (λ z. getD z 0 0) (sym (numbers-decimal v false t) ∙ (ap (numbersFrom false 0) (sym e ∙ f) ∙ numbers-decimal u false k)) ∙ ends u k (ended g))
+
+pub number-over : (most : ℕ) (s : List ℕ) (at v next d v′ : ℕ) → Counted most s at v next d → d < 10 → v′ ≡ 10 * v + d → most < v′ → NoNumberAt most [] s at
+number-over most s at v next d v′ x h ev g =
+    record {
+      never = λ u t k n e.
+          let o = x .some in
+          omega (arith, number-grows (10 * v + d) (drop (next + 1) s), head-is (drop at s) (10 * v + d) u (drop (next + 1) s) t (omega arith) n (counted-on most s at v next d x h) e);
+    }
 
 pub number-end : (most : ℕ) (s : List ℕ) (at v next d : ℕ) → Counted most s at v next d → 10 ≤ d → NumberAt most [] s at v next
 number-end most s at v next d x h =
@@ -187,7 +194,8 @@ number-end most s at v next d x h =
       stands = x .stands;
       low = x .low;
       inside = x .inside;
-      only = λ u t k e. sym (head-is (drop at s) v u (drop next s) t (x .stands) e) ∙ ends v (drop next s) (x .digit .other h);
+      ended = λ g. x .digit .other h;
+      only = λ u t k n e. sym (head-is (drop at s) v u (drop next s) t (x .some) n (x .stands) e) ∙ ends v (drop next s) (x .digit .other h);
     }
 
 -- ---- a word and what stands behind it
@@ -207,22 +215,23 @@ after-yes most w s at b (Number v next) f e x =
       stands = k ∙ ap (λ z. w ++ z) (x .stands);
       low = x .low;
       inside = x .inside;
-      only = λ u t h g. x .only u t h (append-cancel-left w (drop (at + length w) s) (decimal u ++ (41 ∷ t)) (sym k ∙ g));
+      ended = x .ended;
+      only = λ u t h n g. x .only u t h n (append-cancel-left w (drop (at + length w) s) (decimal u ++ t) (sym k ∙ g));
     }
 after-yes most w s at b NoNumber f e x =
     let k = behind w s at (sym f ∙ e) in
-    record { never = λ u t h g. x .never u t h (append-cancel-left w (drop (at + length w) s) (decimal u ++ (41 ∷ t)) (sym k ∙ g)) }
+    record { never = λ u t h n g. x .never u t h n (append-cancel-left w (drop (at + length w) s) (decimal u ++ t) (sym k ∙ g)) }
 
 pub after-no : (most : ℕ) (w s : List ℕ) (at : ℕ) (b : Bool) → b ≡ starts w (drop at s) → b ≡ false → NoNumberAt most w s at
 after-no most w s at b f e =
-    record { never = λ u t h g. true≢false (sym (starts-self w (decimal u ++ (41 ∷ t))) ∙ (ap (starts w) (sym g) ∙ (sym f ∙ e))) }
+    record { never = λ u t h n g. true≢false (sym (starts-self w (decimal u ++ t)) ∙ (ap (starts w) (sym g) ∙ (sym f ∙ e))) }
 
--- what stands behind a number is settled where a ) does
-pub rest-is : (most : ℕ) (w s : List ℕ) (at v next u : ℕ) (t : List ℕ) → NumberAt most w s at v next → u ≤ most → drop at s ≡ w ++ (decimal u ++ (41 ∷ t)) → drop next s ≡ 41 ∷ t
-rest-is most w s at v next u t x h e =
-    let k = x .only u t h e in
-    append-cancel-left (decimal v) (drop next s) (41 ∷ t)
-    (append-cancel-left w (decimal v ++ drop next s) (decimal v ++ (41 ∷ t)) (sym (x .stands) ∙ (e ∙ ap (λ z. w ++ (decimal z ++ (41 ∷ t))) k)))
+-- what stands behind a number is settled
+pub rest-is : (most : ℕ) (w s : List ℕ) (at v next u : ℕ) (t : List ℕ) → NumberAt most w s at v next → u ≤ most → Ended u t → drop at s ≡ w ++ (decimal u ++ t) → drop next s ≡ t
+rest-is most w s at v next u t x h n e =
+    let k = x .only u t h n e in
+    append-cancel-left (decimal v) (drop next s) t
+    (append-cancel-left w (decimal v ++ drop next s) (decimal v ++ t) (sym (x .stands) ∙ (e ∙ ap (λ z. w ++ (decimal z ++ t)) k)))
 
 -- ---- a line of one number
 line-append : (w : List ℕ) (v : ℕ) (t : List ℕ) → oneLine w v ++ t ≡ w ++ (decimal v ++ (41 ∷ (10 ∷ t)))
@@ -251,9 +260,9 @@ line-off most w s at v next r b y g f e =
     let x = number-known most w s at r v next y g in
     record {
       never = λ u t h j.
-          let k = rest-is most w s at v next u (10 ∷ t) x h (j ∙ line-append w u t) in
+          let k = rest-is most w s at v next u (41 ∷ 10 ∷ t) x h (λ _. refl) (j ∙ line-append w u t) in
           true≢false (sym (starts-self (text ")\n") t) ∙ (ap (starts (text ")\n")) (sym k) ∙ (sym f ∙ e)));
     }
 
 pub line-none : (most : ℕ) (w s : List ℕ) (at : ℕ) (r : NumberRead) → NumberOf most w s at r → r ≡ NoNumber → NoLineAt most w s at
-line-none most w s at r y g = let x : NoNumberAt most w s at = rw g at y in record { never = λ u t h j. x .never u (10 ∷ t) h (j ∙ line-append w u t) }
+line-none most w s at r y g = let x : NoNumberAt most w s at = rw g at y in record { never = λ u t h j. x .never u (41 ∷ 10 ∷ t) h (λ _. refl) (j ∙ line-append w u t) }

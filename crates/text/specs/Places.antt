@@ -28,15 +28,20 @@ pub record Limit (most : ℕ) : Type 0 where
   pub one-digit : 9 ≤ most
   pub million : most ≤ 1000000
 
--- From a place on stand a word and the number v, which is at most the limit, and they end before next. A ) behind a number leaves only one that can stand there.
+-- A number ends before some bytes: 0 always does, since no other number begins with it, and any other where no digit stands there.
+abbrev pub Ended : ℕ → List ℕ → Type 0
+Ended v rest = 1 ≤ v → within 48 57 (getD rest 0 0) ≡ false
+
+-- From a place on stand a word and the number v, which is at most the limit and ends before next; no other number stands there.
 pub record NumberAt (most : ℕ) (before s : List ℕ) (at v next : ℕ) : Type 0 where
   pub stands : drop at s ≡ before ++ (decimal v ++ drop next s)
   pub low : v ≤ most
   pub inside : next ≤ length s
-  pub only : (u : ℕ) (t : List ℕ) → u ≤ most → drop at s ≡ before ++ (decimal u ++ (41 ∷ t)) → u ≡ v
+  pub ended : Ended v (drop next s)
+  pub only : (u : ℕ) (t : List ℕ) → u ≤ most → Ended u t → drop at s ≡ before ++ (decimal u ++ t) → u ≡ v
 
 pub record NoNumberAt (most : ℕ) (before s : List ℕ) (at : ℕ) : Type 0 where
-  pub never : (u : ℕ) (t : List ℕ) → u ≤ most → drop at s ≡ before ++ (decimal u ++ (41 ∷ t)) → ⊥
+  pub never : (u : ℕ) (t : List ℕ) → u ≤ most → Ended u t → drop at s ≡ before ++ (decimal u ++ t) → ⊥
 
 abbrev pub NumberOf : ℕ → List ℕ → List ℕ → ℕ → NumberRead → Type 0
 NumberOf most before s at (Number v next) = NumberAt most before s at v next
