@@ -7,6 +7,6 @@ use Rattle.admission.specs.Overloads.{decided}
 output-decides : decided 4 [] (0 ∷ 5 ∷ []) (0 ∷ 3 ∷ []) (4 ∷ 2 ∷ []) ≡ 6 ∷ 2 ∷ 5 ∷ []
 output-decides = refl
 
--- without those of output 2
-limit-decides : decided 4 [] [] (0 ∷ 3 ∷ []) (4 ∷ 2 ∷ []) ≡ 24 ∷ 1 ∷ 2 ∷ 3 ∷ []
+-- without those of output 2, whose links may have 4
+limit-decides : decided 4 [] [] (0 ∷ 3 ∷ []) (4 ∷ 2 ∷ 4 ∷ 4 ∷ 4 ∷ 4 ∷ []) ≡ 24 ∷ 1 ∷ 2 ∷ 3 ∷ []
 limit-decides = refl

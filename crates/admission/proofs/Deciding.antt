@@ -1,6 +1,6 @@
 -- 5, 6 and 24 as the numbers decide them, and as the loads do.
-use Prim.Native.Nat.{ℕ, _+_, _%_, _≤_, _<_}
-use mathlib.Core.Path.{_≡_, sym, ap, _∙_}
+use Prim.Native.Nat.{ℕ, _+_, _-_, _%_, _≤_, _<_}
+use mathlib.Core.Path.{_≡_, sym, ap, _∙_, subst}
 use mathlib.Core.List.{List, [], _∷_, _++_}
 use mathlib.Core.Bool.{true, false}
 use native.Mathlib.Omega.{arith}
@@ -14,7 +14,17 @@ use Rattle.calls.specs.declared.Answer.the-variants.{Accepted, Refused}
 use Rattle.calls.proofs.Overloads.{above-found, above-none, above-same, past-found, past-none, past-same}
 use Rattle.calls.proofs.Reports.{Passes, clear-passes, first-reported, other-reported, report-stops, clear-none}
 use Rattle.checks.specs.Fits.{ListFits}
+use Rattle.checks.proofs.Searching.{Passing, passing-found}
 use Rattle.admission.specs.Overloads.{valueAt, EveryLoad, decidedPorts, decided}
+
+-- the place that a loop is at, with those before it passed, is the lowest
+pub above-lowest : (slots : ℕ) (loads : List ℕ) (untried x : ℕ) → Passing 16 (λ _. slots) (valueAt loads) untried → 0 < untried → x ≡ 16 - untried
+    → slots < valueAt loads x → x ≡ lowestAbove 16 slots (valueAt loads)
+above-lowest slots loads untried x p h is l = is ∙ passing-found p (subst (λ (z : ℕ). slots < valueAt loads z) is l) h
+
+pub past-lowest : (limits links : List ℕ) (untried x : ℕ) → Passing 64 (valueAt limits) (valueAt links) untried → 0 < untried → x ≡ 64 - untried
+    → valueAt limits x < valueAt links x → x ≡ lowestPast 16 limits (valueAt links)
+past-lowest limits links untried x p h is l = is ∙ passing-found p (subst (λ (z : ℕ). valueAt limits z < valueAt links z) is l) h
 
 -- a check that holds, after n that pass, with its answer
 found : (n : ℕ) (cs : List Check) {answer : List ℕ} → Every Passes (take n cs) → getD cs n (false, []) ≡ (true, answer) → answer ≡ report cs accepted

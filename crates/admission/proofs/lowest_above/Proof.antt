@@ -1,7 +1,7 @@
-use native.Mathlib.Omega.{arith}
 use borrow.Author.Needs.{needs}
 use Rattle.admission.specs.Overloads.{valueAt}
-use Rattle.checks.proofs.Searching.{Passing, passing-start, passing-on, passing-found, passing-none}
+use Rattle.checks.proofs.Searching.{Passing, passing-start, passing-on, passing-none}
+use Rattle.admission.proofs.Deciding.{above-lowest}
 use Rattle.admission.proofs.lowest_above.Statement.{statement}
 use Rattle.admission.proofs.lowest_above.Tie as tie
 
@@ -21,7 +21,7 @@ lowest-above-spec =
     (λ c. search needs)
     (λ c. search needs)
     (λ c. search needs)
-    (λ c. omega (arith, passing-found (c .before .before .before .loop .inv) (omega (arith, c .if1 .taken)) (c .before .before .loop-test .taken)))
+    (λ c. search (needs, above-lowest))
     (λ c. search needs)
     (λ c. search needs)
     (λ c. search (needs, passing-on))

@@ -1,7 +1,7 @@
-use native.Mathlib.Omega.{arith}
 use borrow.Author.Needs.{needs}
 use Rattle.admission.specs.Overloads.{valueAt}
-use Rattle.checks.proofs.Searching.{Passing, passing-start, passing-on, passing-found, passing-none}
+use Rattle.checks.proofs.Searching.{Passing, passing-start, passing-on, passing-none}
+use Rattle.admission.proofs.Deciding.{past-lowest}
 use Rattle.admission.proofs.lowest_past.Statement.{statement}
 use Rattle.admission.proofs.lowest_past.Tie as tie
 
@@ -24,7 +24,7 @@ lowest-past-spec =
     (λ c. search needs)
     (λ c. search needs)
     (λ c. search needs)
-    (λ c. omega (arith, passing-found (c .before .before .before .loop .inv) (omega (arith, c .if1 .taken)) (c .before .before .loop-test .taken)))
+    (λ c. search (needs, past-lowest))
     (λ c. search needs)
     (λ c. search needs)
     (λ c. search (needs, passing-on))
