@@ -2,10 +2,9 @@
 use Prim.Native.Nat.{ℕ, suc, _+_, _-_, _*_, _/_, _^_, _≤_, _<_}
 use mathlib.Core.Path.{_≡_, refl, sym, ap, _∙_}
 use mathlib.Core.List.{List, [], _∷_}
-use mathlib.Core.Bool.{Bool, true, false, not, true≢false}
+use mathlib.Core.Bool.{Bool, true, false, not}
 use native.Mathlib.Omega.{arith}
 use lib.Pow.{pow-pos, shr-shr}
-use lib.Dec.{ltb}
 use lib.ListN.{getD}
 use native.Mathlib.Nat.{mul-le-mul-right, pow-le-pow-right}
 use native.Mathlib.Numerals.{add-one}
@@ -17,13 +16,12 @@ use Rattle.rules.specs.Flows.{flows, Class, flow, portOn, input, output, link, 
 use Rattle.rules.specs.Frames.{runOf, levels}
 use Rattle.calls.specs.Refusals.{report}
 use Rattle.calls.specs.Inspect.{unbalanced, unbalancedNumber, firstAt, unbalancedAt, unbalancedBlock}
-use Rattle.rules.proofs.Cases.{byLt}
 use Rattle.rules.proofs.Searches.{Passed, passed-start, passed-on, passed-found, passed-done, first-low, first-found, first-before}
 use Rattle.rules.proofs.Levels.{levels-power, depth-half, depth-fill, double}
 use Rattle.calls.proofs.Inspected.{InList, nearFor, unbalanced-yes, unbalanced-no}
 use Rattle.checks.proofs.Fits.{slots-within, level-low}
-use Rattle.tally.specs.Tally.{place, RightFrame, numberAt, tallyOf}
-use Rattle.tally.proofs.Tallies.{by-place, tally-at, tally-class}
+use Rattle.tally.specs.Tally.{place, RightFrame, tallyOf}
+use Rattle.tally.proofs.Tallies.{tally-class}
 use Rattle.balance.specs.Balance.{far}
 
 -- ---- counts that differ by more than 1
@@ -82,44 +80,63 @@ module _ (ports slots start half : ℕ) (list frame a b : List ℕ) (r : RightFr
   pub flow-far : (n x : ℕ) → n ≡ flows list → x ≡ first (far a b) 0 n → x < n → true ≡ unbalanced ports list frame start half
   flow-far n x d e h = class-far (flow x) (omega arith) (ap (far a b) e ∙ first-found (far a b) n 0 (omega arith))
 
-  -- behind the flows, at a place of a class or of none
-  place-far : (x : ℕ) → flows list ≤ x → x < 609 → far a b x ≡ true → true ≡ unbalanced ports list frame start half
-  unfolding far
-  place-far x h l =
-      by-place ports list x h
-      (λ c of is e. class-far c of (ap (far a b) is ∙ e))
-      (λ none e. absurd (true≢false (sym (rw (at-front, none _, at-back, none _) at e))))
+  pub input-far : (x : ℕ) → x ≡ first (far a b) 512 ports → x < 512 + ports → true ≡ unbalanced ports list frame start half
+  input-far x e h =
+      let f = first-found (far a b) ports 512 (omega arith) in
+      let l = first-low (far a b) ports 512 in
+      let i = x - 512 in
+      let d : 512 + i ≡ x = omega arith in
+      class-far (portOn input i) (omega arith) (ap (far a b) (d ∙ e) ∙ f)
+
+  pub output-far : (x : ℕ) → x ≡ first (far a b) 528 ports → x < 528 + ports → true ≡ unbalanced ports list frame start half
+  output-far x e h =
+      let f = first-found (far a b) ports 528 (omega arith) in
+      let l = first-low (far a b) ports 528 in
+      let i = x - 528 in
+      let d : 528 + i ≡ x = omega arith in
+      class-far (portOn output i) (omega arith) (ap (far a b) (d ∙ e) ∙ f)
+
+  pub link-far : (x : ℕ) → x ≡ first (far a b) 544 (ports * 4) → x < 544 + ports * 4 → true ≡ unbalanced ports list frame start half
+  link-far x e h =
+      let f = first-found (far a b) (ports * 4) 544 (omega arith) in
+      let l = first-low (far a b) (ports * 4) 544 in
+      let i = x - 544 in
+      let d : 544 + i ≡ x = omega arith in
+      class-far (link i) (omega arith) (ap (far a b) (d ∙ e) ∙ f)
+
+  pub total-far : (x : ℕ) → x ≡ first (far a b) 608 1 → x < 609 → true ≡ unbalanced ports list frame start half
+  total-far x e h =
+      let f = first-found (far a b) 1 608 (omega arith) in
+      let l = first-low (far a b) 1 608 in
+      let d : 608 ≡ x = omega arith in
+      class-far total tt (ap (far a b) (d ∙ e) ∙ f)
+
+  pub none-far : (n x y z w t : ℕ) → n ≡ flows list → x ≡ first (far a b) 0 n → y ≡ first (far a b) 512 ports
+      → z ≡ first (far a b) 528 ports → w ≡ first (far a b) 544 (ports * 4) → t ≡ first (far a b) 608 1
+      → n ≤ x → 512 + ports ≤ y → 528 + ports ≤ z → 544 + ports * 4 ≤ w → 609 ≤ t
+      → false ≡ unbalanced ports list frame start half
+  none-far n x y z w t d ex ey ez ew et hx hy hz hw ht =
+      sym (unbalanced-no ports list frame start half (λ c of. not-false _ (sym (far-class c of) ∙ near-at c of)))
     where
-      at-front : getD a x 0 ≡ numberAt ports list (runOf ports start half frame) x
-      at-front = ap (λ z. getD z x 0) ya ∙ tally-at ports list (runOf ports start half frame) x l
-
-      at-back : getD b x 0 ≡ numberAt ports list (runOf ports (start + half) half frame) x
-      at-back = ap (λ z. getD z x 0) yb ∙ tally-at ports list (runOf ports (start + half) half frame) x l
-
-  module _ (n x y : ℕ) (d : n ≡ flows list) (ex : x ≡ first (far a b) 0 n) (hx : n ≤ x) (ey : y ≡ first (far a b) 512 97) where
-    none-far : 609 ≤ y → false ≡ unbalanced ports list frame start half
-    none-far hy = sym (unbalanced-no ports list frame start half (λ c of. not-false _ (sym (far-class c of) ∙ near-at c of)))
-      where
-        near-past : (x : ℕ) → 512 ≤ x → x < 609 → far a b x ≡ false
-        near-past x l h = first-before (far a b) 97 512 x l (omega arith)
-
-        near-at : (c : Class) → InList ports list c → far a b (place c) ≡ false
-        near-at (flow f) of = first-before (far a b) n 0 f (omega arith) (omega arith)
-        near-at (portOn input i) of = near-past (512 + i) (omega arith) (omega (arith, r .listed .most))
-        near-at (portOn output o) of = near-past (528 + o) (omega arith) (omega (arith, r .listed .most))
-        near-at (link k) of = near-past (544 + k) (omega arith) (omega (arith, r .listed .most))
-        near-at total of = near-past 608 (omega arith) (omega arith)
-
-    -- no flow is far: the places behind them decide
-    pub past-decides : ltb y 609 ≡ unbalanced ports list frame start half
-    past-decides =
-        byLt y 609
-        (λ h. lt-ltb y 609 h
-        ∙ place-far y (omega (arith, first-low (far a b) 97 512, r .listed .few)) h (ap (far a b) ey ∙ first-found (far a b) 97 512 (omega arith)))
-        (λ h. le-ltb y 609 h ∙ none-far h)
+      near-at : (c : Class) → InList ports list c → far a b (place c) ≡ false
+      near-at (flow f) of = first-before (far a b) n 0 f (omega arith) (omega arith)
+      near-at (portOn input i) of = first-before (far a b) ports 512 (512 + i) (omega arith) (omega arith)
+      near-at (portOn output o) of = first-before (far a b) ports 528 (528 + o) (omega arith) (omega arith)
+      near-at (link k) of = first-before (far a b) (ports * 4) 544 (544 + k) (omega arith) (omega arith)
+      near-at total of = first-before (far a b) 1 608 608 (omega arith) (omega arith)
 
 pub count-most : {ports slots n : ℕ} {list frame : List ℕ} → RightFrame ports slots list frame → n ≡ flows list → 0 + n ≤ 609
 count-most r e = omega (arith, r .listed .few)
+
+module _ {ports slots : ℕ} {list frame : List ℕ} (r : RightFrame ports slots list frame) where
+  pub links-most : 544 + ports * 4 ≤ 609
+  links-most = omega (arith, r .listed .most)
+
+  pub links-fit : Fits w64 (ports * 4)
+  links-fit = record { fits = omega (arith, r .listed .most) }
+
+  pub links-end : Fits w64 (544 + ports * 4)
+  links-end = record { fits = omega (arith, r .listed .most) }
 
 -- ---- depths
 pub record Depths (ports slots k : ℕ) (list frame : List ℕ) (t count half : ℕ) : Type 0 where

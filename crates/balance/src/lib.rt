@@ -13,11 +13,11 @@ ghost use Rattle.balance.specs.Balance.{far};
 use calls::Inspection;
 use flows::flows_of;
 use tally::INPUTS_AT;
+use tally::LINKS_AT;
+use tally::OUTPUTS_AT;
 use tally::TALLY_PLACES;
+use tally::TOTAL_AT;
 use tally::tally_run;
-
-// The places behind the flows: inputs, outputs, links and the total. One that stands for none of them is 0 in every tally.
-const PAST_FLOWS: usize = TALLY_PLACES - INPUTS_AT;
 
 // Two counts differ by more than 1.
 fn apart(a: usize, b: usize) -> bool
@@ -69,7 +69,19 @@ fn unbalanced_at(
     if first_far(&front, &back, 0, count) < count {
         return true;
     }
-    first_far(&front, &back, INPUTS_AT, PAST_FLOWS) < TALLY_PLACES
+    if first_far(&front, &back, INPUTS_AT, ports) < INPUTS_AT + ports {
+        return true;
+    }
+    if first_far(&front, &back, OUTPUTS_AT, ports) < OUTPUTS_AT + ports {
+        return true;
+    }
+    if first_far(&front, &back, LINKS_AT, ports * 4) < LINKS_AT + ports * 4 {
+        return true;
+    }
+    if first_far(&front, &back, TOTAL_AT, 1) < TALLY_PLACES {
+        return true;
+    }
+    false
 }
 
 // The number of the first unbalanced block among some, end to end, of twice half slots; their count where there is none.

@@ -424,7 +424,7 @@ tally-length : (ports : ℕ) (list entries : List ℕ) → length (tallyOf ports
 unfolding tallyOf
 tally-length ports list entries = map-length (numberAt ports list entries) 0 609
 
-pub tally-at : (ports : ℕ) (list entries : List ℕ) (x : ℕ) → x < 609 → getD (tallyOf ports list entries) x 0 ≡ numberAt ports list entries x
+tally-at : (ports : ℕ) (list entries : List ℕ) (x : ℕ) → x < 609 → getD (tallyOf ports list entries) x 0 ≡ numberAt ports list entries x
 unfolding tallyOf
 tally-at ports list entries x h = map-at (numberAt ports list entries) 0 609 x h ∙ ap (numberAt ports list entries) (omega arith)
 
@@ -491,21 +491,6 @@ module _ (ports : ℕ) (list entries : List ℕ) where
   tally-is tally y =
       ext-getD 0 tally (tallyOf ports list entries) (y .size ∙ sym (tally-length ports list entries))
       (λ x h. number-is tally y x ∙ sym (tally-at ports list entries x (omega (arith, y .size))))
-
--- a place behind the flows is that of a class, or has 0 in every tally
-pub by-place : {P : Type 0} (ports : ℕ) (list : List ℕ) (x : ℕ) → flows list ≤ x → ((c : Class) → InList ports list c → place c ≡ x → P)
-    → (((entries : List ℕ) → numberAt ports list entries x ≡ 0) → P) → P
-unfolding numberAt
-by-place ports list x h class other =
-    byBool (within 512 (512 + ports - 1) x)
-    (λ f. let w = within-true 512 (512 + ports - 1) x f in class (portOn input (x - 512)) (omega arith) (omega arith))
-    (λ f. byBool (within 528 (528 + ports - 1) x)
-    (λ g. let w = within-true 528 (528 + ports - 1) x g in class (portOn output (x - 528)) (omega arith) (omega arith))
-    (λ g. byBool (within 544 (544 + ports * 4 - 1) x)
-    (λ k. let w = within-true 544 (544 + ports * 4 - 1) x k in class (link (x - 544)) (omega arith) (omega arith))
-    (λ k. byEq x 608
-    (λ e. class total tt (sym e))
-    (λ n. other (λ entries. rw (le-ltb x (flows list) h, f, g, k, ne-eqb x 608 n))))))
 
 pub tally-end : (ports start len t : ℕ) (list frame tally : List ℕ) → Tally ports list (runOf ports start t frame) tally → t ≤ len → len ≤ t
     → tally ≡ tallyOf ports list (runOf ports start len frame)
