@@ -15,7 +15,7 @@ use Rattle.planes.specs.Planes.{digitIn, digitAt, countAt, countsIn, wordsOf, s
 use Rattle.halves.specs.Steps.{halves, Grown, HalfPlanes}
 use Rattle.planes.proofs.Lists.{at-end}
 use Rattle.bits.proofs.Digits.{digit-most, digit-sum, twice-pow, binary-suc, binary-same, scaled}
-use Rattle.planes.proofs.Counts.{each-same, digit-le, count-parts, count-odd}
+use Rattle.planes.proofs.Counts.{map-same, digit-le, count-parts, count-odd}
 
 -- ---- one word
 -- what the planes above the lowest have at a position
@@ -144,7 +144,7 @@ module _ {m n : ℕ} {planes mask : List ℕ} (b : BlockPlanes m n planes) (k : 
 -- ---- the half
 pub halved-counts : {m n : ℕ} {planes mask old half : List ℕ} → HalfPlanes m n planes mask old half → countsIn m half n ≡ halves m planes mask n
 unfolding countsIn halves
-halved-counts {m} {n} {planes} {mask} {half = half} w = each-same (countAt m half) (λ p. countAt (suc m) planes p / 2 + digitAt mask p) 0 n (λ p h. w .each p (omega arith))
+halved-counts {m} {n} {planes} {mask} {half = half} w = map-same (countAt m half) (λ p. countAt (suc m) planes p / 2 + digitAt mask p) 0 n (λ p h. w .each p (omega arith))
 
 -- its counts are those of a block of half as many slots
 pub halved-block : {m n : ℕ} {planes mask old half : List ℕ} → HalfPlanes m n planes mask old half → BlockPlanes m n planes → Mask n planes mask → 1 ≤ m → BlockPlanes (m - 1) n half

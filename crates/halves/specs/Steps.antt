@@ -2,10 +2,11 @@
 use Prim.Native.Nat.{ℕ, suc, _+_, _-_, _*_, _/_, _%_, _^_, _≤_, _<_}
 use mathlib.Core.Path.{_≡_}
 use mathlib.Core.Logic.{_≢_}
-use mathlib.Core.List.{List}
+use mathlib.Core.List.{List, map}
 use lib.ListN.{length, getD}
+use Rattle.rules.specs.Words.{upFrom}
 use Rattle.bits.specs.Digits.{digit, binary}
-use Rattle.planes.specs.Planes.{digitIn, digitAt, countAt, each, wordsOf, spanOf}
+use Rattle.planes.specs.Planes.{digitIn, digitAt, countAt, wordsOf, spanOf}
 
 -- ---- mark
 -- Of the digits of a word, r has those whose position favours the first half.
@@ -29,7 +30,7 @@ pub record Others (n : ℕ) (planes old mask : List ℕ) : Type 0 where
 -- ---- halve
 -- Half of each of the first n counts, and one cell more where a mask has it.
 unfoldable pub halves : ℕ → List ℕ → List ℕ → ℕ → List ℕ
-halves m planes mask n = each (λ p. countAt (suc m) planes p / 2 + digitAt mask p) 0 n
+halves m planes mask n = map (λ p. countAt (suc m) planes p / 2 + digitAt mask p) (upFrom 0 n)
 
 -- Each count of word w of a half is what the planes above the lowest have, and one more where `extra` has it, if that has room. Every
 -- other word, and every plane from m on, is what it was.

@@ -1,7 +1,7 @@
 -- Counts read off the planes.
 use Prim.Native.Nat.{ℕ, suc, zero, _+_, _*_, _/_, _%_, _≤_, _<_}
 use mathlib.Core.Path.{_≡_, refl, sym, ap, ap₂, _∙_}
-use mathlib.Core.List.{List, [], _∷_}
+use mathlib.Core.List.{List, [], _∷_, map}
 use mathlib.Core.Bool.{false}
 use native.Mathlib.Omega.{arith}
 use lib.Dec.{eqb}
@@ -9,43 +9,35 @@ use lib.ListN.{length, getD}
 use borrow.Author.Tests.{ne-eqb}
 use Rattle.rules.specs.Words.{upFrom, keep}
 use Rattle.rules.specs.Rules.{odd}
+use Rattle.rules.proofs.Flows.{map-length, map-at}
 use Rattle.rules.proofs.Kept.{keep-same}
 use Rattle.bits.specs.Digits.{digit, binary}
-use Rattle.planes.specs.Planes.{digitIn, digitAt, countAt, each, countsIn, oddAt, oddsIn, spanOf, Ends, BlockPlanes}
+use Rattle.planes.specs.Planes.{digitIn, digitAt, countAt, countsIn, oddAt, oddsIn, spanOf, Ends, BlockPlanes}
 use Rattle.bits.proofs.Digits.{digit-most, binary-up}
 
 -- ---- lists of counts
-pub each-length : (f : ℕ → ℕ) (a n : ℕ) → length (each f a n) ≡ n
-each-length f a zero = refl
-each-length f a (suc n) = ap suc (each-length f (suc a) n)
+pub map-same : (f g : ℕ → ℕ) (a n : ℕ) → ((p : ℕ) → p < a + n → f p ≡ g p) → map f (upFrom a n) ≡ map g (upFrom a n)
+map-same f g a zero e = refl
+map-same f g a (suc n) e = ap₂ (λ (x : ℕ) (l : List ℕ). x ∷ l) (e a (omega arith)) (map-same f g (suc a) n (λ p h. e p (omega arith)))
 
-pub each-at : (f : ℕ → ℕ) (a n p : ℕ) → p < n → getD (each f a n) p 0 ≡ f (a + p)
-each-at f a zero p h = absurd (omega arith)
-each-at f a (suc n) zero h = ap f (omega arith)
-each-at f a (suc n) (suc p) h = each-at f (suc a) n p (omega arith) ∙ ap f (omega arith)
-
-pub each-same : (f g : ℕ → ℕ) (a n : ℕ) → ((p : ℕ) → p < a + n → f p ≡ g p) → each f a n ≡ each g a n
-each-same f g a zero e = refl
-each-same f g a (suc n) e = ap₂ (λ (x : ℕ) (l : List ℕ). x ∷ l) (e a (omega arith)) (each-same f g (suc a) n (λ p h. e p (omega arith)))
-
-pub each-is : (f : ℕ → ℕ) (a : ℕ) (l : List ℕ) → ((p : ℕ) → p < length l → f (a + p) ≡ getD l p 0) → each f a (length l) ≡ l
-each-is f a [] e = refl
-each-is f a (x ∷ l) e =
+pub map-is : (f : ℕ → ℕ) (a : ℕ) (l : List ℕ) → ((p : ℕ) → p < length l → f (a + p) ≡ getD l p 0) → map f (upFrom a (length l)) ≡ l
+map-is f a [] e = refl
+map-is f a (x ∷ l) e =
     ap₂ (λ (y : ℕ) (z : List ℕ). y ∷ z) (ap f (omega arith) ∙ e 0 (omega arith))
-    (each-is f (suc a) l (λ p k. ap f (omega arith) ∙ e (suc p) (omega arith)))
+    (map-is f (suc a) l (λ p k. ap f (omega arith) ∙ e (suc p) (omega arith)))
 
 pub counts-length : (k : ℕ) (planes : List ℕ) (n : ℕ) → length (countsIn k planes n) ≡ n
 unfolding countsIn
-counts-length k planes n = each-length (countAt k planes) 0 n
+counts-length k planes n = map-length (countAt k planes) 0 n
 
 pub counts-at : (k : ℕ) (planes : List ℕ) (n p : ℕ) → p < n → getD (countsIn k planes n) p 0 ≡ countAt k planes p
 unfolding countsIn
-counts-at k planes n p h = each-at (countAt k planes) 0 n p h ∙ ap (countAt k planes) (omega arith)
+counts-at k planes n p h = map-at (countAt k planes) 0 n p h ∙ ap (countAt k planes) (omega arith)
 
 -- a list that has the count of each position
 pub counts-are : (k : ℕ) (planes l : List ℕ) → ((p : ℕ) → p < length l → countAt k planes p ≡ getD l p 0) → countsIn k planes (length l) ≡ l
 unfolding countsIn
-counts-are k planes l e = each-is (countAt k planes) 0 l (λ p h. ap (countAt k planes) (omega arith) ∙ e p h)
+counts-are k planes l e = map-is (countAt k planes) 0 l (λ p h. ap (countAt k planes) (omega arith) ∙ e p h)
 
 -- ---- odd counts, by the lowest plane
 lowest : (planes : List ℕ) (p : ℕ) → digitIn planes p 0 ≡ digitAt planes p

@@ -1,8 +1,8 @@
 -- Plane b has digit b of every count, 64 counts to a word and 9 words to a plane.
-use Prim.Native.Nat.{ℕ, suc, zero, _+_, _*_, _/_, _%_, _^_, _≤_, _<_}
+use Prim.Native.Nat.{ℕ, suc, _+_, _*_, _/_, _%_, _^_, _≤_, _<_}
 use mathlib.Core.Path.{_≡_}
 use mathlib.Core.Bool.{Bool}
-use mathlib.Core.List.{List, [], _∷_}
+use mathlib.Core.List.{List, map}
 use lib.Dec.{eqb}
 use lib.ListN.{length, getD}
 use Rattle.rules.specs.Words.{keep, upFrom}
@@ -20,14 +20,9 @@ digitAt mask p = digit (getD mask (p / 64) 0) (p % 64)
 unfoldable pub countAt : ℕ → List ℕ → ℕ → ℕ
 countAt k planes p = binary k (digitIn planes p)
 
--- f a, f (a + 1), .., n of them
-abbrev pub each : (ℕ → ℕ) → ℕ → ℕ → List ℕ
-each f a zero = []
-each f a (suc n) = f a ∷ each f (suc a) n
-
 -- The first n counts.
 unfoldable pub countsIn : ℕ → List ℕ → ℕ → List ℕ
-countsIn k planes n = each (countAt k planes) 0 n
+countsIn k planes n = map (countAt k planes) (upFrom 0 n)
 
 -- Whether the count at a position is odd, and which of the first n are, rising.
 abbrev pub oddAt : List ℕ → ℕ → Bool

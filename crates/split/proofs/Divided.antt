@@ -2,7 +2,7 @@
 use Prim.Native.Nat.{ℕ, suc, _+_, _/_, _≤_, _<_}
 use mathlib.Core.Path.{_≡_, refl, sym, ap, ap₂, _∙_}
 use mathlib.Core.Logic.{_≢_}
-use mathlib.Core.List.{List}
+use mathlib.Core.List.{List, map}
 use mathlib.Core.Bool.{true, false}
 use native.Mathlib.Omega.{arith}
 use lib.Dec.{eqb}
@@ -19,10 +19,10 @@ use Rattle.rules.proofs.Singles.{mate}
 use Rattle.rules.proofs.Kept.{keep-every, keep-rising, keep-most}
 use Rattle.rules.proofs.Settled.{favours-law}
 use Rattle.rules.proofs.Splits.{half-at, half-length}
-use Rattle.planes.specs.Planes.{digitAt, countAt, each, countsIn, oddAt, oddsIn}
+use Rattle.planes.specs.Planes.{digitAt, countAt, countsIn, oddAt, oddsIn}
 use Rattle.planes.specs.Steps.{Gathered}
 use Rattle.halves.specs.Steps.{halves, Marked, Others}
-use Rattle.planes.proofs.Counts.{each-is, counts-length, counts-at, digit-le, odd-is, odds-are}
+use Rattle.planes.proofs.Counts.{map-is, counts-length, counts-at, digit-le, odd-is, odds-are}
 use Rattle.halves.proofs.Marked.{others-mask}
 use Rattle.planes.specs.Tables.{tabled}
 use Rattle.groups.specs.Steps.{ReachesAll, SettledBy}
@@ -178,7 +178,7 @@ half-is {h} {n} {planes} {ends} {mask} v some m =
     let l : length f ≡ length c = favours-law (tabled ends) c .len in
     let size : length (halfBy h c f) ≡ n = half-length h c f l ∙ counts-length (suc m) planes n in
     let half : ℕ → ℕ = λ p. countAt (suc m) planes p / 2 + digitAt mask p in
-    ap (each half 0) (sym size)
-    ∙ each-is half 0 (halfBy h c f) (λ p k.
+    ap (λ (n : ℕ). map half (upFrom 0 n)) (sym size)
+    ∙ map-is half 0 (halfBy h c f) (λ p k.
     let at : 0 + p ≡ p = omega arith in
     rw at (ap₂ (λ (x y : ℕ). x / 2 + y) (sym (counts-at (suc m) planes n p (omega arith))) (v .has m p (omega arith)) ∙ sym (half-at h c f p some l)))
