@@ -54,4 +54,4 @@ unbalanced-at-spec =
     (count .flows-of .ensures) (pairs .before .first-far .ensures) (inputs .before .first-far2 .ensures)
     (outputs .before .first-far3 .ensures)
     (links .before .first-far4 .ensures) (c .before .first-far5 .ensures)
-    (pairs .if1 .left) (inputs .if2 .left) (outputs .if3 .left) (links .if4 .left) (omega (arith, c .if5 .left))))
+    (pairs .if1 .left) (inputs .if2 .left) (outputs .if3 .left) (links .if4 .left) (search needs)))
