@@ -24,7 +24,7 @@ use Rattle.calls.specs.declared.Who.the-variants.{Flow, Input, Output}
 use Rattle.checks.specs.Lists.{ListAnswer}
 use Rattle.checks.specs.Fits.{ListFits}
 use Rattle.admission.specs.Overloads.{EveryLoad, decidedPorts}
-use Rattle.depth.specs.Steps.{Room, PortLoads}
+use Rattle.depth.specs.Steps.{LoadWithin, PortLoads}
 use Rattle.rules.proofs.Cases.{within-true}
 use Rattle.rules.proofs.Halves.{load-flow}
 use Rattle.rules.proofs.Flows.{counts-at}
@@ -91,7 +91,7 @@ module _ {list : List ℕ} {who : Who} {ins outs : List ℕ} (l : PortLoads list
         rw is (e ∙ l .of-outputs .each (o - 1) (omega (arith, w .0, w .1)))
 
 -- ---- the answer for a load that fits
-module _ {slots m : ℕ} (room : Room slots m) where
+module _ {slots m : ℕ} (room : LoadWithin slots m) where
   -- the numbers that it is made of
   pub record BoundLow : Type 0 where
     pub some-slot : 1 ≤ slots
@@ -192,7 +192,7 @@ module _ {ports slots : ℕ} {list : List ℕ} {a : Answer} (l : ListAnswer port
               of-outputs = loads .of-outputs;
             }
 
-        pub who-room : {m : ℕ} → m ≡ load (classOf who) list → Room slots m
+        pub who-room : {m : ℕ} → m ≡ load (classOf who) list → LoadWithin slots m
         who-room is =
             record {
               power = list-well l e .power;

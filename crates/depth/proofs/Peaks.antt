@@ -7,7 +7,7 @@ use native.Mathlib.Nat.{mod-lt, div-add-mod', div-eq-of-lt-le, mul-le-mul-left, 
 use lib.Pow.{pow-pos}
 use Rattle.rules.specs.Frames.{levels}
 use Rattle.strays.specs.Stray.{earliest, stray}
-use Rattle.depth.specs.Steps.{peak, Room, BothPeaks}
+use Rattle.depth.specs.Steps.{peak, LoadWithin, BothPeaks}
 use Rattle.rules.proofs.Cases.{byEq, byLt}
 use Rattle.rules.proofs.Levels.{double, pow-only, power-level, power-most}
 use Rattle.strays.proofs.Earliest.{earliest-near, earliest-far, earliest-most, earliest-slot, by-half}
@@ -73,7 +73,7 @@ unfolding peak stray
 peak-whole k m = refl
 
 -- ---- the blocks of one size
-module _ {slots m size low high : ℕ} (room : Room slots m) (both : BothPeaks slots m size low high) where
+module _ {slots m size low high : ℕ} (room : LoadWithin slots m) (both : BothPeaks slots m size low high) where
   some : 1 ≤ slots
   some = omega (arith, room .power .is, pow-pos (room .power .k))
 
@@ -175,7 +175,7 @@ module _ {slots m size low high : ℕ} (room : Room slots m) (both : BothPeaks s
         }
 
 -- ---- from one slot to the whole frame
-module _ {slots m : ℕ} (room : Room slots m) where
+module _ {slots m : ℕ} (room : LoadWithin slots m) where
   -- there is a slot, and no number is too large
   pub record WholeLow : Type 0 where
     pub some-slot : 1 ≤ slots

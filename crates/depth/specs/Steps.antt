@@ -13,8 +13,8 @@ use Rattle.strays.specs.Stray.{earliest, largest}
 unfoldable pub peak : ℕ → ℕ → ℕ → ℕ → ℕ
 peak slots m j x = largest (suc (2 ^ j)) (λ t. slots * earliest j x t - t * m)
 
--- A frame of 2 ^ k slots has room for its load.
-pub record Room (slots m : ℕ) : Type 0 where
+-- A load that a frame of 2 ^ k slots has room for.
+pub record LoadWithin (slots m : ℕ) : Type 0 where
   pub power : Power slots
   pub fits : m ≤ slots
 

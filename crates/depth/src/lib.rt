@@ -7,7 +7,7 @@ ghost use Rattle.rules.specs.Frames.{levels};
 ghost use Rattle.strays.specs.Stray.{stray};
 ghost use Rattle.calls.specs.Service.{classOf};
 ghost use Rattle.calls.specs.Depth.{farthest, mostWaiting, depthNumbers, depth};
-ghost use Rattle.depth.specs.Steps.{Room, BothPeaks, PortLoads};
+ghost use Rattle.depth.specs.Steps.{LoadWithin, BothPeaks, PortLoads};
 use calls::Answer;
 use calls::Depth;
 use calls::Refusal;
@@ -33,7 +33,7 @@ fn joined(first: usize, cells: usize, second: usize, share: usize) -> usize
 
 // The peaks of the blocks of twice the size, which have twice as many cells as their halves, one more or two more.
 fn doubled(slots: usize, m: usize, size: usize, peaks: TwoPeaks) -> TwoPeaks
-    requires { ⌜ Room slots m × BothPeaks slots m size (peaks .low) (peaks .high) × (size < slots) ⌝ }
+    requires { ⌜ LoadWithin slots m × BothPeaks slots m size (peaks .low) (peaks .high) × (size < slots) ⌝ }
     ensures { λ r. ⌜ BothPeaks slots m (size * 2) (r .low) (r .high) ⌝ }
 {
     let share = m * size;
@@ -49,7 +49,7 @@ fn doubled(slots: usize, m: usize, size: usize, peaks: TwoPeaks) -> TwoPeaks
 
 // The stray of a load, from the blocks of one slot up.
 fn stray_of(slots: usize, m: usize) -> usize
-    requires { ⌜ Room slots m ⌝ }
+    requires { ⌜ LoadWithin slots m ⌝ }
     ensures { λ r. ⌜ r ≡ stray (levels slots) m ⌝ }
 {
     let whole = m / slots;
@@ -79,7 +79,7 @@ fn load_of<'a>(list: &[u16], who: Who, inputs: &'a [usize; 16], outputs: &'a [us
 
 // What is answered for a load that fits: slots - 1 parts of a cell that came early, twice the stray and the load itself, in whole cells.
 fn bound_of(slots: usize, m: usize) -> Depth
-    requires { ⌜ Room slots m ⌝ }
+    requires { ⌜ LoadWithin slots m ⌝ }
     ensures { λ r. ⌜ depthNumbers r ≡ 0 ∷ farthest slots m ∷ mostWaiting slots m ∷ [] ⌝ }
 {
     let parts = 2 * stray_of(slots, m);
