@@ -13,7 +13,7 @@ use lib.ListN.{length, getD, replicate, length-replicate, getD-replicate}
 use borrow.Author.Tests.{eq-eqb, ne-eqb}
 use Rattle.rules.specs.Words.{if, bit, sumTo, sumIf}
 use Rattle.rules.specs.Flows.{stride, flows, End, inputs, links, outputOf, portOf, countsOf, flow, portOn, input, output, total, loadIn, load, Fits}
-use Rattle.rules.specs.Frames.{counts, cells, Power}
+use Rattle.rules.specs.Frames.{counts, cells, cellsOn, Power}
 use Rattle.calls.specs.Refusals.{slotsEach}
 use Rattle.rules.specs.OddShares.{oddShares, settled}
 use Rattle.calls.specs.Work.{oddFlows, blockOf, work}
@@ -78,12 +78,12 @@ one-number e (suc n) =
     (λ d. omega (arith, sum-more n (λ f. bit (eqb e (suc f))), is-no e (suc n) d, one-number e n))
 
 odd-cells : (ports : ℕ) (list entries : List ℕ) → oddFlows ports list entries ≤ length entries
-unfolding cells
+unfolding cellsOn
 odd-cells ports list entries =
     let one : ℕ → ℕ → ℕ = λ f q. bit (counts (flow f) list (q % ports) (getD entries q 0)) in
     let odd = sum-le (flows list) _ (λ f. sumTo (length entries) (one f)) (λ f h. mod-le (sumTo (length entries) (one f)) 2) in
     let entry = sum-most (length entries) 1 (λ q. sumTo (flows list) (λ f. one f q)) (λ q h.
-    rw (sum-ext (flows list) _ _ (λ f l. flow-counts list f (q % ports) (getD entries q 0) l)) (one-number (getD entries q 0) (flows list))) in
+    rw (sum-ext (flows list) _ _ (λ f l. flow-counts input list f (q % ports) (getD entries q 0) l)) (one-number (getD entries q 0) (flows list))) in
     omega (arith, odd, entry, sum-swap (flows list) (length entries) one)
 
 odd-flows : (ports : ℕ) (list entries : List ℕ) → oddFlows ports list entries ≤ flows list

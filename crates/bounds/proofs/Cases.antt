@@ -8,7 +8,7 @@ use native.Mathlib.Omega.{arith}
 use lib.IntN.{natAbs}
 use lib.ListN.{replicate}
 use Rattle.rules.specs.Words.{sumTo, Every}
-use Rattle.rules.specs.Flows.{flow, total, portOf, countsOf, loadIn, load}
+use Rattle.rules.specs.Flows.{flow, total, portOf, countsOf, loadIn, load, input}
 use Rattle.rules.specs.Schedule.{walk, settleAt, favours, slotOf, frameOf}
 use Rattle.calls.specs.Refusals.{slotsEach}
 use Rattle.calls.specs.Build.{buildChecks, buildAccepts, frameAfter}
@@ -119,7 +119,7 @@ lead-by-load-case b start len = omega (arith, b 2 4 asked (slotsEach 4) lent acc
 pub lead-repeats-case : BuiltLead → (start len : ℕ) → natAbs (lead (flow 1) 2 4 asked left start len) ≤ 4
 lead-repeats-case b start len = omega (arith, four, b 2 4 asked (slotsEach 4) lent accepts 2 refl (flow 1) tt start len .repeats)
 
-pub answered-case : AnsweredLead → (start len : ℕ) → 3 * natAbs (service 2 4 asked left (Flow 1) start len .ahead) ≤ 20
+pub answered-case : AnsweredLead → (start len : ℕ) → 3 * natAbs (service input 2 4 asked left (Flow 1) start len .ahead) ≤ 20
 answered-case a start len = omega (arith, a 2 4 asked (slotsEach 4) lent accepts 2 refl (Flow 1) start len)
 
 -- a run over the seam, one that begins with the second frame, and one that ends with the first

@@ -9,11 +9,11 @@ use lib.IntN.{pos, _-ℤ_, natAbs}
 use lib.ListN.{length}
 use lib.Pow.{pow-pos}
 use Rattle.rules.specs.Words.{Near}
-use Rattle.rules.specs.Flows.{Class, OnSwitch, load}
+use Rattle.rules.specs.Flows.{Class, OnSwitch, load, input}
 use Rattle.rules.specs.Frames.{cells, runOf, Legal, Balanced, repeated}
 use Rattle.calls.specs.Refusals.{none-holds}
 use Rattle.calls.specs.Build.{frameAfter}
-use Rattle.calls.specs.Service.{classOf, lead, countChecks, service}
+use Rattle.calls.specs.Service.{classOf, lead, leadOn, countChecks, service}
 use Rattle.strays.specs.Stray.{stray}
 use Rattle.strays.specs.Deviation.{repeatDeviation}
 use Rattle.bounds.specs.Lead.{Led, BuiltLead, AnsweredLead}
@@ -30,10 +30,10 @@ use Rattle.calls.proofs.Demand2.{build-sound}
 -- whole turns are neither ahead nor behind
 pub lead-turns : (c : Class) (ports slots : ℕ) (list entries : List ℕ) → length entries ≡ slots * ports → 1 ≤ slots → (start w : ℕ)
     → lead c ports slots list entries start (w * slots) ≡ pos 0
-unfolding lead
+unfolding leadOn
 lead-turns c ports slots list entries size h start w =
     let e : slots * cells c ports list (repeated ports slots entries start (w * slots)) ≡ w * slots * cells c ports list entries
-    = omega (arith, ap (λ z. slots * z) (cells-rounds ports slots list entries size c h start w)) in
+    = omega (arith, ap (λ z. slots * z) (cells-rounds input ports slots list entries size c h start w)) in
     minus-same _ _ e
 
 -- ---- of a legal and balanced frame
@@ -78,14 +78,14 @@ module _ {ports slots : ℕ} {list entries : List ℕ} (legal : Legal ports slot
       let near = rest-near from head tail (omega arith) (omega arith) (λ n. omega arith) in
       let sum : head + tail ≡ len % slots = omega arith in
       let parts : cells c ports list (repeated ports slots entries start len) ≡ turns * m + (cells c ports list (runOf ports from head entries) + front tail)
-      = cells-from ports slots list entries (legal .size) c h start len
-      ∙ cells-turns ports slots list entries (legal .size) c from len turns head tail low refl refl sum
+      = cells-from input ports slots list entries (legal .size) c h start len
+      ∙ cells-turns input ports slots list entries (legal .size) c from len turns head tail low refl refl sum
       ∙ ap (λ z. turns * z + (cells c ports list (runOf ports from head entries) + front tail)) whole in
       let length-is : len ≡ turns * slots + (head + tail) = omega (arith, div-add-mod' len slots) in
       omega (arith, near .0, near .1, ap (λ z. slots * z) parts, ap (λ z. z * m) length-is)
 
   pub sound-lead : (start len : ℕ) → Led c ports slots k list entries start len
-  unfolding lead
+  unfolding leadOn
   sound-lead start len =
       let share : len * cells c ports list entries ≡ len * m = ap (λ z. len * z) whole in
       let by : (gap : ℕ) → Near gap (slots * cells c ports list (repeated ports slots entries start len)) (len * m) → natAbs (lead c ports slots list entries start len) ≤ gap

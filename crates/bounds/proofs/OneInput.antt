@@ -10,7 +10,7 @@ use native.Mathlib.Nat.{add-zero, zero-add}
 use lib.Dec.{eqb}
 use lib.ListN.{length, getD, replicate, length-append}
 use Rattle.rules.specs.Words.{if, both, sumTo, upFrom}
-use Rattle.rules.specs.Flows.{End, inputs, links, portOf, countsOf, Class, flow, link, isOf, loadIn, Fits}
+use Rattle.rules.specs.Flows.{End, inputs, links, portOf, countsOf, Class, flow, link, isOf, loadIn, Fits, input}
 use Rattle.rules.specs.Frames.{cells, runOf}
 use Rattle.calls.specs.Refusals.{slotsEach}
 use Rattle.rules.specs.Rules.{odd}
@@ -172,7 +172,7 @@ module _ (D C : ℕ) where
   pub row-parts : (j d c s t : ℕ) → d + c ≤ 2 ^ j → s + t ≡ 2 ^ j → cellsOf (runOf 2 0 s (laid j d c)) + cellsOf (runOf 2 s t (laid j d c)) ≡ c
   row-parts j d c s t h e =
       let f = laid j d c in
-      let sum : cellsOf (runOf 2 0 (s + t) f) ≡ cellsOf (runOf 2 0 s f) + cellsOf (runOf 2 s t f) = rw zero-add at (cells-run 2 (listed D C) second 0 s t f (omega (arith, laid-length j d c))) in
+      let sum : cellsOf (runOf 2 0 (s + t) f) ≡ cellsOf (runOf 2 0 s f) + cellsOf (runOf 2 s t f) = rw zero-add at (cells-run input 2 (listed D C) second 0 s t f (omega (arith, laid-length j d c))) in
       omega (arith, ap (λ z. cellsOf (runOf 2 0 z f)) e, row-cells j d c h)
 
   -- a run over the seam of v, of n slots, and w
@@ -180,7 +180,7 @@ module _ (D C : ℕ) where
       → cellsOf (runOf 2 s (t + r) (v ++ w)) ≡ cellsOf (runOf 2 s t v) + cellsOf (runOf 2 0 r w)
   seam-cells n s t r v w e h =
       let z : s + t ≡ n + 0 = omega arith in
-      cells-run 2 (listed D C) second s t r (v ++ w) (omega (arith, length-append v w))
+      cells-run input 2 (listed D C) second s t r (v ++ w) (omega (arith, length-append v w))
       ∙ ap₂ _+_
       (ap cellsOf (run-first 2 n s t v w e (omega arith)))
       (ap (λ y. cellsOf (runOf 2 y r (v ++ w))) z ∙ ap cellsOf (run-second 2 n 0 r v w e))

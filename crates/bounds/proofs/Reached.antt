@@ -7,7 +7,7 @@ use native.Mathlib.Omega.{arith}
 use lib.ListN.{length, getD, replicate, length-replicate}
 use Rattle.rules.specs.Words.{sumTo, Every}
 use Rattle.rules.specs.Flows.{portOf, countsOf, flow, load}
-use Rattle.rules.specs.Frames.{cells, runOf}
+use Rattle.rules.specs.Frames.{cellsOn, runOf}
 use Rattle.rules.specs.Schedule.{slotOf, frameOf}
 use Rattle.strays.specs.Stray.{earliest, stray}
 use Rattle.wire.specs.Wire.{Call, Carried, none, chain, cellsIn, inside, share, Shape}
@@ -73,7 +73,7 @@ module _ (D C : ℕ) where
 
   -- one slot
   first-slot : (c t : ℕ) → c ≤ 1 → t ≤ 1 → first-of D C 0 c t ≡ earliest 0 c t
-  unfolding cells runOf sumTo portOf slotOf frameOf earliest
+  unfolding cellsOn runOf sumTo portOf slotOf frameOf earliest
   first-slot zero zero h g = refl
   first-slot zero (suc zero) h g = refl
   first-slot (suc zero) zero h g = refl
@@ -83,7 +83,7 @@ module _ (D C : ℕ) where
   first-slot (suc (suc c)) t h g = absurd (omega arith)
 
   last-slot : (c t : ℕ) → c ≤ 1 → t ≤ 1 → last-of D C 0 c t ≡ earliest 0 c t
-  unfolding cells runOf sumTo portOf slotOf frameOf earliest
+  unfolding cellsOn runOf sumTo portOf slotOf frameOf earliest
   last-slot zero zero h g = refl
   last-slot zero (suc zero) h g = refl
   last-slot (suc zero) zero h g = refl

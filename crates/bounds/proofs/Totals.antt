@@ -9,7 +9,7 @@ use native.Mathlib.Nat.{zero-add}
 use lib.Dec.{eqb}
 use lib.ListN.{length, getD, length-append}
 use Rattle.rules.specs.Words.{bit, sumTo, Every}
-use Rattle.rules.specs.Flows.{flows, End, portOf, countsOf, total, loadIn, load, Fits}
+use Rattle.rules.specs.Flows.{flows, End, portOf, countsOf, total, loadIn, load, Fits, input}
 use Rattle.rules.specs.Frames.{cells, runOf, levels}
 use Rattle.rules.specs.Schedule.{favouring, favours, halfOf, slotOf, frameOf}
 use Rattle.calls.specs.Build.{buildAccepts, frameAfter}
@@ -77,7 +77,7 @@ module _ (ports : ℕ) (list : List ℕ) (placed : AtInputs ports (portOf list) 
       let entries = slotOf ports port m in
       byEq t 0
       (λ e.
-      ap (λ z. firstOf z entries) e ∙ ap (cells total ports list) (run-none ports 0 entries) ∙ cells-none ports list total
+      ap (λ z. firstOf z entries) e ∙ ap (cells total ports list) (run-none ports 0 entries) ∙ cells-none input ports list total
       ∙ sym (ap (earliest 0 (loadIn total port m)) e ∙ earliest-none 0 (loadIn total port m)))
       (λ e.
       let x : t ≡ 1 = omega arith in
@@ -99,7 +99,7 @@ module _ (ports : ℕ) (list : List ℕ) (placed : AtInputs ports (portOf list) 
       = ap (cells total ports list) (run-first ports (2 ^ k) 0 (2 ^ k) v w lv (omega arith)) ∙ fv (2 ^ k) (omega arith) ∙ earliest-all k x in
       let two : cells total ports list (runOf ports (0 + 2 ^ k) t (v ++ w)) ≡ earliest k y t
       = ap (λ b. cells total ports list (runOf ports b t (v ++ w))) z ∙ ap (cells total ports list) (run-second ports (2 ^ k) 0 t v w lv) ∙ fw t h in
-      cells-run ports list total 0 (2 ^ k) t (v ++ w) (omega (arith, length-append v w, ap (λ b. b * ports) (zero-add (2 ^ k))))
+      cells-run input ports list total 0 (2 ^ k) t (v ++ w) (omega (arith, length-append v w, ap (λ b. b * ports) (zero-add (2 ^ k))))
       ∙ ap₂ _+_ one two
       ∙ sym (earliest-far k n t ∙ ap₂ (λ a b. a + earliest k b t) (sym ex) (sym ey)))
 

@@ -4,7 +4,7 @@ use mathlib.Core.Path.{_≡_}
 use mathlib.Core.List.{List}
 use mathlib.Core.Bool.{true}
 use lib.IntN.{pos, _-ℤ_, natAbs}
-use Rattle.rules.specs.Flows.{Class, OnSwitch, load}
+use Rattle.rules.specs.Flows.{Class, OnSwitch, load, input}
 use Rattle.rules.specs.Frames.{cells, repeated}
 use Rattle.calls.specs.Build.{buildAccepts, frameAfter}
 use Rattle.calls.specs.Service.{lead, service}
@@ -37,4 +37,4 @@ BuiltLead =
 abbrev pub AnsweredLead : Type 0
 AnsweredLead =
     (ports slots : ℕ) (list limits buffer : List ℕ) → buildAccepts ports slots list limits buffer ≡ true → (k : ℕ) → slots ≡ 2 ^ k
-    → (who : Who) (start len : ℕ) → 3 * natAbs (service ports slots list (frameAfter ports slots list limits buffer) who start len .ahead) ≤ (2 * k + 1) * slots
+    → (who : Who) (start len : ℕ) → 3 * natAbs (service input ports slots list (frameAfter ports slots list limits buffer) who start len .ahead) ≤ (2 * k + 1) * slots

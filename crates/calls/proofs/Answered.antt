@@ -9,15 +9,15 @@ use lib.Pow.{pow-pos}
 use lib.IntN.{ℤ, pos, _-ℤ_}
 use lib.ListN.{length, getD}
 use borrow.Author.Tests.{not-false}
-use Rattle.rules.specs.Flows.{flows, portOf, countsOf, Class, flow, portOn, input, output, load, Fits}
-use Rattle.rules.specs.Frames.{cells, repeated, Power}
+use Rattle.rules.specs.Flows.{flows, portOf, countsOf, Side, Class, flow, portOn, input, output, load, Fits}
+use Rattle.rules.specs.Frames.{cellsOn, repeated, Power}
 use Rattle.strays.specs.Stray.{stray}
 use Rattle.calls.specs.Refusals.{Check, report, none-holds, bad-ports, bad-slots, bad-list, too-many-flows, port-outside, link-outside, listChecks, bad-frame, bad-slot, overload, overloads, admitted}
 use Rattle.rules.specs.Schedule.{frameOf}
 use Rattle.calls.specs.Work.{work}
 use Rattle.calls.specs.Build.{frameAfter, buildChecks, acceptance, built}
-use Rattle.calls.specs.Inspect.{wrongEntry, outputTwice, flowCount, unbalancedBlock, inspected}
-use Rattle.calls.specs.Service.{viewChecks, viewNumber, viewStart, viewSize, viewed, classOf, bad-who, bad-length, lead, Reply, countChecks, service}
+use Rattle.calls.specs.Inspect.{faultChecks, inspected}
+use Rattle.calls.specs.Service.{viewChecks, viewNumber, viewStart, viewSize, viewed, classOf, bad-who, bad-length, leadOn, Reply, countChecks, service}
 use Rattle.calls.specs.Depth.{depthChecks, farthest, mostWaiting, depth}
 use Rattle.calls.specs.declared.Who.{Who}
 use Rattle.calls.specs.declared.Who.the-variants.{Flow, Input, Output}
@@ -199,21 +199,17 @@ module _ (ports slots : ℕ) (list limits buffer : List ℕ) where
       (frameOf ports (portOf list) (w .power .k) (countsOf list)) (well-frame ports slots list w fits))))))
 
 -- ---- Inspect
-module _ (ports slots : ℕ) (list entries : List ℕ) where
-  -- the faults in their order
-  abbrev faults : List Check
-  faults = wrongEntry ports slots list entries ∷ outputTwice ports slots list entries ∷ flowCount ports list entries ∷ unbalancedBlock ports slots list entries ∷ []
-
+module _ (side : Side) (ports slots : ℕ) (list entries : List ℕ) where
   -- what a case says is Inspect's answer
-  inspect-only : (given : List ℕ) → Inspects ports slots list entries given → given ≡ inspected ports slots list entries
+  inspect-only : (given : List ℕ) → Inspects side ports slots list entries given → given ≡ inspected side ports slots list entries
   unfolding inspected
-  inspect-only given (refused r) = sym (frame-reported ports slots list entries faults (0 ∷ []) r)
-  inspect-only given (found w e f) = find-only ports slots list entries w e given f
+  inspect-only given (refused r) = sym (frame-reported ports slots list entries (faultChecks side ports slots list entries) (0 ∷ []) r)
+  inspect-only given (found w e f) = find-only side ports slots list entries w e given f
 
-  pub inspect-exactly : Exactly (Inspects ports slots list entries) (inspected ports slots list entries)
+  pub inspect-exactly : Exactly (Inspects side ports slots list entries) (inspected side ports slots list entries)
   inspect-exactly =
       byFrame ports slots list entries (λ n r. exactly inspect-only (refused r))
-      (λ w e. exactly inspect-only (found w e (fault-means ports slots list entries w e)))
+      (λ w e. exactly inspect-only (found w e (fault-means side ports slots list entries w e)))
 
 -- ---- Slot view
 module _ (ports slots : ℕ) (entries : List ℕ) (slot : ℕ) where
@@ -260,7 +256,7 @@ who-tells ports list who = record { met = λ n. met-of who (n .0) (n .1); known 
     known-of (Input i) e = from-one (λ i. (c : Class) × Names ports list (Input i) c) ports i (within-true 1 ports i (not-false _ e)) (λ x l. (portOn input x, of-input l))
     known-of (Output o) e = from-one (λ o. (c : Class) × Names ports list (Output o) c) ports o (within-true 1 ports o (not-false _ e)) (λ x l. (portOn output x, of-output l))
 
-module _ (ports slots : ℕ) (list entries : List ℕ) (who : Who) (start len : ℕ) where
+module _ (side : Side) (ports slots : ℕ) (list entries : List ℕ) (who : Who) (start len : ℕ) where
   -- 11, then 12, then 13
   abbrev startChecks : List Check
   startChecks = bad-slot slots start ∷ bad-who ports list who ∷ bad-length len ∷ []
@@ -269,12 +265,12 @@ module _ (ports slots : ℕ) (list entries : List ℕ) (who : Who) (start len : 
   lastChecks = bad-who ports list who ∷ bad-length len ∷ []
 
   abbrev asked : List ℕ
-  asked = count ports slots list entries who start len
+  asked = count side ports slots list entries who start len
 
   reply : {n : ℕ} → report (listChecks ports slots list ++ (bad-frame ports slots entries ∷ startChecks)) asked ≡ n ∷ [] → 0 < n
-      → _≡_ {A = Reply} (record { numbers = n ∷ []; ahead = pos 0 }) (service ports slots list entries who start len)
+      → _≡_ {A = Reply} (record { numbers = n ∷ []; ahead = pos 0 }) (service side ports slots list entries who start len)
   unfolding countChecks
-  reply e h = reply-refused ports slots list entries who start len e (λ z. omega arith)
+  reply e h = reply-refused side ports slots list entries who start len e (λ z. omega arith)
 
   run-met : {s : ℕ} → RunFound ports slots list entries start s → bad-slot slots start .0 ≡ false
   run-met f = slot-tells slots start .met (let l = f .low in let e = f .number in (omega arith, omega arith))
@@ -286,18 +282,18 @@ module _ (ports slots : ℕ) (list entries : List ℕ) (who : Who) (start len : 
 
   -- a run that is counted: its cells, and its lead
   found-counted : {s : ℕ} → RunFound ports slots list entries start s → {c : Class} → Names ports list who c → len ≤ 1000000 → {z : ℤ}
-      → pos (slots * cells c ports list (repeated ports slots entries s len)) -ℤ pos (len * cells c ports list entries) ≡ z
-      → _≡_ {A = Reply} (record { numbers = 0 ∷ cells c ports list (repeated ports slots entries s len) ∷ []; ahead = z }) (service ports slots list entries who start len)
-  unfolding countChecks lead
+      → pos (slots * cellsOn side ports list c (repeated ports slots entries s len)) -ℤ pos (len * cellsOn side ports list c entries) ≡ z
+      → _≡_ {A = Reply} (record { numbers = 0 ∷ cellsOn side ports list c (repeated ports slots entries s len) ∷ []; ahead = z }) (service side ports slots list entries who start len)
+  unfolding countChecks leadOn
   found-counted {s} f {c} n l e =
       let at : start - 1 ≡ s = (let h = f .number in omega arith) in
       let none : none-holds (countChecks ports slots list entries who start len) ≡ true
       = clear-then (listChecks ports slots list) (bad-frame ports slots entries ∷ startChecks) (well-clear ports slots list (f .well))
       ∙ rw (frame-tells ports slots entries .met (f .size), run-met f, who-tells ports list who .met (c, n), length-tells len .met l) in
-      rw (sym e, sym at, sym (names-class n)) (reply-counted ports slots list entries who start len none)
+      rw (sym e, sym at, sym (names-class n)) (reply-counted side ports slots list entries who start len none)
 
   -- what a case says is Service count's answer
-  count-only : (given : Reply) → Counts ports slots list entries who start len given → given ≡ service ports slots list entries who start len
+  count-only : (given : Reply) → Counts side ports slots list entries who start len given → given ≡ service side ports slots list entries who start len
   count-only given (refused r) = reply (frame-reported ports slots list entries startChecks asked r) (frame-low r)
   count-only given (start-11 w e b) = reply (past-frame ports slots list w entries e startChecks asked ∙ rw (broken (slot-tells slots start) b)) (omega arith)
   count-only given (who-12 f b) = reply (run-clear f ∙ rw (broken (who-tells ports list who) (λ n. b (n .0) (n .1)))) (omega arith)
@@ -306,7 +302,7 @@ module _ (ports slots : ℕ) (list entries : List ℕ) (who : Who) (start len : 
   count-only given (counted-ahead f n l m e) = found-counted f n l (minus-ahead _ _ m e)
   count-only given (counted-behind f n l m e) = found-counted f n l (minus-behind _ _ m e)
 
-  pub count-exactly : Exactly (Counts ports slots list entries who start len) (service ports slots list entries who start len)
+  pub count-exactly : Exactly (Counts side ports slots list entries who start len) (service side ports slots list entries who start len)
   count-exactly =
       byFrame ports slots list entries (λ n r. exactly count-only (refused r))
       (λ w e. byFact (slot-tells slots start) (λ b. exactly count-only (start-11 w e b))
@@ -315,8 +311,8 @@ module _ (ports slots : ℕ) (list entries : List ℕ) (who : Who) (start len : 
       byFact (who-tells ports list who) (λ b. exactly count-only (who-12 f (λ c n. b (c, n))))
       (λ n. byFact (length-tells len) (λ b. exactly count-only (length-13 f (n .1) (byLt 1000000 len (λ l. l) (λ l. absurd (b l)))))
       (λ l.
-      let had = slots * cells (n .0) ports list (repeated ports slots entries (start - 1) len) in
-      let share = len * cells (n .0) ports list entries in
+      let had = slots * cellsOn side ports list (n .0) (repeated ports slots entries (start - 1) len) in
+      let share = len * cellsOn side ports list (n .0) entries in
       byLt had share (λ h. exactly count-only (counted-behind f (n .1) l (share - suc had) (omega arith)))
       (λ h. exactly count-only (counted-ahead f (n .1) l (had - share) (omega arith)))))))
 

@@ -8,13 +8,16 @@ use Rattle.calls.specs.Build.{outcome}
 use Rattle.calls.specs.Inspect.{finding}
 use Rattle.calls.specs.Service.{served}
 use Rattle.calls.specs.Answers.{Exactly}
+use Rattle.calls.specs.Sides.{sideOf}
+use Rattle.rules.specs.Flows.{input, output}
+use Rattle.calls.specs.declared.Side.the-variants.{Input, Output}
 use Rattle.calls.specs.declared.Refusal.{Refusal}
-use Rattle.calls.specs.declared.Refusal.the-variants.{Ports, Slots, ListLength, FrameLength, InputLoad, OutputLoad, LineForm, LinePort, SheetLength, SlotNumber, FlowOrPort, RunLength, TooManyFlows, FlowPort, FlowLink, LinkLoad}
+use Rattle.calls.specs.declared.Refusal.the-variants.{Ports, Slots, ListLength, FrameLength, InputLoad, OutputLoad, LineForm, LinePort, SheetLength, SlotNumber, FlowOrPort, RunLength, Entries, SecondLength, TooManyFlows, FlowPort, FlowLink, LinkLoad}
 use Rattle.calls.specs.declared.Answer.the-variants as answer
 use Rattle.calls.specs.declared.Answer.the-variants.{Accepted}
 use Rattle.calls.specs.declared.Built.the-variants as building
 use Rattle.calls.specs.declared.Inspection.the-variants as inspection
-use Rattle.calls.specs.declared.Inspection.the-variants.{Clean, WrongEntry, OutputTwice, FlowCount, UnbalancedBlock}
+use Rattle.calls.specs.declared.Inspection.the-variants.{Clean, WrongEntry, PortTwice, FlowCount, UnbalancedBlock}
 use Rattle.calls.specs.declared.Count.{Count}
 use Rattle.calls.specs.declared.Service.the-variants as served-as
 use Rattle.calls.specs.declared.Service.the-variants.{Counted}
@@ -26,13 +29,13 @@ exactly {A} {cases} only {given} c = (subst cases (only given c) c, only)
 -- ---- the numbers of the answers
 -- Document 01's number of each refusal, and then what it carries.
 pub refusal-numbers : (port l cells line : ℕ)
-    → map refusal (Ports ∷ Slots ∷ ListLength ∷ FrameLength ∷ InputLoad port cells ∷ OutputLoad port cells ∷ LineForm line ∷ LinePort line ∷ SheetLength ∷ SlotNumber ∷ FlowOrPort ∷ RunLength ∷ TooManyFlows ∷ FlowPort ∷ FlowLink ∷ LinkLoad port l cells ∷ [])
-    ≡ (1 ∷ []) ∷ (2 ∷ []) ∷ (3 ∷ []) ∷ (4 ∷ []) ∷ (5 ∷ port ∷ cells ∷ []) ∷ (6 ∷ port ∷ cells ∷ []) ∷ (7 ∷ line ∷ []) ∷ (8 ∷ line ∷ []) ∷ (10 ∷ []) ∷ (11 ∷ []) ∷ (12 ∷ []) ∷ (13 ∷ []) ∷ (21 ∷ []) ∷ (22 ∷ []) ∷ (23 ∷ []) ∷ (24 ∷ port ∷ l ∷ cells ∷ []) ∷ []
+    → map refusal (Ports ∷ Slots ∷ ListLength ∷ FrameLength ∷ InputLoad port cells ∷ OutputLoad port cells ∷ LineForm line ∷ LinePort line ∷ SheetLength ∷ SlotNumber ∷ FlowOrPort ∷ RunLength ∷ Entries ∷ SecondLength ∷ TooManyFlows ∷ FlowPort ∷ FlowLink ∷ LinkLoad port l cells ∷ [])
+    ≡ (1 ∷ []) ∷ (2 ∷ []) ∷ (3 ∷ []) ∷ (4 ∷ []) ∷ (5 ∷ port ∷ cells ∷ []) ∷ (6 ∷ port ∷ cells ∷ []) ∷ (7 ∷ line ∷ []) ∷ (8 ∷ line ∷ []) ∷ (10 ∷ []) ∷ (11 ∷ []) ∷ (12 ∷ []) ∷ (13 ∷ []) ∷ (14 ∷ []) ∷ (15 ∷ []) ∷ (21 ∷ []) ∷ (22 ∷ []) ∷ (23 ∷ []) ∷ (24 ∷ port ∷ l ∷ cells ∷ []) ∷ []
 refusal-numbers port l cells line = refl
 
 -- Each fault's number, ours, in document 01's order, and then its place.
 pub fault-numbers : (slot port f size : ℕ)
-    → map finding (Clean ∷ WrongEntry slot port ∷ OutputTwice slot port ∷ FlowCount f ∷ UnbalancedBlock slot size ∷ [])
+    → map finding (Clean ∷ WrongEntry slot port ∷ PortTwice slot port ∷ FlowCount f ∷ UnbalancedBlock slot size ∷ [])
     ≡ (0 ∷ []) ∷ (101 ∷ slot ∷ port ∷ []) ∷ (102 ∷ slot ∷ port ∷ []) ∷ (103 ∷ f ∷ []) ∷ (104 ∷ slot ∷ size ∷ []) ∷ []
 fault-numbers slot port f size = refl
 
@@ -43,3 +46,7 @@ pub answer-numbers : (r : Refusal) (settled : ℕ) (c : Count)
     × (outcome (building.Accepted settled) ≡ 0 ∷ settled ∷ []) × (outcome (building.Refused r) ≡ refusal r)
     × (served (Counted c) ≡ record { numbers = 0 ∷ c .cells ∷ []; ahead = c .lead }) × (served (served-as.Refused r) ≡ record { numbers = refusal r; ahead = pos 0 })
 answer-numbers r settled c = (refl, refl, refl, refl, refl, refl, refl)
+
+-- The side that a call is told.
+pub sides-told : (sideOf Input ≡ input) × (sideOf Output ≡ output)
+sides-told = (refl, refl)

@@ -7,14 +7,14 @@ use mathlib.Core.Bool.{true, false}
 use lib.IntN.{ℤ, pos, negsuc}
 use lib.ListN.{replicate}
 use Rattle.rules.specs.Words.{sumTo}
-use Rattle.rules.specs.Flows.{portOf, countsOf, loadIn}
-use Rattle.rules.specs.Frames.{cells, runOf, repeated}
+use Rattle.rules.specs.Flows.{Side, input, output, portOf, countsOf, loadIn}
+use Rattle.rules.specs.Frames.{cellsOn, runOf, repeated}
 use Rattle.calls.specs.Refusals.{slotsEach, admitted}
 use Rattle.rules.specs.Schedule.{walk, settleAt, favours, slotOf, frameOf}
 use Rattle.calls.specs.Work.{work}
 use Rattle.calls.specs.Build.{buildChecks, built, frameAfter}
 use Rattle.calls.specs.Inspect.{isWrong, twiceIn, usedTwice, wrongCount, unbalanced, unbalancedNumber, unbalancedAt, inspected}
-use Rattle.calls.specs.Service.{viewChecks, viewNumber, viewStart, viewSize, viewed, lead, Reply, bad-length, countChecks, service}
+use Rattle.calls.specs.Service.{viewChecks, viewNumber, viewStart, viewSize, viewed, leadOn, Reply, bad-length, countChecks, service}
 use Rattle.strays.specs.Stray.{earliest, largest, stray}
 use Rattle.calls.specs.Depth.{depthChecks, depth}
 use Rattle.calls.specs.declared.Who.{Who}
@@ -91,7 +91,7 @@ cases =
     ∷ turnedAway 2 4 (1 ∷ 1 ∷ 3 ∷ 1 ∷ 2 ∷ 1 ∷ 2 ∷ 1 ∷ []) (6 ∷ 1 ∷ 5 ∷ [])
     ∷ turnedAway 2 4 (1 ∷ 1 ∷ 5 ∷ 1 ∷ []) (5 ∷ 1 ∷ 5 ∷ [])
     -- one cell more than its share: four parts of a quarter
-    ∷ counting (service 4 4 table7 table7Frame (Flow 5) 4 2) (0 ∷ 2 ∷ []) 4 0
+    ∷ counting (service input 4 4 table7 table7Frame (Flow 5) 4 2) (0 ∷ 2 ∷ []) 4 0
     ∷ []
 
 -- ---- the frames of the lists, and what the sheet comes to
@@ -112,7 +112,7 @@ unfolding portOf countsOf walk settleAt favours slotOf frameOf
 small-framed = (refl, refl, refl)
 
 pub bench : map (λ c. c .gives) cases ≡ map (λ c. c .says) cases
-unfolding cases frame turnedAwayBy turnedAway counting sumTo portOf countsOf loadIn cells runOf work admitted buildChecks countChecks service repeated lead walk settleAt favours slotOf frameOf
+unfolding cases frame turnedAwayBy turnedAway counting sumTo portOf countsOf loadIn cellsOn runOf work admitted buildChecks countChecks service repeated leadOn walk settleAt favours slotOf frameOf
 bench = refl
 
 -- ---- an answer of each kind that the nine loads do not reach
@@ -132,12 +132,12 @@ views slot says =
       says = says;
     }
 
--- A count in it, and in one of two slots, the first of which has the second flow at input 1 and no flow at input 2.
+-- A count in it, and in one of two slots, of either side, the first of which has the second flow at port 1 and no flow at port 2.
 counts : Who → ℕ → ℕ → ℕ → ℕ → ℕ → Case
-counts who start len had ahead behind = counting (service 2 4 there inFour who start len) (0 ∷ had ∷ []) ahead behind
+counts who start len had ahead behind = counting (service input 2 4 there inFour who start len) (0 ∷ had ∷ []) ahead behind
 
-countsAny : Who → ℕ → Case
-countsAny who had = counting (service 2 2 there (2 ∷ 9 ∷ 1 ∷ 2 ∷ []) who 1 2) (0 ∷ had ∷ []) 0 0
+countsAny : Side → Who → ℕ → Case
+countsAny side who had = counting (service side 2 2 there (2 ∷ 9 ∷ 1 ∷ 2 ∷ []) who 1 2) (0 ∷ had ∷ []) 0 0
 
 -- A cell from each of four inputs to output 1, the first and the third on link 2, the others on link 1: flow 1 is partnered with 3, and
 -- 2 with 4. By their numbers alone it were 1 with 2, and slots 2 and 3 were changed round.
@@ -149,9 +149,12 @@ twoLinks = 1 ∷ 1 ∷ 1 ∷ 2 ∷ 2 ∷ 1 ∷ 1 ∷ 1 ∷ 3 ∷ 1 ∷ 1 ∷ 2 �
 abbrev threeLinks : List ℕ
 threeLinks = 1 ∷ 1 ∷ 1 ∷ 2 ∷ 2 ∷ 1 ∷ 1 ∷ 3 ∷ 3 ∷ 1 ∷ 1 ∷ 1 ∷ []
 
--- Inspect of a frame of two slots for one cell from each of two ports to its own number.
+-- Inspect of a frame of two slots for one cell from each of two ports to its own number, and, of the output side, to the other's.
 inspects : List ℕ → List ℕ → Case
-inspects entries says = record { gives = inspected 2 2 (1 ∷ 1 ∷ 1 ∷ 1 ∷ 2 ∷ 2 ∷ 1 ∷ 1 ∷ []) entries; says = says }
+inspects entries says = record { gives = inspected input 2 2 (1 ∷ 1 ∷ 1 ∷ 1 ∷ 2 ∷ 2 ∷ 1 ∷ 1 ∷ []) entries; says = says }
+
+inspectsOutputs : List ℕ → List ℕ → Case
+inspectsOutputs entries says = record { gives = inspected output 2 2 (1 ∷ 2 ∷ 1 ∷ 1 ∷ 2 ∷ 1 ∷ 1 ∷ 1 ∷ []) entries; says = says }
 
 pub others : List Case
 others =
@@ -172,12 +175,18 @@ others =
     ∷ counts (Output 1) 2 5 2 3 0
     ∷ counts (Output 2) 2 0 0 0 0
     -- a flow counts for itself and its output wherever it stands, and what is no flow for its input only
-    ∷ countsAny (Flow 2) 2
-    ∷ countsAny (Output 1) 2
-    ∷ countsAny (Output 2) 1
-    ∷ countsAny (Input 2) 2
+    ∷ countsAny input (Flow 2) 2
+    ∷ countsAny input (Output 1) 2
+    ∷ countsAny input (Output 2) 1
+    ∷ countsAny input (Input 2) 2
+    -- of the output side a flow counts for its input wherever it stands, and what is no flow for its output only
+    ∷ countsAny output (Flow 2) 2
+    ∷ countsAny output (Input 1) 1
+    ∷ countsAny output (Input 2) 2
+    ∷ countsAny output (Output 1) 2
+    ∷ countsAny output (Output 2) 2
     -- a flow that is not in the list, and a run that is too long
-    ∷ counting (service 2 4 there inFour (Flow 3) 1 1000001) (12 ∷ []) 0 0
+    ∷ counting (service input 2 4 there inFour (Flow 3) 1 1000001) (12 ∷ []) 0 0
     -- lists: not of whole flows, 513 flows, whose ports are outside too, a port outside, whose link is outside too, a link outside, none
     ∷ turnedAway 2 2 (1 ∷ 1 ∷ 1 ∷ []) (3 ∷ [])
     ∷ turnedAway 2 2 (replicate 2052 9) (21 ∷ [])
@@ -204,18 +213,24 @@ others =
     ∷ inspects (1 ∷ 0 ∷ 0 ∷ 3 ∷ []) (101 ∷ 2 ∷ 2 ∷ [])
     ∷ inspects (2 ∷ 0 ∷ 0 ∷ 1 ∷ []) (101 ∷ 1 ∷ 1 ∷ [])
     ∷ inspects (1 ∷ 0 ∷ 0 ∷ 0 ∷ []) (103 ∷ 2 ∷ [])
+    -- of the output side each flow stands at its output, and one that stands at its input is wrong
+    ∷ inspectsOutputs (0 ∷ 1 ∷ 2 ∷ 0 ∷ []) (0 ∷ [])
+    ∷ inspectsOutputs (0 ∷ 1 ∷ 0 ∷ 2 ∷ []) (101 ∷ 2 ∷ 2 ∷ [])
+    ∷ inspectsOutputs (2 ∷ 1 ∷ 0 ∷ 0 ∷ []) (104 ∷ 1 ∷ 2 ∷ [])
+    -- an input twice in a slot, of the output side
+    ∷ record { gives = inspected output 2 2 (1 ∷ 1 ∷ 1 ∷ 1 ∷ 1 ∷ 2 ∷ 1 ∷ 1 ∷ []) (1 ∷ 0 ∷ 1 ∷ 2 ∷ []); says = 102 ∷ 2 ∷ 1 ∷ [] }
     -- an output twice in a slot; and a list that is not of whole flows, with a frame of another length
-    ∷ record { gives = inspected 2 2 (1 ∷ 1 ∷ 1 ∷ 1 ∷ 2 ∷ 1 ∷ 1 ∷ 1 ∷ []) (1 ∷ 2 ∷ 0 ∷ 0 ∷ []); says = 102 ∷ 1 ∷ 1 ∷ [] }
-    ∷ record { gives = inspected 2 2 (1 ∷ 1 ∷ 1 ∷ []) (0 ∷ []); says = 3 ∷ [] }
+    ∷ record { gives = inspected input 2 2 (1 ∷ 1 ∷ 1 ∷ 1 ∷ 2 ∷ 1 ∷ 1 ∷ 1 ∷ []) (1 ∷ 2 ∷ 0 ∷ 0 ∷ []); says = 102 ∷ 1 ∷ 1 ∷ [] }
+    ∷ record { gives = inspected input 2 2 (1 ∷ 1 ∷ 1 ∷ []) (0 ∷ []); says = 3 ∷ [] }
     -- one cell in each of four slots to output 1, the first two on link 1: a link is unbalanced, and nothing else is
     ∷ record {
-      gives = inspected 2 4 (1 ∷ 1 ∷ 1 ∷ 1 ∷ 2 ∷ 1 ∷ 1 ∷ 1 ∷ 1 ∷ 1 ∷ 1 ∷ 2 ∷ 2 ∷ 1 ∷ 1 ∷ 2 ∷ []) (1 ∷ 0 ∷ 0 ∷ 2 ∷ 3 ∷ 0 ∷ 0 ∷ 4 ∷ []);
+      gives = inspected input 2 4 (1 ∷ 1 ∷ 1 ∷ 1 ∷ 2 ∷ 1 ∷ 1 ∷ 1 ∷ 1 ∷ 1 ∷ 1 ∷ 2 ∷ 2 ∷ 1 ∷ 1 ∷ 2 ∷ []) (1 ∷ 0 ∷ 0 ∷ 2 ∷ 3 ∷ 0 ∷ 0 ∷ 4 ∷ []);
       says = 104 ∷ 1 ∷ 4 ∷ [];
     }
     ∷ []
 
 pub others-answered : map (λ c. c .gives) others ≡ map (λ c. c .says) others
-unfolding others views frame turnedAwayBy turnedAway counting counts countsAny inspects inspected isWrong twiceIn usedTwice wrongCount unbalanced unbalancedNumber unbalancedAt sumTo portOf countsOf loadIn cells runOf work admitted buildChecks countChecks service repeated lead viewChecks walk settleAt favours slotOf frameOf
+unfolding others views frame turnedAwayBy turnedAway counting counts countsAny inspects inspectsOutputs inspected isWrong twiceIn usedTwice wrongCount unbalanced unbalancedNumber unbalancedAt sumTo portOf countsOf loadIn cellsOn runOf work admitted buildChecks countChecks service repeated leadOn viewChecks walk settleAt favours slotOf frameOf
 others-answered = refl
 
 -- the longest run has 1,000,000 slots

@@ -10,17 +10,17 @@ use lib.Dec.{ltb}
 use lib.Pow.{pow-pos}
 use borrow.Author.Tests.{lt-ltb, le-ltb, ltb-true, ltb-false, eq-eqb, eqb-true, not-false}
 use Rattle.rules.specs.Words.{first}
-use Rattle.rules.specs.Flows.{flows, flow, portOn, output, load}
-use Rattle.rules.specs.Frames.{cells, runOf, Block, Balanced, levels, Power}
+use Rattle.rules.specs.Flows.{flows, Side, other, Class, flow, portOn, load}
+use Rattle.rules.specs.Frames.{cellsOn, runOf, Block, BalancedOn, levels, Power}
 use Rattle.calls.specs.Refusals.{Check}
-use Rattle.calls.specs.Inspect.{firstPlace, isWrong, twiceIn, usedTwice, wrongCount, unbalancedNumber, firstAt, unbalancedAt, wrongEntry, outputTwice, flowCount, unbalancedBlock}
+use Rattle.calls.specs.Inspect.{firstPlace, isWrong, twiceIn, usedTwice, wrongCount, unbalancedNumber, firstAt, unbalancedAt, wrongEntry, portTwice, flowCount, unbalancedBlock}
 use Rattle.rules.proofs.Cases.{byEq, byBool, byLt}
 use Rattle.rules.proofs.Searches.{first-found, first-before, first-is, first-none}
 use Rattle.rules.proofs.Levels.{pow-less, levels-power, power-known, depth-size, depth-half}
 use Rattle.rules.proofs.Blocks.{number-block, block-numbered}
 use Rattle.calls.proofs.Reports.{Tells, search-tells}
 use Rattle.calls.proofs.Inspected.{in-of, near-yes, unbalanced-no, balanced-near}
-use Rattle.calls.specs.Answers.{Each, FirstNot, Throughout, FirstWrong, HalvesNear, FirstUnbalanced, EntryRight, OutputOnce, CountRight}
+use Rattle.calls.specs.Answers.{Each, FirstNot, Throughout, FirstWrong, HalvesNear, FirstUnbalanced, EntryRight, PortOnce, CountRight}
 
 -- ---- a place
 -- each position below rows × width is a place
@@ -99,39 +99,39 @@ module _ (number rows width : ℕ) (test : ℕ → Bool) (Fact : ℕ → ℕ →
       }
 
 -- the first two, each by its test
-pub entries-search : (ports slots : ℕ) (list entries : List ℕ) → FirstOf 101 slots ports (EntryRight ports list entries) (wrongEntry ports slots list entries)
+pub entries-search : (side : Side) (ports slots : ℕ) (list entries : List ℕ) → FirstOf 101 slots ports (EntryRight side ports list entries) (wrongEntry side ports slots list entries)
 unfolding isWrong
-entries-search ports slots list entries =
-    first-of 101 slots ports (isWrong ports list entries) (EntryRight ports list entries)
+entries-search side ports slots list entries =
+    first-of 101 slots ports (isWrong side ports list entries) (EntryRight side ports list entries)
     (λ s i h f. rw (digits-mod s h) (ap not f))
     (λ s i h e. not-false _ (rw (digits-mod s h) at e))
 
-pub outputs-search : (ports slots : ℕ) (list entries : List ℕ) → FirstOf 102 slots ports (OutputOnce ports list entries) (outputTwice ports slots list entries)
+pub twice-search : (side : Side) (ports slots : ℕ) (list entries : List ℕ) → FirstOf 102 slots ports (PortOnce side ports list entries) (portTwice side ports slots list entries)
 unfolding usedTwice twiceIn
-outputs-search ports slots list entries =
-    first-of 102 slots ports (usedTwice ports list entries) (OutputOnce ports list entries)
-    (λ s o h f. rw (digits-div s h, digits-mod s h) (le-ltb 1 (cells (portOn output o) ports list (runOf ports s 1 entries)) f))
-    (λ s o h e. ltb-false 1 (cells (portOn output o) ports list (runOf ports s 1 entries)) (rw (digits-div s h, digits-mod s h) at e))
+twice-search side ports slots list entries =
+    first-of 102 slots ports (usedTwice side ports list entries) (PortOnce side ports list entries)
+    (λ s o h f. rw (digits-div s h, digits-mod s h) (le-ltb 1 (cellsOn side ports list (portOn (other side) o) (runOf ports s 1 entries)) f))
+    (λ s o h e. ltb-false 1 (cellsOn side ports list (portOn (other side) o) (runOf ports s 1 entries)) (rw (digits-div s h, digits-mod s h) at e))
 
 -- ---- a flow
-module _ (ports : ℕ) (list entries : List ℕ) where
+module _ (side : Side) (ports : ℕ) (list entries : List ℕ) where
   abbrev test : ℕ → Bool
-  test = wrongCount ports list entries
+  test = wrongCount side ports list entries
 
-  right-test : (f : ℕ) → CountRight ports list entries f → test f ≡ false
+  right-test : (f : ℕ) → CountRight side ports list entries f → test f ≡ false
   unfolding wrongCount
-  right-test f e = ap not (eq-eqb (cells (flow f) ports list entries) (load (flow f) list) e)
+  right-test f e = ap not (eq-eqb (cellsOn side ports list (flow f) entries) (load (flow f) list) e)
 
-  test-right : (f : ℕ) → test f ≡ false → CountRight ports list entries f
+  test-right : (f : ℕ) → test f ≡ false → CountRight side ports list entries f
   unfolding wrongCount
-  test-right f e = eqb-true (cells (flow f) ports list entries) (load (flow f) list) (not-false _ e)
+  test-right f e = eqb-true (cellsOn side ports list (flow f) entries) (load (flow f) list) (not-false _ e)
 
-  pub count-tells : Tells (flowCount ports list entries) (Each (flows list) (CountRight ports list entries))
+  pub count-tells : Tells (flowCount side ports list entries) (Each (flows list) (CountRight side ports list entries))
   count-tells =
       let t = search-tells test (flows list) [] in
       record { met = λ e. t .met (λ f h. right-test f (e f h)); known = λ e f h. test-right f (t .known e f h) }
 
-  pub count-found : flowCount ports list entries .0 ≡ true → (f : ℕ) × FirstNot (flows list) (CountRight ports list entries) f
+  pub count-found : flowCount side ports list entries .0 ≡ true → (f : ℕ) × FirstNot (flows list) (CountRight side ports list entries) f
   count-found e =
       let f = first test 0 (flows list) in
       let l = ltb-true f (flows list) e in (
@@ -143,14 +143,17 @@ module _ (ports : ℕ) (list entries : List ℕ) where
         },
       )
 
-  pub count-reported : {f : ℕ} → FirstNot (flows list) (CountRight ports list entries) f → flowCount ports list entries ≡ (true, 103 ∷ suc f ∷ [])
+  pub count-reported : {f : ℕ} → FirstNot (flows list) (CountRight side ports list entries) f → flowCount side ports list entries ≡ (true, 103 ∷ suc f ∷ [])
   count-reported {f} n =
       let here : test f ≡ true = byBool (test f) (λ e. e) (λ e. absurd (n .wrong (test-right f e))) in
       let e : first test 0 (flows list) ≡ f = first-is test (flows list) 0 f (omega arith) (omega (arith, n .low)) here (λ y _ h. right-test y (n .before y h)) in
       rw (e, lt-ltb f (flows list) (n .low))
 
 -- ---- a block
-module _ (ports slots : ℕ) (list entries : List ℕ) (p : Power slots) where
+module _ (side : Side) (ports slots : ℕ) (list entries : List ℕ) (p : Power slots) where
+  abbrev count : Class → List ℕ → ℕ
+  count = cellsOn side ports list
+
   abbrev k : ℕ
   k = levels slots
 
@@ -183,13 +186,13 @@ module _ (ports slots : ℕ) (list entries : List ℕ) (p : Power slots) where
       number-block slots k power t x (2 * halfAt t) (omega arith) l
       (sym (half-twice t h) ∙ (ap (λ y. y / 2 ^ t) power ∙ depth-size k t (omega arith)))
 
-  even-test : (t x : ℕ) → HalvesNear ports list entries (x * (2 * halfAt t)) (halfAt t) → unbalancedNumber ports list entries (halfAt t) x ≡ false
+  even-test : (t x : ℕ) → HalvesNear side ports list entries (x * (2 * halfAt t)) (halfAt t) → unbalancedNumber count ports list entries (halfAt t) x ≡ false
   unfolding unbalancedNumber
-  even-test t x e = unbalanced-no ports list entries (x * (2 * halfAt t)) (halfAt t) (λ c of. near-yes 1 _ _ (e c (in-of ports list entries (x * (2 * halfAt t)) (halfAt t) c of)))
+  even-test t x e = unbalanced-no count ports list entries (x * (2 * halfAt t)) (halfAt t) (λ c of. near-yes 1 _ _ (e c (in-of ports list c of)))
 
-  test-even : (t x : ℕ) → unbalancedNumber ports list entries (halfAt t) x ≡ false → HalvesNear ports list entries (x * (2 * halfAt t)) (halfAt t)
+  test-even : (t x : ℕ) → unbalancedNumber count ports list entries (halfAt t) x ≡ false → HalvesNear side ports list entries (x * (2 * halfAt t)) (halfAt t)
   unfolding unbalancedNumber
-  test-even t x e = balanced-near ports list entries (x * (2 * halfAt t)) (halfAt t) e
+  test-even t x e = balanced-near side ports list entries (x * (2 * halfAt t)) (halfAt t) e
 
   -- a block that has halves, by depth and number
   record Placed (start half : ℕ) : Type 0 where
@@ -219,49 +222,49 @@ module _ (ports slots : ℕ) (list entries : List ℕ) (p : Power slots) where
         start-is = d .start ∙ ap (λ y. d .number * (2 * y)) h;
       }
 
-  placed-even : {start half : ℕ} (d : Placed start half) → unbalancedNumber ports list entries (halfAt (d .depth)) (d .number) ≡ false → HalvesNear ports list entries start half
+  placed-even : {start half : ℕ} (d : Placed start half) → unbalancedNumber count ports list entries (halfAt (d .depth)) (d .number) ≡ false → HalvesNear side ports list entries start half
   placed-even d e = rw (d .start-is, d .half-is) (test-even (d .depth) (d .number) e)
 
   -- no block of a depth is unbalanced
-  depth-test : (t : ℕ) → ((x : ℕ) → x < 2 ^ t → HalvesNear ports list entries (x * (2 * halfAt t)) (halfAt t)) → unbalancedAt ports slots list entries t ≡ false
+  depth-test : (t : ℕ) → ((x : ℕ) → x < 2 ^ t → HalvesNear side ports list entries (x * (2 * halfAt t)) (halfAt t)) → unbalancedAt count ports slots list entries t ≡ false
   unfolding unbalancedAt
   depth-test t e =
-      le-ltb (firstAt ports slots list entries t) (2 ^ t)
-      (let n = first-none (unbalancedNumber ports list entries (halfAt t)) (2 ^ t) 0 (λ x _ l. even-test t x (e x (omega arith))) in omega arith)
+      le-ltb (firstAt count ports slots list entries t) (2 ^ t)
+      (let n = first-none (unbalancedNumber count ports list entries (halfAt t)) (2 ^ t) 0 (λ x _ l. even-test t x (e x (omega arith))) in omega arith)
 
-  depth-even : {start half : ℕ} (d : Placed start half) → unbalancedAt ports slots list entries (d .depth) ≡ false → HalvesNear ports list entries start half
+  depth-even : {start half : ℕ} (d : Placed start half) → unbalancedAt count ports slots list entries (d .depth) ≡ false → HalvesNear side ports list entries start half
   unfolding unbalancedAt
   depth-even d e =
-      let n = ltb-false (firstAt ports slots list entries (d .depth)) (2 ^ d .depth) e in
+      let n = ltb-false (firstAt count ports slots list entries (d .depth)) (2 ^ d .depth) e in
       placed-even d
-      (first-before (unbalancedNumber ports list entries (halfAt (d .depth))) (2 ^ d .depth) 0 (d .number) (omega arith) (let l = d .low in omega arith))
+      (first-before (unbalancedNumber count ports list entries (halfAt (d .depth))) (2 ^ d .depth) 0 (d .number) (omega arith) (let l = d .low in omega arith))
 
   -- the check tells that the frame is balanced
-  pub block-tells : Tells (unbalancedBlock ports slots list entries) (Balanced ports slots list entries)
+  pub block-tells : Tells (unbalancedBlock count ports slots list entries) (BalancedOn side ports slots list entries)
   block-tells =
       record {
         met = λ b.
-            le-ltb (first (unbalancedAt ports slots list entries) 0 k) k
-            (let n = first-none (unbalancedAt ports slots list entries) k 0
+            le-ltb (first (unbalancedAt count ports slots list entries) 0 k) k
+            (let n = first-none (unbalancedAt count ports slots list entries) k 0
             (λ t _ h. depth-test t (λ x l c of. b c of (x * (2 * halfAt t)) (halfAt t) (at-number t x (omega arith) l))) in omega arith);
         known = λ e c of start half b.
             let d = placed start half b in
             depth-even d
-            (first-before (unbalancedAt ports slots list entries) k 0 (d .depth) (omega arith)
-            (let n = ltb-false (first (unbalancedAt ports slots list entries) 0 k) k e in let l = d .deep in omega arith)) c of;
+            (first-before (unbalancedAt count ports slots list entries) k 0 (d .depth) (omega arith)
+            (let n = ltb-false (first (unbalancedAt count ports slots list entries) 0 k) k e in let l = d .deep in omega arith)) c of;
       }
 
   -- the first unbalanced block is reported, by its first slot's number from 1 and its size
-  module _ {start half : ℕ} (f : FirstUnbalanced ports slots list entries start half) (d : Placed start half) where
+  module _ {start half : ℕ} (f : FirstUnbalanced side ports slots list entries start half) (d : Placed start half) where
     abbrev t : ℕ
     t = d .depth
 
-    number-is : firstAt ports slots list entries t ≡ d .number
+    number-is : firstAt count ports slots list entries t ≡ d .number
     number-is =
-        first-is (unbalancedNumber ports list entries (halfAt t)) (2 ^ t) 0 (d .number) (omega arith) (let l = d .low in omega arith)
-        (byBool (unbalancedNumber ports list entries (halfAt t) (d .number)) (λ e. e) (λ e. absurd (f .unbalanced (placed-even d e))))
+        first-is (unbalancedNumber count ports list entries (halfAt t)) (2 ^ t) 0 (d .number) (omega arith) (let l = d .low in omega arith)
+        (byBool (unbalancedNumber count ports list entries (halfAt t) (d .number)) (λ e. e) (λ e. absurd (f .unbalanced (placed-even d e))))
         (λ y _ l. even-test t y
-        (subst (λ (z : ℕ). HalvesNear ports list entries (y * (2 * halfAt t)) z) (d .half-is)
+        (subst (λ (z : ℕ). HalvesNear side ports list entries (y * (2 * halfAt t)) z) (d .half-is)
         (f .earlier (y * (2 * halfAt t)) (sooner y (d .number) l)
         (subst (λ (z : ℕ). Block slots (y * (2 * halfAt t)) (2 * z)) (sym (d .half-is)) (at-number t y (d .deep) (let n = d .low in omega arith))))))
       where
@@ -271,25 +274,25 @@ module _ (ports slots : ℕ) (list entries : List ℕ) (p : Power slots) where
             let b = pow-pos (k - suc t) in
             omega (arith, d .start-is, half-power t (d .deep))
 
-    depth-is : first (unbalancedAt ports slots list entries) 0 k ≡ t
+    depth-is : first (unbalancedAt count ports slots list entries) 0 k ≡ t
     unfolding unbalancedAt
     depth-is =
-        first-is (unbalancedAt ports slots list entries) k 0 t (omega arith) (let h = d .deep in omega arith)
-        (lt-ltb (firstAt ports slots list entries t) (2 ^ t) (let l = d .low in omega (arith, number-is)))
+        first-is (unbalancedAt count ports slots list entries) k 0 t (omega arith) (let h = d .deep in omega arith)
+        (lt-ltb (firstAt count ports slots list entries t) (2 ^ t) (let l = d .low in omega (arith, number-is)))
         (λ y _ l. depth-test y (λ x m.
         let h = d .deep in
         f .larger (x * (2 * halfAt y)) (halfAt y) (omega (arith, half-deeper y t l h, d .half-is)) (at-number y x (omega arith) m)))
 
-    block-answer : unbalancedBlock ports slots list entries ≡ (true, 104 ∷ suc start ∷ 2 * half ∷ [])
+    block-answer : unbalancedBlock count ports slots list entries ≡ (true, 104 ∷ suc start ∷ 2 * half ∷ [])
     block-answer =
         let as-check : ℕ → ℕ → Check = λ s z. (true, 104 ∷ suc s ∷ z ∷ []) in
         rw (depth-is, lt-ltb t k (d .deep), number-is, half-twice t (d .deep))
         (ap₂ as-check (sym (d .start-is)) (ap (λ y. 2 * y) (sym (d .half-is))))
 
-  pub block-reported : (start half : ℕ) → FirstUnbalanced ports slots list entries start half → unbalancedBlock ports slots list entries ≡ (true, 104 ∷ suc start ∷ 2 * half ∷ [])
+  pub block-reported : (start half : ℕ) → FirstUnbalanced side ports slots list entries start half → unbalancedBlock count ports slots list entries ≡ (true, 104 ∷ suc start ∷ 2 * half ∷ [])
   block-reported start half f = block-answer f (placed start half (f .block))
 
-  block-found : ltb (first (unbalancedAt ports slots list entries) 0 k) k ≡ true → (start half : ℕ) × FirstUnbalanced ports slots list entries start half
+  block-found : ltb (first (unbalancedAt count ports slots list entries) 0 k) k ≡ true → (start half : ℕ) × FirstUnbalanced side ports slots list entries start half
   unfolding unbalancedAt
   block-found e = (
     b * (2 * halfAt t),
@@ -299,13 +302,13 @@ module _ (ports slots : ℕ) (list entries : List ℕ) (p : Power slots) where
       unbalanced = λ v. true≢false (sym (first-found u (2 ^ t) 0 (omega (arith, n))) ∙ even-test t b v);
       larger = λ a h less bl.
           let d = placed a h bl in
-          depth-even d (first-before (unbalancedAt ports slots list entries) k 0 (d .depth) (omega arith)
+          depth-even d (first-before (unbalancedAt count ports slots list entries) k 0 (d .depth) (omega arith)
           (byLt (d .depth) t (λ x. x) (λ x. absurd (no-larger (d .depth) x (d .deep) (let z = d .half-is in omega arith)))));
       earlier = λ a less bl.
           let d = placed a (halfAt t) bl in
           let z = same-depth (d .depth) (d .deep) (d .half-is) in
           placed-even d
-          (subst (λ (y : ℕ). unbalancedNumber ports list entries (halfAt y) (d .number) ≡ false) z
+          (subst (λ (y : ℕ). unbalancedNumber count ports list entries (halfAt y) (d .number) ≡ false) z
           (first-before u (2 ^ t) 0 (d .number) (omega arith)
           (byLt (d .number) b (λ x. x) (λ x. absurd (
           let m = mul-le-mul-right (2 * halfAt t) x in
@@ -315,19 +318,19 @@ module _ (ports slots : ℕ) (list entries : List ℕ) (p : Power slots) where
   )
     where
       t : ℕ
-      t = first (unbalancedAt ports slots list entries) 0 k
+      t = first (unbalancedAt count ports slots list entries) 0 k
 
       l : t < k
       l = ltb-true t k e
 
       b : ℕ
-      b = firstAt ports slots list entries t
+      b = firstAt count ports slots list entries t
 
       n : b < 2 ^ t
-      n = ltb-true b (2 ^ t) (first-found (unbalancedAt ports slots list entries) k 0 (omega (arith, l)))
+      n = ltb-true b (2 ^ t) (first-found (unbalancedAt count ports slots list entries) k 0 (omega (arith, l)))
 
       u : ℕ → Bool
-      u = unbalancedNumber ports list entries (halfAt t)
+      u = unbalancedNumber count ports list entries (halfAt t)
 
       no-larger : (y : ℕ) → t ≤ y → y < k → halfAt t < halfAt y → ⊥
       no-larger y a h m =
@@ -339,8 +342,8 @@ module _ (ports slots : ℕ) (list entries : List ℕ) (p : Power slots) where
           (λ m. byEq t y (λ w. w) (λ w. absurd (let z = half-deeper y t (omega arith) l in omega arith)))
 
   -- one block is the first unbalanced one, or the frame is balanced
-  pub byBlock : {P : Type 0} → ((start half : ℕ) → FirstUnbalanced ports slots list entries start half → P) → (Balanced ports slots list entries → P) → P
+  pub byBlock : {P : Type 0} → ((start half : ℕ) → FirstUnbalanced side ports slots list entries start half → P) → (BalancedOn side ports slots list entries → P) → P
   byBlock off on =
-      byBool (unbalancedBlock ports slots list entries .0)
+      byBool (unbalancedBlock count ports slots list entries .0)
       (λ e. let f = block-found e in off (f .0) (f .1) (f .2))
       (λ e. on (block-tells .known e))

@@ -7,8 +7,8 @@ use native.Mathlib.Omega.{arith}
 use lib.Dec.{leb}
 use borrow.Author.Tests.{leb-true, le-leb}
 use Rattle.rules.specs.Words.{both, near, Near, upFrom}
-use Rattle.rules.specs.Flows.{flows, Class, flow, portOn, input, output, link, total, OnSwitch}
-use Rattle.rules.specs.Frames.{cells, runOf}
+use Rattle.rules.specs.Flows.{flows, Side, Class, flow, portOn, input, output, link, total, OnSwitch}
+use Rattle.rules.specs.Frames.{cellsOn, runOf}
 use Rattle.calls.specs.Inspect.{classes, all, unbalanced}
 use Rattle.rules.proofs.Cases.{byBool, byEq, byLt, both-true}
 use Rattle.rules.proofs.Flows.{cells-not}
@@ -91,42 +91,49 @@ module _ (ports : ℕ) (list : List ℕ) (t : Class → Bool) where
       by total of e = both-no fs _ (both-no is _ (both-no os _ (both-no ls _ (rw e))))
 
 -- ---- one block
-module _ (ports : ℕ) (list entries : List ℕ) (start half : ℕ) where
+module _ (count : Class → List ℕ → ℕ) (ports : ℕ) (list entries : List ℕ) (start half : ℕ) where
   -- the halves of the block differ by at most 1 for a class
   abbrev pub NearFor : Class → Type 0
-  NearFor c = Near 1 (cells c ports list (runOf ports start half entries)) (cells c ports list (runOf ports (start + half) half entries))
+  NearFor c = Near 1 (count c (runOf ports start half entries)) (count c (runOf ports (start + half) half entries))
 
   abbrev pub nearFor : Class → Bool
-  nearFor c = near 1 (cells c ports list (runOf ports start half entries)) (cells c ports list (runOf ports (start + half) half entries))
+  nearFor c = near 1 (count c (runOf ports start half entries)) (count c (runOf ports (start + half) half entries))
 
-  pub unbalanced-yes : (c : Class) → InList ports list c → nearFor c ≡ false → unbalanced ports list entries start half ≡ true
+  pub unbalanced-yes : (c : Class) → InList ports list c → nearFor c ≡ false → unbalanced count ports list entries start half ≡ true
   unfolding unbalanced
   unbalanced-yes c of e = ap not (some-class ports list _ c of e)
 
-  pub unbalanced-no : ((c : Class) → InList ports list c → nearFor c ≡ true) → unbalanced ports list entries start half ≡ false
+  pub unbalanced-no : ((c : Class) → InList ports list c → nearFor c ≡ true) → unbalanced count ports list entries start half ≡ false
   unfolding unbalanced
   unbalanced-no h = ap not (all-classes ports list _ h)
 
-  in-near : unbalanced ports list entries start half ≡ false → (c : Class) → InList ports list c → NearFor c
+  pub in-near : unbalanced count ports list entries start half ≡ false → (c : Class) → InList ports list c → NearFor c
   in-near e c of =
       byBool (nearFor c)
       (λ k. near-true 1 _ _ k)
       (λ k. absurd (true≢false (sym (unbalanced-yes c of k) ∙ e)))
 
-  -- a flow that is not in the list has no cells in either half
-  pub balanced-near : unbalanced ports list entries start half ≡ false → (c : Class) → OnSwitch ports c → NearFor c
-  balanced-near e (flow f) of =
-      byLt f (flows list) (λ l. in-near e (flow f) l)
-      (λ l. rw (cells-not list f ports (runOf ports start half entries) l, cells-not list f ports (runOf ports (start + half) half entries) l) (omega arith))
-  balanced-near e (portOn input i) of = in-near e (portOn input i) of
-  balanced-near e (portOn output o) of = in-near e (portOn output o) of
-  balanced-near e (link x) of = in-near e (link x) of
-  balanced-near e total of = in-near e total of
+-- a flow that is not in the list has no cells in either half
+pub balanced-near : (side : Side) (ports : ℕ) (list entries : List ℕ) (start half : ℕ) → unbalanced (cellsOn side ports list) ports list entries start half ≡ false
+    → (c : Class) → OnSwitch ports c → NearFor (cellsOn side ports list) ports list entries start half c
+balanced-near side ports list entries start half e c of = by c of
+  where
+    listed : (c : Class) → InList ports list c → NearFor (cellsOn side ports list) ports list entries start half c
+    listed = in-near (cellsOn side ports list) ports list entries start half e
 
-  -- the classes of a list are of the switch
-  pub in-of : (c : Class) → InList ports list c → OnSwitch ports c
-  in-of (flow f) of = tt
-  in-of (portOn input i) of = of
-  in-of (portOn output o) of = of
-  in-of (link x) of = of
-  in-of total of = of
+    by : (c : Class) → OnSwitch ports c → NearFor (cellsOn side ports list) ports list entries start half c
+    by (flow f) of =
+        byLt f (flows list) (λ l. listed (flow f) l)
+        (λ l. rw (cells-not side list f ports (runOf ports start half entries) l, cells-not side list f ports (runOf ports (start + half) half entries) l) (omega arith))
+    by (portOn input i) of = listed (portOn input i) of
+    by (portOn output o) of = listed (portOn output o) of
+    by (link x) of = listed (link x) of
+    by total of = listed total of
+
+-- the classes of a list are of the switch
+pub in-of : (ports : ℕ) (list : List ℕ) (c : Class) → InList ports list c → OnSwitch ports c
+in-of ports list (flow f) of = tt
+in-of ports list (portOn input i) of = of
+in-of ports list (portOn output o) of = of
+in-of ports list (link x) of = of
+in-of ports list total of = of

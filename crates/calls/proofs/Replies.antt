@@ -9,40 +9,40 @@ use lib.IntN.{ℤ, pos}
 use lib.ListN.{getD}
 use borrow.Author.Tests.{not-true, not-false}
 use Rattle.rules.specs.Words.{if}
-use Rattle.rules.specs.Flows.{OnSwitch}
-use Rattle.rules.specs.Frames.{cells, repeated}
+use Rattle.rules.specs.Flows.{Side, OnSwitch}
+use Rattle.rules.specs.Frames.{cellsOn, repeated}
 use Rattle.calls.specs.Refusals.{Check, report, none-holds, listChecks, bad-frame, bad-slot}
-use Rattle.calls.specs.Service.{classOf, whoWithin, bad-who, bad-length, lead, Reply, countChecks, service}
+use Rattle.calls.specs.Service.{classOf, whoWithin, bad-who, bad-length, leadOn, Reply, countChecks, service}
 use Rattle.calls.specs.declared.Who.{Who}
 use Rattle.calls.specs.declared.Who.the-variants.{Flow, Input, Output}
 use Rattle.rules.proofs.Cases.{byBool, both-true, within-true}
 use Rattle.calls.proofs.Reports.{report-clear, clear-parts}
 
-module _ (ports slots : ℕ) (list entries : List ℕ) (who : Who) (start len : ℕ) where
+module _ (side : Side) (ports slots : ℕ) (list entries : List ℕ) (who : Who) (start len : ℕ) where
   abbrev checks : List Check
   checks = countChecks ports slots list entries who start len
 
   -- the numbers that are asked for, and the lead
   abbrev pub count : List ℕ
-  count = 0 ∷ cells (classOf who) ports list (repeated ports slots entries (start - 1) len) ∷ []
+  count = 0 ∷ cellsOn side ports list (classOf who) (repeated ports slots entries (start - 1) len) ∷ []
 
   abbrev pub countLead : ℤ
-  countLead = lead (classOf who) ports slots list entries (start - 1) len
+  countLead = leadOn side (classOf who) ports slots list entries (start - 1) len
 
   reply-is : {numbers : List ℕ} {b : Bool} → none-holds checks ≡ b → report checks count ≡ numbers
-      → _≡_ {A = Reply} (record { numbers = numbers; ahead = if b countLead (pos 0) }) (service ports slots list entries who start len)
+      → _≡_ {A = Reply} (record { numbers = numbers; ahead = if b countLead (pos 0) }) (service side ports slots list entries who start len)
   unfolding service
   reply-is c n = rw (c, n)
 
   -- numbers that begin with another than 0 are a refusal's, and have lead 0
   pub reply-refused : {numbers : List ℕ} → report checks count ≡ numbers → getD numbers 0 0 ≢ 0
-      → _≡_ {A = Reply} (record { numbers = numbers; ahead = pos 0 }) (service ports slots list entries who start len)
+      → _≡_ {A = Reply} (record { numbers = numbers; ahead = pos 0 }) (service side ports slots list entries who start len)
   reply-refused e n =
       byBool (none-holds checks)
       (λ c. absurd (n (ap (λ (l : List ℕ). getD l 0 0) (sym e ∙ report-clear checks count c))))
       (λ c. reply-is c e)
 
-  pub reply-counted : none-holds checks ≡ true → _≡_ {A = Reply} (record { numbers = count; ahead = countLead }) (service ports slots list entries who start len)
+  pub reply-counted : none-holds checks ≡ true → _≡_ {A = Reply} (record { numbers = count; ahead = countLead }) (service side ports slots list entries who start len)
   reply-counted c = reply-is c (report-clear checks count c)
 
 -- ---- whom a count is for

@@ -7,8 +7,8 @@ use mathlib.Core.List.{List, [], _∷_}
 use lib.IntN.{pos, negsuc}
 use lib.ListN.{length, getD, take, drop}
 use Rattle.rules.specs.Words.{Near, Within}
-use Rattle.rules.specs.Flows.{stride, flows, outputOf, portOf, countsOf, Class, flow, portOn, input, output, link, OnSwitch, load, Fits}
-use Rattle.rules.specs.Frames.{right, cells, runOf, repeated, Power, Legal, Block, Balanced}
+use Rattle.rules.specs.Flows.{stride, flows, outputOf, portOf, countsOf, Side, other, Class, flow, portOn, input, output, link, OnSwitch, load, Fits}
+use Rattle.rules.specs.Frames.{rightOn, cellsOn, runOf, repeated, Power, LegalOn, Block, BalancedOn}
 use Rattle.rules.specs.Rules.{Scheduled}
 use Rattle.strays.specs.Stray.{earliest}
 use Rattle.calls.specs.Refusals.{admitted}
@@ -112,42 +112,42 @@ pub record FirstWrong (rows width : ℕ) (Fact : ℕ → ℕ → Type 0) (r c : 
   pub columns-before : (z : ℕ) → z < c → Fact r z
 
 -- The halves, half slots each from slot start on, differ by at most 1 for each flow, input, output and link and in total.
-abbrev pub HalvesNear : ℕ → List ℕ → List ℕ → ℕ → ℕ → Type 0
-HalvesNear ports list entries start half =
-    (c : Class) → OnSwitch ports c → Near 1 (cells c ports list (runOf ports start half entries)) (cells c ports list (runOf ports (start + half) half entries))
+abbrev pub HalvesNear : Side → ℕ → List ℕ → List ℕ → ℕ → ℕ → Type 0
+HalvesNear side ports list entries start half =
+    (c : Class) → OnSwitch ports c → Near 1 (cellsOn side ports list c (runOf ports start half entries)) (cellsOn side ports list c (runOf ports (start + half) half entries))
 
 -- The block of twice half slots from slot start on is the largest that is not so, and of those the earliest.
-pub record FirstUnbalanced (ports slots : ℕ) (list entries : List ℕ) (start half : ℕ) : Type 0 where
+pub record FirstUnbalanced (side : Side) (ports slots : ℕ) (list entries : List ℕ) (start half : ℕ) : Type 0 where
   pub block : Block slots start (2 * half)
-  pub unbalanced : HalvesNear ports list entries start half → ⊥
-  pub larger : (a h : ℕ) → half < h → Block slots a (2 * h) → HalvesNear ports list entries a h
-  pub earlier : (a : ℕ) → a < start → Block slots a (2 * half) → HalvesNear ports list entries a half
+  pub unbalanced : HalvesNear side ports list entries start half → ⊥
+  pub larger : (a h : ℕ) → half < h → Block slots a (2 * h) → HalvesNear side ports list entries a h
+  pub earlier : (a : ℕ) → a < start → Block slots a (2 * half) → HalvesNear side ports list entries a half
 
--- No entry is wrong, no slot uses an output twice, each flow is in its cells of slots: place by place, and flow by flow.
-abbrev pub EntryRight : ℕ → List ℕ → List ℕ → ℕ → ℕ → Type 0
-EntryRight ports list entries s i = right list i (getD entries (s * ports + i) 0) ≡ true
+-- No entry is wrong, no slot uses a port of the other side twice, each flow is in its cells of slots: place by place, and flow by flow.
+abbrev pub EntryRight : Side → ℕ → List ℕ → List ℕ → ℕ → ℕ → Type 0
+EntryRight side ports list entries s i = rightOn side list i (getD entries (s * ports + i) 0) ≡ true
 
-abbrev pub OutputOnce : ℕ → List ℕ → List ℕ → ℕ → ℕ → Type 0
-OutputOnce ports list entries s o = cells (portOn output o) ports list (runOf ports s 1 entries) ≤ 1
+abbrev pub PortOnce : Side → ℕ → List ℕ → List ℕ → ℕ → ℕ → Type 0
+PortOnce side ports list entries s x = cellsOn side ports list (portOn (other side) x) (runOf ports s 1 entries) ≤ 1
 
-abbrev pub CountRight : ℕ → List ℕ → List ℕ → ℕ → Type 0
-CountRight ports list entries f = cells (flow f) ports list entries ≡ load (flow f) list
+abbrev pub CountRight : Side → ℕ → List ℕ → List ℕ → ℕ → Type 0
+CountRight side ports list entries f = cellsOn side ports list (flow f) entries ≡ load (flow f) list
 
 -- The first fault, in their order over the whole frame, with its place by numbers from 1; or clean, which is 0.
-pub data Finds (ports slots : ℕ) (list entries : List ℕ) : List ℕ → Type 0 where
-  entry-101 : {s i : ℕ} → FirstWrong slots ports (EntryRight ports list entries) s i → Finds ports slots list entries (101 ∷ suc s ∷ suc i ∷ [])
-  output-102 : {s o : ℕ} → Throughout slots ports (EntryRight ports list entries) → FirstWrong slots ports (OutputOnce ports list entries) s o
-      → Finds ports slots list entries (102 ∷ suc s ∷ suc o ∷ [])
-  flow-103 : {f : ℕ} → Throughout slots ports (EntryRight ports list entries) → Throughout slots ports (OutputOnce ports list entries)
-      → FirstNot (flows list) (CountRight ports list entries) f → Finds ports slots list entries (103 ∷ suc f ∷ [])
-  block-104 : {start half : ℕ} → Legal ports slots list entries → FirstUnbalanced ports slots list entries start half
-      → Finds ports slots list entries (104 ∷ suc start ∷ 2 * half ∷ [])
-  clean-0 : Legal ports slots list entries → Balanced ports slots list entries → Finds ports slots list entries (0 ∷ [])
+pub data Finds (side : Side) (ports slots : ℕ) (list entries : List ℕ) : List ℕ → Type 0 where
+  entry-101 : {s i : ℕ} → FirstWrong slots ports (EntryRight side ports list entries) s i → Finds side ports slots list entries (101 ∷ suc s ∷ suc i ∷ [])
+  port-102 : {s x : ℕ} → Throughout slots ports (EntryRight side ports list entries) → FirstWrong slots ports (PortOnce side ports list entries) s x
+      → Finds side ports slots list entries (102 ∷ suc s ∷ suc x ∷ [])
+  flow-103 : {f : ℕ} → Throughout slots ports (EntryRight side ports list entries) → Throughout slots ports (PortOnce side ports list entries)
+      → FirstNot (flows list) (CountRight side ports list entries) f → Finds side ports slots list entries (103 ∷ suc f ∷ [])
+  block-104 : {start half : ℕ} → LegalOn side ports slots list entries → FirstUnbalanced side ports slots list entries start half
+      → Finds side ports slots list entries (104 ∷ suc start ∷ 2 * half ∷ [])
+  clean-0 : LegalOn side ports slots list entries → BalancedOn side ports slots list entries → Finds side ports slots list entries (0 ∷ [])
 
 -- 1, 2, 3, 21, 22, 23, 4; or what is found in the frame: the first fault, or clean.
-pub data Inspects (ports slots : ℕ) (list entries : List ℕ) : List ℕ → Type 0 where
-  refused : {n : ℕ} → FrameRefused ports slots list entries n → Inspects ports slots list entries (n ∷ [])
-  found : {given : List ℕ} → WellFormed ports slots list → length entries ≡ slots * ports → Finds ports slots list entries given → Inspects ports slots list entries given
+pub data Inspects (side : Side) (ports slots : ℕ) (list entries : List ℕ) : List ℕ → Type 0 where
+  refused : {n : ℕ} → FrameRefused ports slots list entries n → Inspects side ports slots list entries (n ∷ [])
+  found : {given : List ℕ} → WellFormed ports slots list → length entries ≡ slots * ports → Finds side ports slots list entries given → Inspects side ports slots list entries given
 
 -- ---- Slot view
 -- The number, where in the frame the part begins, how many entries it has, and the entries: none on refusal.
@@ -172,20 +172,20 @@ pub record RunFound (ports slots : ℕ) (list entries : List ℕ) (start s : ℕ
 -- 1, 2, 3, 21, 22, 23, 4; 11 of the start; 12 where no flow of the list and no port is named; 13; each with lead 0. Or 0 and the cells of
 -- the run, and the lead: n where slots × cells is n more than length × the cells of the whole frame, and −(n + 1), which is negsuc n,
 -- where it is n + 1 less.
-pub data Counts (ports slots : ℕ) (list entries : List ℕ) (who : Who) (start len : ℕ) : Reply → Type 0 where
-  refused : {n : ℕ} → FrameRefused ports slots list entries n → Counts ports slots list entries who start len (record { numbers = n ∷ []; ahead = pos 0 })
+pub data Counts (side : Side) (ports slots : ℕ) (list entries : List ℕ) (who : Who) (start len : ℕ) : Reply → Type 0 where
+  refused : {n : ℕ} → FrameRefused ports slots list entries n → Counts side ports slots list entries who start len (record { numbers = n ∷ []; ahead = pos 0 })
   start-11 : WellFormed ports slots list → length entries ≡ slots * ports → (Within 1 slots start → ⊥)
-      → Counts ports slots list entries who start len (record { numbers = 11 ∷ []; ahead = pos 0 })
+      → Counts side ports slots list entries who start len (record { numbers = 11 ∷ []; ahead = pos 0 })
   who-12 : {s : ℕ} → RunFound ports slots list entries start s → ((c : Class) → Names ports list who c → ⊥)
-      → Counts ports slots list entries who start len (record { numbers = 12 ∷ []; ahead = pos 0 })
+      → Counts side ports slots list entries who start len (record { numbers = 12 ∷ []; ahead = pos 0 })
   length-13 : {s : ℕ} → RunFound ports slots list entries start s → {c : Class} → Names ports list who c → 1000000 < len
-      → Counts ports slots list entries who start len (record { numbers = 13 ∷ []; ahead = pos 0 })
+      → Counts side ports slots list entries who start len (record { numbers = 13 ∷ []; ahead = pos 0 })
   counted-ahead : {s : ℕ} → RunFound ports slots list entries start s → {c : Class} → Names ports list who c → len ≤ 1000000
-      → (n : ℕ) → slots * cells c ports list (repeated ports slots entries s len) ≡ len * cells c ports list entries + n
-      → Counts ports slots list entries who start len (record { numbers = 0 ∷ cells c ports list (repeated ports slots entries s len) ∷ []; ahead = pos n })
+      → (n : ℕ) → slots * cellsOn side ports list c (repeated ports slots entries s len) ≡ len * cellsOn side ports list c entries + n
+      → Counts side ports slots list entries who start len (record { numbers = 0 ∷ cellsOn side ports list c (repeated ports slots entries s len) ∷ []; ahead = pos n })
   counted-behind : {s : ℕ} → RunFound ports slots list entries start s → {c : Class} → Names ports list who c → len ≤ 1000000
-      → (n : ℕ) → slots * cells c ports list (repeated ports slots entries s len) + suc n ≡ len * cells c ports list entries
-      → Counts ports slots list entries who start len (record { numbers = 0 ∷ cells c ports list (repeated ports slots entries s len) ∷ []; ahead = negsuc n })
+      → (n : ℕ) → slots * cellsOn side ports list c (repeated ports slots entries s len) + suc n ≡ len * cellsOn side ports list c entries
+      → Counts side ports slots list entries who start len (record { numbers = 0 ∷ cellsOn side ports list c (repeated ports slots entries s len) ∷ []; ahead = negsuc n })
 
 -- ---- Depth
 -- The furthest that the earliest cells of some of the first slots get above their share, where 2 ^ k slots have m cells: none gets further,
@@ -217,9 +217,10 @@ pub record ByCases : Type 0 where
   pub admit : (ports slots : ℕ) (list limits : List ℕ) → Exactly (Admits ports slots list limits) (admitted ports slots list limits)
   pub build : (ports slots : ℕ) (list limits buffer : List ℕ)
       → Exactly (Builds ports slots list limits buffer) (built ports slots list limits buffer, frameAfter ports slots list limits buffer)
-  pub inspect : (ports slots : ℕ) (list entries : List ℕ) → Exactly (Inspects ports slots list entries) (inspected ports slots list entries)
+  pub inspect : (side : Side) (ports slots : ℕ) (list entries : List ℕ)
+      → Exactly (Inspects side ports slots list entries) (inspected side ports slots list entries)
   pub view : (ports slots : ℕ) (entries : List ℕ) (slot : ℕ)
       → Exactly (Views ports slots entries slot) (viewNumber ports slots entries slot, viewStart ports slots entries slot, viewSize ports slots entries slot, viewed ports slots entries slot)
-  pub count : (ports slots : ℕ) (list entries : List ℕ) (who : Who) (start len : ℕ)
-      → Exactly (Counts ports slots list entries who start len) (service ports slots list entries who start len)
+  pub count : (side : Side) (ports slots : ℕ) (list entries : List ℕ) (who : Who) (start len : ℕ)
+      → Exactly (Counts side ports slots list entries who start len) (service side ports slots list entries who start len)
   pub depth-of : (ports slots : ℕ) (list : List ℕ) (who : Who) → Exactly (Depths ports slots list who) (depth ports slots list who)

@@ -6,8 +6,8 @@ use lib.Dec.{ltb}
 use lib.ListN.{getD, take, drop}
 use lib.IntN.{ℤ, pos, _-ℤ_}
 use Rattle.rules.specs.Words.{if, within}
-use Rattle.rules.specs.Flows.{flows, Class, flow, portOn, input, output}
-use Rattle.rules.specs.Frames.{cells, repeated}
+use Rattle.rules.specs.Flows.{flows, Side, Class, flow, portOn, input, output}
+use Rattle.rules.specs.Frames.{cellsOn, repeated}
 use Rattle.calls.specs.Refusals.{Check, report, none-holds, accepted, refusal, bad-ports, bad-slots, listChecks, bad-frame, bad-slot}
 use Rattle.calls.specs.declared.Who.{Who}
 use Rattle.calls.specs.declared.Who.the-variants.{Flow, Input, Output}
@@ -53,9 +53,12 @@ bad-length len = (ltb 1000000 len, 13 ∷ [])
 
 -- How far ahead a run is: slots × its cells, less its length × the cells of one whole frame, as counted in that frame. An
 -- integer, below 0 where the run is behind; over slots, it is the cells that the run has above its share.
-unfoldable pub lead : Class → ℕ → ℕ → List ℕ → List ℕ → ℕ → ℕ → ℤ
-lead c ports slots list entries start len =
-    pos (slots * cells c ports list (repeated ports slots entries start len)) -ℤ pos (len * cells c ports list entries)
+unfoldable pub leadOn : Side → Class → ℕ → ℕ → List ℕ → List ℕ → ℕ → ℕ → ℤ
+leadOn side c ports slots list entries start len =
+    pos (slots * cellsOn side ports list c (repeated ports slots entries start len)) -ℤ pos (len * cellsOn side ports list c entries)
+
+abbrev pub lead : Class → ℕ → ℕ → List ℕ → List ℕ → ℕ → ℕ → ℤ
+lead c ports slots list entries start len = leadOn input c ports slots list entries start len
 
 -- An answer: its numbers, and a lead.
 pub record Reply : Type 0 where
@@ -79,10 +82,10 @@ countChecks ports slots list entries who start len =
     )
 
 -- The number is the count over the run's entries, and the lead is that run's.
-unfoldable pub service : ℕ → ℕ → List ℕ → List ℕ → Who → ℕ → ℕ → Reply
-service ports slots list entries who start len =
+unfoldable pub service : Side → ℕ → ℕ → List ℕ → List ℕ → Who → ℕ → ℕ → Reply
+service side ports slots list entries who start len =
     let checks = countChecks ports slots list entries who start len in
     record {
-      numbers = report checks (0 ∷ cells (classOf who) ports list (repeated ports slots entries (start - 1) len) ∷ []);
-      ahead = if (none-holds checks) (lead (classOf who) ports slots list entries (start - 1) len) (pos 0);
+      numbers = report checks (0 ∷ cellsOn side ports list (classOf who) (repeated ports slots entries (start - 1) len) ∷ []);
+      ahead = if (none-holds checks) (leadOn side (classOf who) ports slots list entries (start - 1) len) (pos 0);
     }

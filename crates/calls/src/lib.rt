@@ -24,6 +24,8 @@ pub enum Refusal {
     SlotNumber,
     FlowOrPort,
     RunLength,
+    Entries,
+    SecondLength,
     TooManyFlows,
     FlowPort,
     FlowLink,
@@ -46,11 +48,18 @@ pub enum Built {
     Refused(Refusal),
 }
 
-// What Inspect answers; slots, ports, flows and the first slot of a block are numbered from 1.
+// The side of a frame: a slot has one entry for each port of it.
+pub enum Side {
+    Input,
+    Output,
+}
+
+// What Inspect answers; slots, ports, flows and the first slot of a block are numbered from 1. A wrong entry stands at a port of the
+// frame's own side, and a port that is used twice is one of the other side.
 pub enum Inspection {
     Clean,
-    WrongEntry { slot: usize, input: usize },
-    OutputTwice { slot: usize, output: usize },
+    WrongEntry { slot: usize, port: usize },
+    PortTwice { slot: usize, port: usize },
     FlowCount { flow: usize },
     UnbalancedBlock { slot: usize, size: usize },
     Refused(Refusal),

@@ -8,7 +8,7 @@ use lib.ListN.{length, replicate}
 use lib.Signed.{_≤ℤ_}
 use Rattle.rules.specs.Words.{sumTo, Every}
 use Rattle.rules.specs.Flows.{flow, link, portOf, countsOf, loadIn}
-use Rattle.rules.specs.Frames.{cells, repeated}
+use Rattle.rules.specs.Frames.{cells, cellsOn, repeated}
 use Rattle.rules.specs.Schedule.{walk, settleAt, favours, slotOf, frameOf}
 use Rattle.calls.specs.Build.{buildChecks}
 use Rattle.calls.specs.Service.{lead}
@@ -22,7 +22,7 @@ use Rattle.bounds.proofs.ByLoad.{same-within}
 use Rattle.bounds.proofs.Cases.{asked, lent, calls, wire, shapes, steady, two}
 
 has-two : HasAtLeast 2 (flow 0) 2 wire
-unfolding chain cells buildChecks sumTo portOf countsOf loadIn walk settleAt favours slotOf frameOf
+unfolding chain cellsOn buildChecks sumTo portOf countsOf loadIn walk settleAt favours slotOf frameOf
 has-two = (omega arith, (omega arith, tt))
 
 -- with an allowance of one cell, which is 4 parts, at most 4 + 2 × 2 parts wait, and at most 2 more before a cell leaves

@@ -4,7 +4,7 @@ use mathlib.Core.Path.{_≡_}
 use mathlib.Core.List.{List, [], _∷_}
 use lib.ListN.{length}
 use Rattle.rules.specs.Words.{Every}
-use Rattle.rules.specs.Flows.{Class, OnSwitch}
+use Rattle.rules.specs.Flows.{Class, OnSwitch, input}
 use Rattle.calls.specs.Inspect.{inspected}
 use Rattle.wire.specs.Wire.{Carried, share, Shape, Accurate}
 use Rattle.strays.specs.Stray.{stray}
@@ -27,12 +27,12 @@ use Rattle.calls.proofs.Clean.{clean-sound}
 pub record Inspected (f : Carried) : Type 0 where
   pub well : WellFormed (f .call .ports) (f .call .slots) (f .call .list)
   pub size : length (f .entries) ≡ f .call .slots * f .call .ports
-  pub clean : inspected (f .call .ports) (f .call .slots) (f .call .list) (f .entries) ≡ 0 ∷ []
+  pub clean : inspected input (f .call .ports) (f .call .slots) (f .call .list) (f .entries) ≡ 0 ∷ []
 
 all-sound : (fs : List Carried) → Every Inspected fs → Every Sound fs
 all-sound [] h = tt
 all-sound (f ∷ fs) h =
-    (clean-sound (f .call .ports) (f .call .slots) (f .call .list) (f .entries) (h .0 .well) (h .0 .size) (h .0 .clean), all-sound fs (h .1))
+    (clean-sound input (f .call .ports) (f .call .slots) (f .call .list) (f .entries) (h .0 .well) (h .0 .size) (h .0 .clean), all-sound fs (h .1))
 
 -- Frames that Inspect calls clean, whoever made them, keep the bounds of their loads end to end, are accurate, as demand 3 says,
 pub clean-stray : (ports k : ℕ) (frames : List Carried) → Every Inspected frames → Every (Shape ports (2 ^ k)) frames → StrayOn ports k frames
@@ -63,5 +63,5 @@ clean-paced ports k frames clean shape = sound-paced ports k frames (all-sound f
 pub clean-lead : (f : Carried) → Inspected f → (k : ℕ) → f .call .slots ≡ 2 ^ k → (c : Class) → OnSwitch (f .call .ports) c → (start len : ℕ)
     → Led c (f .call .ports) (f .call .slots) k (f .call .list) (f .entries) start len
 clean-lead f h k power c of =
-    let s = clean-sound (f .call .ports) (f .call .slots) (f .call .list) (f .entries) (h .well) (h .size) (h .clean) in
+    let s = clean-sound input (f .call .ports) (f .call .slots) (f .call .list) (f .entries) (h .well) (h .size) (h .clean) in
     sound-lead (s .0) (s .1) c of k power

@@ -10,9 +10,9 @@ use lib.IntN.{pos, negℤ}
 use lib.ListN.{length}
 use lib.Signed.{_≤ℤ_}
 use Rattle.rules.specs.Words.{sumTo, Every}
-use Rattle.rules.specs.Flows.{Class, OnSwitch, load}
+use Rattle.rules.specs.Flows.{Class, OnSwitch, load, input}
 use Rattle.rules.specs.Frames.{cells, repeated}
-use Rattle.calls.specs.Service.{lead}
+use Rattle.calls.specs.Service.{lead, leadOn}
 use Rattle.strays.specs.Stray.{stray}
 use Rattle.wire.specs.Wire.{Carried, none, chain, cellsAt, cellsIn, inside, share, Shape}
 use Rattle.wire.specs.Loads.{loadOf, Touches}
@@ -203,12 +203,12 @@ module _ (c : Class) (ports slots : ℕ) (list entries : List ℕ) (size : lengt
   turns-served : (start len : ℕ) → arrived inTurn start len ≡ cells c ports list (repeated ports slots entries start len)
   unfolding arrived
   turns-served start len =
-      sum-ext len _ _ (λ t l. cells-once ports slots list entries size c least (start + t)) ∙ sym (cells-repeated ports slots list entries size c least start len)
+      sum-ext len _ _ (λ t l. cells-once input ports slots list entries size c least (start + t)) ∙ sym (cells-repeated input ports slots list entries size c least start len)
 
   module _ (b : ℕ) (leads : (start len : ℕ) → negℤ (pos b) ≤ℤ lead c ports slots list entries start len) (a : ℕ) (arrive : ℕ → ℕ)
       (paced : (start len : ℕ) → slots * arrived arrive start len ≤ len * cells c ports list entries + a) (t : ℕ) (s : Since arrive inTurn t) where
     not-behind : (start len : ℕ) → len * cells c ports list entries ≤ slots * cells c ports list (repeated ports slots entries start len) + b
-    unfolding lead
+    unfolding leadOn
     not-behind start len = minus-least b _ _ (leads start len)
 
     left-waiting : slots * waiting arrive inTurn t ≤ a + b

@@ -8,7 +8,7 @@ use native.Mathlib.Omega.{arith}
 use lib.ListN.{length}
 use Rattle.rules.specs.Words.{sumTo, Every}
 use Rattle.rules.specs.Flows.{portOf, countsOf, loadIn, load}
-use Rattle.rules.specs.Frames.{cells, runOf}
+use Rattle.rules.specs.Frames.{cellsOn, runOf}
 use Rattle.calls.specs.Refusals.{slotsEach}
 use Rattle.rules.specs.Schedule.{walk, settleAt, favours, slotOf, frameOf}
 use Rattle.calls.specs.Build.{buildChecks}
@@ -37,7 +37,7 @@ seam-wire = refl
 
 -- three times the share, over 2 ^ k, is exactly (2 k + 1) × 2 ^ k above 3 × 2 ^ k × cells
 pub tight : 3 * share second 0 seam 1 2 ≡ 3 * 2 ^ 1 * cellsIn second seam 1 2 + (2 * 1 + 1) * 2 ^ 1
-unfolding chain cellsAt cellsIn share cells runOf buildChecks sumTo portOf countsOf loadIn walk settleAt favours slotOf frameOf
+unfolding chain cellsAt cellsIn share cellsOn runOf buildChecks sumTo portOf countsOf loadIn walk settleAt favours slotOf frameOf
 tight = refl
 
 -- the flow has 1 cell in each frame of the seam
@@ -63,14 +63,14 @@ arriving-paced start len h =
 
 -- after the second of them a + 2 × stray k m parts of 1 / 2 ^ k of a cell wait, k = 1 and a = 2, which is one cell
 pub deepest : 2 ^ 1 * waiting arriving (cellsAt second seam) 3 ≡ 2 + 2 * stray 1 1
-unfolding waiting chain cellsAt cells runOf buildChecks sumTo portOf countsOf loadIn walk settleAt favours slotOf frameOf earliest largest stray
+unfolding waiting chain cellsAt cellsOn runOf buildChecks sumTo portOf countsOf loadIn walk settleAt favours slotOf frameOf earliest largest stray
 deepest = refl
 
 -- the last of them is there still after two slots more, and by how long it may take it must have left in the third: 2 × m + 2 ^ k is as much as
 -- a + 2 × stray k m, where m and k are 1
 pub slowest : (queue arriving (cellsAt second seam) 3 ≡ 0 ∷ 1 ∷ []) × (queue arriving (cellsAt second seam) 5 ≡ 1 ∷ [])
     × (2 * 1 + 2 ^ 1 ≡ 2 + 2 * stray 1 1)
-unfolding queue chain cellsAt cells runOf buildChecks sumTo portOf countsOf loadIn walk settleAt favours slotOf frameOf earliest largest stray
+unfolding queue chain cellsAt cellsOn runOf buildChecks sumTo portOf countsOf loadIn walk settleAt favours slotOf frameOf earliest largest stray
 slowest = (refl, refl, refl)
 
 -- two cells arrive in the first slot, and one leaves in it
@@ -80,7 +80,7 @@ twoAtOnce t = 2 * (1 - t)
 -- the other is then at the head of its queue, and is so still after two slots more, which is one fewer than the longest wait
 pub latest : (queue twoAtOnce (cellsAt second seam) 1 ≡ 1 ∷ []) × (queue twoAtOnce (cellsAt second seam) 3 ≡ 1 ∷ [])
     × (leastEnough (byDemand3 1 1) 1 1 1 ≡ 3) × (leastEnough (byStray 1 1) 1 1 1 ≡ 3)
-unfolding queue chain cellsAt cells runOf buildChecks sumTo portOf countsOf loadIn walk settleAt favours slotOf frameOf earliest largest stray
+unfolding queue chain cellsAt cellsOn runOf buildChecks sumTo portOf countsOf loadIn walk settleAt favours slotOf frameOf earliest largest stray
 latest = (refl, refl, refl, refl)
 
 -- A switch whose frames give the flow those two slots, and behind it, in step, one with the frames of the seam.
@@ -102,5 +102,5 @@ row-reserved = (
 
 -- after the second of them the other holds 4 × stray k m
 pub deepest-behind : 2 ^ 1 * waiting (onward ahead arriving) (scheduledAt behind) 3 ≡ 4 * stray 1 1
-unfolding waiting chain cellsAt cells runOf buildChecks sumTo portOf countsOf loadIn walk settleAt favours slotOf frameOf earliest largest stray
+unfolding waiting chain cellsAt cellsOn runOf buildChecks sumTo portOf countsOf loadIn walk settleAt favours slotOf frameOf earliest largest stray
 deepest-behind = refl

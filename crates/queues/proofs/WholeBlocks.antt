@@ -7,7 +7,7 @@ use native.Mathlib.Omega.{arith}
 use lib.Pow.{pow-pos, pow-add}
 use lib.ListN.{length}
 use Rattle.rules.specs.Words.{Every}
-use Rattle.rules.specs.Flows.{Class, OnSwitch}
+use Rattle.rules.specs.Flows.{Class, OnSwitch, input}
 use Rattle.rules.specs.Frames.{cells, runOf, Balanced, Block}
 use Rattle.wire.specs.Wire.{Carried, none, chain, cellsIn, Shape}
 use Rattle.queues.specs.Wait.{HasAtLeast, BlocksOn, BlockWait}
@@ -27,7 +27,7 @@ module _ (c : Class) (ports slots k : ℕ) (of : OnSwitch ports c) (list entries
   half-least x start z block most =
       let two : 2 * z ≡ z + z = omega arith in
       let long = mul-le-mul-right ports (block-fits slots start (2 * z) block) in
-      let sum = cells-run ports list c start z z entries (omega arith) in
+      let sum = cells-run input ports list c start z z entries (omega arith) in
       let near = balanced c of start z block in
       let all : 2 * x ≤ cells c ports list (runOf ports start (z + z) entries) = rw two at most in
       (omega (arith, near .0, near .1), omega (arith, near .0, near .1))

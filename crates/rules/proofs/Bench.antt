@@ -6,7 +6,7 @@ use mathlib.Core.Bool.{true, false}
 use native.Mathlib.Omega.{arith}
 use Rattle.rules.specs.Words.{sumTo}
 use Rattle.rules.specs.Flows.{flow, portOn, input, output, link, total, portOf, countsOf, loadIn, load}
-use Rattle.rules.specs.Frames.{right, cells, runOf, Legal, whole, Balanced}
+use Rattle.rules.specs.Frames.{right, cells, cellsOn, runOf, Legal, whole, Balanced}
 use Rattle.rules.specs.Schedule.{walk, settleAt, favours}
 
 -- ---- loads and entries
@@ -32,7 +32,7 @@ OnlyAtItsInput entries =
     × (cells (link 0) 2 crossed entries ≡ 1) × (cells total 2 crossed entries ≡ 2)
 
 pub no-flow-counts : OnlyAtItsInput (2 ∷ 9 ∷ 1 ∷ 0 ∷ [])
-unfolding cells sumTo portOf
+unfolding cellsOn sumTo portOf
 no-flow-counts = (refl, refl, refl, refl, refl)
 
 -- ---- frames that are not legal, or not balanced
@@ -42,17 +42,17 @@ joint = 1 ∷ 1 ∷ 1 ∷ 1 ∷ 2 ∷ 1 ∷ 2 ∷ 1 ∷ []
 
 -- the second has one cell of two
 pub not-legal-short : Legal 2 2 joint (1 ∷ 0 ∷ 0 ∷ 2 ∷ []) → ⊥
-unfolding cells sumTo portOf countsOf loadIn
+unfolding cellsOn sumTo portOf countsOf loadIn
 not-legal-short l = omega (arith, l .exact 1 (omega arith))
 
 -- the first slot has both
 pub not-legal-twice : Legal 2 2 joint (1 ∷ 2 ∷ 0 ∷ 2 ∷ []) → ⊥
-unfolding cells runOf sumTo portOf
+unfolding cellsOn runOf sumTo portOf
 not-legal-twice l = omega (arith, l .once 0 0 (omega arith) (omega arith))
 
 -- both cells of a flow in the first half
 pub not-balanced : Balanced 1 4 (1 ∷ 1 ∷ 2 ∷ 1 ∷ []) (1 ∷ 1 ∷ 0 ∷ 0 ∷ []) → ⊥
-unfolding cells runOf sumTo portOf
+unfolding cellsOn runOf sumTo portOf
 not-balanced b = omega (arith, b total tt 0 2 whole .0)
 
 -- ---- partners at an output

@@ -7,34 +7,34 @@ use native.Mathlib.Nat.{mul-le-mul-right, mul-add-mod-self-right, mod-eq-of-lt}
 use lib.ListN.{length, getD, drop, length-append, length-take, length-drop, List·getD-append}
 use lib.Seq.{getD-append-add, take-add, drop-drop, take-all, take-append-le, drop-append-le, drop-append-add}
 use Rattle.rules.specs.Words.{bit, sumTo}
-use Rattle.rules.specs.Flows.{Class}
-use Rattle.rules.specs.Frames.{counts, cells, runOf}
+use Rattle.rules.specs.Flows.{Side, Class}
+use Rattle.rules.specs.Frames.{countsOn, cellsOn, runOf}
 use Rattle.rules.proofs.Sums.{sum-ext, sum-append}
 
+module _ (side : Side) (ports : ℕ) (list : List ℕ) where
+  pub cells-append : (c : Class) (n : ℕ) (v w : List ℕ) → length v ≡ n * ports → cellsOn side ports list c (v ++ w) ≡ cellsOn side ports list c v + cellsOn side ports list c w
+  unfolding cellsOn
+  cells-append c n v w e =
+      let f : ℕ → ℕ = λ q. bit (countsOn side c list (q % ports) (getD (v ++ w) q 0)) in
+      ap (λ z. sumTo z f) (length-append v w)
+      ∙ sum-append (length v) (length w) f
+      ∙ ap (λ z. z + sumTo (length w) (λ t. f (length v + t))) (sum-ext (length v) f _ (λ q h. ap (λ b. bit (countsOn side c list (q % ports) b)) (List·getD-append v w 0 q h)))
+      ∙ ap (λ z. cellsOn side ports list c v + z) (sum-ext (length w) (λ t. f (length v + t)) _ (λ q h.
+      let k : (length v + q) % ports ≡ q % ports = ap (λ z. (z + q) % ports) e ∙ mul-add-mod-self-right n ports q in
+      ap (λ z. bit (countsOn side c list z (getD (v ++ w) (length v + q) 0))) k ∙ ap (λ b. bit (countsOn side c list (q % ports) b)) (getD-append-add v w q 0)))
+
+  pub cells-none : (c : Class) → cellsOn side ports list c [] ≡ 0
+  unfolding cellsOn sumTo
+  cells-none c = refl
+
+  -- the entries of one slot are those of its inputs in turn
+  pub cells-slot : (c : Class) (slot : List ℕ) → length slot ≡ ports → cellsOn side ports list c slot ≡ sumTo ports (λ i. bit (countsOn side c list i (getD slot i 0)))
+  unfolding cellsOn
+  cells-slot c slot e =
+      ap (λ n. sumTo n (λ q. bit (countsOn side c list (q % ports) (getD slot q 0)))) e
+      ∙ sum-ext ports _ _ (λ q h. ap (λ x. bit (countsOn side c list x (getD slot q 0))) (mod-eq-of-lt h))
+
 module _ (ports : ℕ) where
-  module _ (list : List ℕ) where
-    pub cells-append : (c : Class) (n : ℕ) (v w : List ℕ) → length v ≡ n * ports → cells c ports list (v ++ w) ≡ cells c ports list v + cells c ports list w
-    unfolding cells
-    cells-append c n v w e =
-        let f : ℕ → ℕ = λ q. bit (counts c list (q % ports) (getD (v ++ w) q 0)) in
-        ap (λ z. sumTo z f) (length-append v w)
-        ∙ sum-append (length v) (length w) f
-        ∙ ap (λ z. z + sumTo (length w) (λ t. f (length v + t))) (sum-ext (length v) f _ (λ q h. ap (λ b. bit (counts c list (q % ports) b)) (List·getD-append v w 0 q h)))
-        ∙ ap (λ z. cells c ports list v + z) (sum-ext (length w) (λ t. f (length v + t)) _ (λ q h.
-        let k : (length v + q) % ports ≡ q % ports = ap (λ z. (z + q) % ports) e ∙ mul-add-mod-self-right n ports q in
-        ap (λ z. bit (counts c list z (getD (v ++ w) (length v + q) 0))) k ∙ ap (λ b. bit (counts c list (q % ports) b)) (getD-append-add v w q 0)))
-
-    pub cells-none : (c : Class) → cells c ports list [] ≡ 0
-    unfolding cells sumTo
-    cells-none c = refl
-
-    -- the entries of one slot are those of its inputs in turn
-    pub cells-slot : (c : Class) (slot : List ℕ) → length slot ≡ ports → cells c ports list slot ≡ sumTo ports (λ i. bit (counts c list i (getD slot i 0)))
-    unfolding cells
-    cells-slot c slot e =
-        ap (λ n. sumTo n (λ q. bit (counts c list (q % ports) (getD slot q 0)))) e
-        ∙ sum-ext ports _ _ (λ q h. ap (λ x. bit (counts c list x (getD slot q 0))) (mod-eq-of-lt h))
-
   pub run-append : (start a b : ℕ) (entries : List ℕ) → runOf ports start (a + b) entries ≡ runOf ports start a entries ++ runOf ports (start + a) b entries
   unfolding runOf
   run-append start a b entries =
@@ -66,10 +66,10 @@ module _ (ports : ℕ) where
       let f : (n + start) * ports ≡ length v + start * ports = omega arith in
       rw (f, drop-append-add v w (start * ports))
 
-  module _ (list : List ℕ) where
-    -- the cells of a run that is two runs end to end
-    pub cells-run : (c : Class) (start a b : ℕ) (entries : List ℕ) → (start + a) * ports ≤ length entries
-        → cells c ports list (runOf ports start (a + b) entries) ≡ cells c ports list (runOf ports start a entries) + cells c ports list (runOf ports (start + a) b entries)
-    cells-run c start a b entries h =
-        ap (cells c ports list) (run-append start a b entries)
-        ∙ cells-append list c a (runOf ports start a entries) (runOf ports (start + a) b entries) (run-length start a entries h)
+module _ (side : Side) (ports : ℕ) (list : List ℕ) where
+  -- the cells of a run that is two runs end to end
+  pub cells-run : (c : Class) (start a b : ℕ) (entries : List ℕ) → (start + a) * ports ≤ length entries
+      → cellsOn side ports list c (runOf ports start (a + b) entries) ≡ cellsOn side ports list c (runOf ports start a entries) + cellsOn side ports list c (runOf ports (start + a) b entries)
+  cells-run c start a b entries h =
+      ap (cellsOn side ports list c) (run-append ports start a b entries)
+      ∙ cells-append side ports list c a (runOf ports start a entries) (runOf ports (start + a) b entries) (run-length ports start a entries h)

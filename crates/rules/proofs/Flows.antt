@@ -2,15 +2,15 @@
 use Prim.Native.Nat.{ℕ, suc, zero, _+_, _*_, _-_, _%_, _≤_, _<_}
 use mathlib.Core.Path.{_≡_, refl, sym, ap, _∙_}
 use mathlib.Core.List.{List, map}
-use mathlib.Core.Bool.{Bool, true}
+use mathlib.Core.Bool.{true, false, not}
 use native.Mathlib.Omega.{arith}
 use lib.Dec.{eqb}
 use lib.ListN.{length, getD}
 use borrow.Author.Tests.{eqb-true, eq-eqb, ne-eqb}
 use Rattle.rules.specs.Words.{if, both, bit, upFrom, sumIf, Within}
-use Rattle.rules.specs.Flows.{flows, numberOf, End, inputs, links, outputOf, portOf, countsOf, Class, flow, portOn, input, output, link, total, isOf, loadIn, OnSwitch}
-use Rattle.rules.specs.Frames.{isFlow, right, counts, cells}
-use Rattle.rules.proofs.Cases.{byBool, byEq, both-true, is-yes, is-no, within-yes, within-true}
+use Rattle.rules.specs.Flows.{flows, numberOf, End, links, outputOf, portOf, countsOf, Side, other, same, onSide, Class, flow, portOn, input, output, link, total, isOf, loadIn, OnSwitch}
+use Rattle.rules.specs.Frames.{isFlow, isFlowOf, rightOn, countsOn, cellsOn}
+use Rattle.rules.proofs.Cases.{byBool, byEq, both-true, is-yes, is-no, within-yes, within-above, within-true}
 use Rattle.rules.proofs.Sums.{sum-ext, sum-le, sum-zero, sum-one, sum-swap}
 
 -- ---- the counts of a list
@@ -62,89 +62,117 @@ link-under x port m =
     (λ e. let none : has (link x) f ≡ 0 = rw (ne-eqb (port links f) x e) in omega (arith, none)))
 
 -- ---- an entry
+-- the two sides
+pub same-side : (s : Side) → same s s ≡ true
+same-side input = refl
+same-side output = refl
+
+pub other-side : (s : Side) → same s (other s) ≡ false
+other-side input = refl
+other-side output = refl
+
+pub other-twice : (s : Side) → other (other s) ≡ s
+other-twice input = refl
+other-twice output = refl
+
 module _ (list : List ℕ) where
-  -- a right entry is 0 or the number of a flow of its input
-  pub by-entry : {P : Type 0} (at e : ℕ) → right list at e ≡ true → (e ≡ 0 → P)
-      → ((f : ℕ) → f < flows list → e ≡ suc f → portOf list inputs f ≡ at → P) → P
-  by-entry at zero r idle own = idle refl
-  by-entry at (suc f) r idle own =
-      let b = both-true (isFlow list (suc f)) (eqb (portOf list inputs (suc f - 1)) at) (rw (ne-eqb (suc f) 0 (omega arith)) at r) in
-      let w = within-true 1 (flows list) (suc f) (b .0) in
-      let e : suc f - 1 ≡ f = omega arith in
-      own f (w .1) refl (ap (portOf list inputs) (sym e) ∙ eqb-true (portOf list inputs (suc f - 1)) at (b .1))
-
-  pub right-flow : (at f : ℕ) → f < flows list → portOf list inputs f ≡ at → right list at (suc f) ≡ true
-  right-flow at f h e =
-      let d : suc f - 1 ≡ f = omega arith in
-      rw (ne-eqb (suc f) 0 (omega arith), within-yes 1 (flows list) (suc f) (omega arith) h, d) (eq-eqb (portOf list inputs f) at e)
-
-  is-flow : (f : ℕ) (t : ℕ → Bool) → f < flows list → bit (both (isFlow list (suc f)) (t (suc f - 1))) ≡ bit (t f)
-  is-flow f t h =
+  -- an entry that is a flow of a class
+  pub is-flow : (c : Class) (f : ℕ) → f < flows list → isFlowOf c list (suc f) ≡ isOf c (portOf list) f
+  is-flow c f h =
       let d : suc f - 1 ≡ f = omega arith in
       rw (within-yes 1 (flows list) (suc f) (omega arith) h, d)
 
+  -- and one that is a flow of none
+  pub no-flow : (c : Class) (e : ℕ) → flows list < e → isFlowOf c list e ≡ false
+  no-flow c e h = rw (within-above 1 (flows list) e (omega arith) h)
+
+module _ (side : Side) (list : List ℕ) where
+  -- a right entry is 0 or the number of a flow of its port
+  pub by-entry : {P : Type 0} (at e : ℕ) → rightOn side list at e ≡ true → (e ≡ 0 → P)
+      → ((f : ℕ) → f < flows list → e ≡ suc f → onSide side (portOf list) f ≡ at → P) → P
+  by-entry at zero r idle own = idle refl
+  by-entry at (suc f) r idle own =
+      let b = both-true (isFlow list (suc f)) (isOf (portOn side at) (portOf list) (suc f - 1)) (rw (ne-eqb (suc f) 0 (omega arith)) at r) in
+      let w = within-true 1 (flows list) (suc f) (b .0) in
+      let e : suc f - 1 ≡ f = omega arith in
+      own f (w .1) refl (ap (onSide side (portOf list)) (sym e) ∙ eqb-true (onSide side (portOf list) (suc f - 1)) at (b .1))
+
+  pub right-flow : (at f : ℕ) → f < flows list → onSide side (portOf list) f ≡ at → rightOn side list at (suc f) ≡ true
+  right-flow at f h e = rw (ne-eqb (suc f) 0 (omega arith), is-flow list (portOn side at) f h) (eq-eqb (onSide side (portOf list) f) at e)
+
   -- an idle entry counts for nothing
-  pub idle-counts : (c : Class) (at : ℕ) → bit (counts c list at 0) ≡ 0
+  pub idle-counts : (c : Class) (at : ℕ) → countsOn side c list at 0 ≡ false
   idle-counts (flow f) at = refl
-  idle-counts (portOn input i) at = byBool (eqb at i) (λ e. rw e) (λ e. rw e)
-  idle-counts (portOn output o) at = refl
+  idle-counts (portOn s x) at = byBool (same side s) (λ e. rw e (byBool (eqb at x) (λ d. rw d) (λ d. rw d))) (λ e. rw e)
   idle-counts (link x) at = refl
   idle-counts total at = refl
 
-  -- a flow of the input where it stands counts for the classes that the flow is of
-  pub own-counts : (c : Class) (at f : ℕ) → f < flows list → portOf list inputs f ≡ at → bit (counts c list at (suc f)) ≡ bit (isOf c (portOf list) f)
-  own-counts (flow g) at f h e = is-flow f (isOf (flow g) (portOf list)) h
-  own-counts (portOn input i) at f h e = rw (e, ne-eqb (suc f) 0 (omega arith)) (byBool (eqb at i) (λ d. rw d) (λ d. rw d))
-  own-counts (portOn output o) at f h e = is-flow f (isOf (portOn output o) (portOf list)) h
-  own-counts (link x) at f h e = is-flow f (isOf (link x) (portOf list)) h
-  own-counts total at f h e = is-flow f (λ _. true) h
+  -- a flow of the port where it stands counts for the classes that the flow is of
+  pub own-counts : (c : Class) (at f : ℕ) → f < flows list → onSide side (portOf list) f ≡ at → countsOn side c list at (suc f) ≡ isOf c (portOf list) f
+  own-counts (flow g) at f h e = is-flow list (flow g) f h
+  own-counts (portOn s x) at f h e = by-side side s e
+    where
+      own : (s : Side) → onSide s (portOf list) f ≡ at → both (eqb at x) (not (eqb (suc f) 0)) ≡ isOf (portOn s x) (portOf list) f
+      own s e = rw (e, ne-eqb (suc f) 0 (omega arith)) (byBool (eqb at x) (λ d. rw d) (λ d. rw d))
 
-  -- so a right entry counts for a class through the flow that it is
-  entry-counts : (c : Class) (at e : ℕ) → right list at e ≡ true
-      → bit (counts c list at e) ≡ sumIf (flows list) (isOf c (portOf list)) (λ f. bit (eqb e (suc f)))
+      by-side : (side s : Side) → onSide side (portOf list) f ≡ at → countsOn side (portOn s x) list at (suc f) ≡ isOf (portOn s x) (portOf list) f
+      by-side input input e = own input e
+      by-side input output e = is-flow list (portOn output x) f h
+      by-side output input e = is-flow list (portOn input x) f h
+      by-side output output e = own output e
+  own-counts (link x) at f h e = is-flow list (link x) f h
+  own-counts total at f h e = is-flow list total f h
+
+  -- so a right entry counts for a class by its flow alone, on either side
+  pub right-counts : (c : Class) (at e : ℕ) → rightOn side list at e ≡ true → countsOn side c list at e ≡ isFlowOf c list e
+  right-counts c at e r =
+      by-entry at e r (λ z. rw (z, idle-counts c at)) (λ f h z p. rw (z, own-counts c at f h p, is-flow list c f h))
+
+  -- which is through the flow that it is
+  entry-counts : (c : Class) (at e : ℕ) → rightOn side list at e ≡ true
+      → bit (countsOn side c list at e) ≡ sumIf (flows list) (isOf c (portOf list)) (λ f. bit (eqb e (suc f)))
   entry-counts c at e r =
       by-entry at e r
-      (λ z. rw z (idle-counts c at ∙ sym (sum-zero (flows list) _ (λ f h. byBool (isOf c (portOf list) f) (λ b. rw b (is-no 0 (suc f) (omega arith))) (λ b. rw b)))))
+      (λ z. rw (z, idle-counts c at) (sym (sum-zero (flows list) _ (λ f h. byBool (isOf c (portOf list) f) (λ b. rw b (is-no 0 (suc f) (omega arith))) (λ b. rw b)))))
       (λ f h z p.
-      rw z
-      (own-counts c at f h p
-      ∙ sym (sum-one (flows list) f _ h
+      rw (z, own-counts c at f h p)
+      (sym (sum-one (flows list) f _ h
       (λ g l n. byBool (isOf c (portOf list) g) (λ b. rw b (is-no (suc f) (suc g) (omega arith))) (λ b. rw b))
       ∙ byBool (isOf c (portOf list) f) (λ b. rw b (is-yes (suc f) (suc f) refl)) (λ b. rw b))))
 
-  -- for a flow of the list every entry that is its number counts, wherever it stands
-  pub flow-counts : (f at e : ℕ) → f < flows list → bit (counts (flow f) list at e) ≡ bit (eqb e (suc f))
+  -- whether an entry counts for a flow of the list goes by its number alone, wherever it stands
+  pub flow-counts : (f at e : ℕ) → f < flows list → bit (countsOn side (flow f) list at e) ≡ bit (eqb e (suc f))
   flow-counts f at e h =
       byEq e (suc f)
-      (λ d. rw d (is-flow f (isOf (flow f) (portOf list)) h ∙ is-yes f f refl ∙ sym (is-yes (suc f) (suc f) refl)))
+      (λ d. rw (d, is-flow list (flow f) f h) (is-yes f f refl ∙ sym (is-yes (suc f) (suc f) refl)))
       (λ d. byBool (isFlow list e)
       (λ b. let w = within-true 1 (flows list) e b in rw b (is-no (e - 1) f (omega arith) ∙ sym (is-no e (suc f) d)))
       (λ b. rw b (sym (is-no e (suc f) d))))
 
   -- for one that is not in the list, none does
-  not-flow : (f at e : ℕ) → flows list ≤ f → bit (counts (flow f) list at e) ≡ 0
+  not-flow : (f at e : ℕ) → flows list ≤ f → bit (countsOn side (flow f) list at e) ≡ 0
   not-flow f at e h =
       byBool (isFlow list e)
       (λ b. let w = within-true 1 (flows list) e b in rw b (is-no (e - 1) f (omega arith)))
       (λ b. rw b)
 
-  pub cells-not : (f ports : ℕ) (entries : List ℕ) → flows list ≤ f → cells (flow f) ports list entries ≡ 0
-  unfolding cells
+  pub cells-not : (f ports : ℕ) (entries : List ℕ) → flows list ≤ f → cellsOn side ports list (flow f) entries ≡ 0
+  unfolding cellsOn
   cells-not f ports entries h = sum-zero (length entries) _ (λ q _. not-flow f (q % ports) (getD entries q 0) h)
 
 -- ---- a class is its flows: what is exact for each flow is exact for every class
-module _ (ports : ℕ) (list entries : List ℕ) (each : (q : ℕ) → q < length entries → right list (q % ports) (getD entries q 0) ≡ true) where
-  cells-flows : (c : Class) → cells c ports list entries ≡ sumIf (flows list) (isOf c (portOf list)) (λ f. cells (flow f) ports list entries)
-  unfolding cells
+module _ (side : Side) (ports : ℕ) (list entries : List ℕ) (each : (q : ℕ) → q < length entries → rightOn side list (q % ports) (getD entries q 0) ≡ true) where
+  cells-flows : (c : Class) → cellsOn side ports list c entries ≡ sumIf (flows list) (isOf c (portOf list)) (λ f. cellsOn side ports list (flow f) entries)
+  unfolding cellsOn
   cells-flows c =
-      sum-ext (length entries) _ _ (λ q h. entry-counts list c (q % ports) (getD entries q 0) (each q h))
+      sum-ext (length entries) _ _ (λ q h. entry-counts side list c (q % ports) (getD entries q 0) (each q h))
       ∙ sum-swap (length entries) (flows list) (λ q f. if (isOf c (portOf list) f) (bit (eqb (getD entries q 0) (suc f))) 0)
       ∙ sum-ext (flows list) _ _ (λ f h. byBool (isOf c (portOf list) f)
-      (λ b. rw b (sym (sum-ext (length entries) _ _ (λ q _. flow-counts list f (q % ports) (getD entries q 0) h))))
+      (λ b. rw b (sym (sum-ext (length entries) _ _ (λ q _. flow-counts side list f (q % ports) (getD entries q 0) h))))
       (λ b. rw b (sum-zero (length entries) _ (λ q _. refl))))
 
-  pub exact-all : (m : List ℕ) → length m ≡ flows list → ((f : ℕ) → f < flows list → cells (flow f) ports list entries ≡ getD m f 0)
-      → (c : Class) → cells c ports list entries ≡ loadIn c (portOf list) m
+  pub exact-all : (m : List ℕ) → length m ≡ flows list → ((f : ℕ) → f < flows list → cellsOn side ports list (flow f) entries ≡ getD m f 0)
+      → (c : Class) → cellsOn side ports list c entries ≡ loadIn c (portOf list) m
   unfolding loadIn
   exact-all m size exact c =
       cells-flows c

@@ -9,7 +9,7 @@ use native.Mathlib.Nat.{mul-add-mod-self-right}
 use lib.ListN.{length, getD, length-append, List·getD-append}
 use lib.Seq.{getD-append-add}
 use Rattle.rules.specs.Words.{Near}
-use Rattle.rules.specs.Flows.{flows, End, portOf, countsOf, Class, flow, portOn, output, OnSwitch, Fits}
+use Rattle.rules.specs.Flows.{flows, End, portOf, countsOf, Class, flow, portOn, output, OnSwitch, Fits, input}
 use Rattle.rules.specs.Frames.{right, cells, runOf, Legal, Block, Balanced}
 use Rattle.rules.specs.Rules.{Partnered, Split, Slot, Scheduled}
 use Rattle.rules.specs.Schedule.{halfOf, frameOf}
@@ -123,8 +123,8 @@ module _ (ports n : ℕ) (list m a b f g : List ℕ) (size : length m ≡ flows 
       → Near 1 (cells c ports list (runOf ports start half (f ++ g))) (cells c ports list (runOf ports (start + half) half (f ++ g)))
   whole-near c start half e d =
       let z : 0 + n ≡ n + 0 = omega arith in
-      let front = exact-all ports list f (sf .0 .each-right) a (sp .first-size ∙ size) (sf .0 .exact) c in
-      let back = exact-all ports list g (sg .0 .each-right) b (sp .second-size ∙ size) (sg .0 .exact) c in
+      let front = exact-all input ports list f (sf .0 .each-right) a (sp .first-size ∙ size) (sf .0 .exact) c in
+      let back = exact-all input ports list g (sg .0 .each-right) b (sp .second-size ∙ size) (sg .0 .exact) c in
       rw (e, d, z, run-first ports n 0 n f g lf (omega arith), run-all ports n f lf, run-second ports n 0 n f g lf, run-all ports n g (sg .0 .size), front, back)
       (halves-near (portOf list) m a b sp c)
 
@@ -143,7 +143,7 @@ module _ (ports n : ℕ) (list m a b f g : List ℕ) (size : length m ≡ flows 
     record {
       size = length-append f g ∙ omega (arith, lf, sg .0 .size);
       each-right = each-right;
-      exact = λ x h. cells-append ports list (flow x) n f g lf ∙ ap₂ _+_ (sf .0 .exact x h) (sg .0 .exact x h) ∙ sp .shared x;
+      exact = λ x h. cells-append input ports list (flow x) n f g lf ∙ ap₂ _+_ (sf .0 .exact x h) (sg .0 .exact x h) ∙ sp .shared x;
       once = slot-once;
     },
     λ c of start half b. halves-balanced c of start half (block-part (2 * n) n start (2 * half) refl b),

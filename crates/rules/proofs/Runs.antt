@@ -7,8 +7,8 @@ use native.Mathlib.Omega.{arith}
 use native.Mathlib.Nat.{mod-eq-of-lt, add-mul-mod-self-right, mul-le-mul-right, div-add-mod', add-mod-left, mod-add-mod, mod-lt}
 use lib.ListN.{length, length-append, getD, drop, length-take}
 use Rattle.rules.specs.Words.{bit, sumTo}
-use Rattle.rules.specs.Flows.{Class}
-use Rattle.rules.specs.Frames.{counts, cells, runOf, repeated}
+use Rattle.rules.specs.Flows.{Side, Class}
+use Rattle.rules.specs.Frames.{countsOn, cellsOn, runOf, repeated}
 use Rattle.rules.proofs.Cases.{byBool}
 use Rattle.rules.proofs.Cells.{cells-append, cells-none, cells-run, run-none, run-length, run-all}
 use Rattle.rules.proofs.Sums.{sum-none, sum-more, sum-ext, sum-append}
@@ -47,9 +47,9 @@ sum-bits (suc n) t =
     let most : bit (t n) ≤ 1 = byBool (t n) (λ e. rw e (omega arith)) (λ e. rw e (omega arith)) in
     omega (arith, sum-more n (λ q. bit (t q)), sum-bits n t)
 
-pub cells-most : (c : Class) (ports : ℕ) (list entries : List ℕ) → cells c ports list entries ≤ length entries
-unfolding cells
-cells-most c ports list entries = sum-bits (length entries) (λ q. counts c list (q % ports) (getD entries q 0))
+pub cells-most : (side : Side) (c : Class) (ports : ℕ) (list entries : List ℕ) → cellsOn side ports list c entries ≤ length entries
+unfolding cellsOn
+cells-most side c ports list entries = sum-bits (length entries) (λ q. countsOn side c list (q % ports) (getD entries q 0))
 
 -- a run of a frame that repeats has at most ports cells for each slot
 repeated-length : (ports slots : ℕ) (entries : List ℕ) (start len : ℕ) → length (repeated ports slots entries start len) ≤ len * ports
@@ -65,36 +65,36 @@ repeated-length ports slots entries start (suc len) =
       repeated-length ports slots entries (suc start) len,
     )
 
-pub repeated-most : (c : Class) (ports slots : ℕ) (list entries : List ℕ) (start len : ℕ) → cells c ports list (repeated ports slots entries start len) ≤ len * ports
-repeated-most c ports slots list entries start len =
-    omega (arith, cells-most c ports list (repeated ports slots entries start len), repeated-length ports slots entries start len)
+pub repeated-most : (side : Side) (c : Class) (ports slots : ℕ) (list entries : List ℕ) (start len : ℕ) → cellsOn side ports list c (repeated ports slots entries start len) ≤ len * ports
+repeated-most side c ports slots list entries start len =
+    omega (arith, cells-most side c ports list (repeated ports slots entries start len), repeated-length ports slots entries start len)
 
-module _ (ports slots : ℕ) (list entries : List ℕ) (size : length entries ≡ slots * ports) where
+module _ (side : Side) (ports slots : ℕ) (list entries : List ℕ) (size : length entries ≡ slots * ports) where
   -- a run of so many slots is inside the frame
   run-ends : (start len : ℕ) → start + len ≤ slots → (start + len) * ports ≤ length entries
   run-ends start len h = let m = mul-le-mul-right ports h in omega arith
 
   -- the cells of one slot
   abbrev pub inSlot : Class → ℕ → ℕ
-  inSlot c s = cells c ports list (runOf ports s 1 entries)
+  inSlot c s = cellsOn side ports list c (runOf ports s 1 entries)
 
   -- a run inside the frame, slot by slot
-  pub cells-slots : (c : Class) (start len : ℕ) → start + len ≤ slots → cells c ports list (runOf ports start len entries) ≡ sumTo len (λ t. inSlot c (start + t))
+  pub cells-slots : (c : Class) (start len : ℕ) → start + len ≤ slots → cellsOn side ports list c (runOf ports start len entries) ≡ sumTo len (λ t. inSlot c (start + t))
   cells-slots c start zero h =
-      ap (cells c ports list) (run-none ports start entries) ∙ cells-none ports list c ∙ sym (sum-none (λ t. inSlot c (start + t)))
+      ap (cellsOn side ports list c) (run-none ports start entries) ∙ cells-none side ports list c ∙ sym (sum-none (λ t. inSlot c (start + t)))
   cells-slots c start (suc len) h =
       let e : len + 1 ≡ suc len = omega arith in
       let l : start + len ≤ slots = omega arith in
-      ap (λ z. cells c ports list (runOf ports start z entries)) (sym e)
-      ∙ cells-run ports list c start len 1 entries (run-ends start len l)
+      ap (λ z. cellsOn side ports list c (runOf ports start z entries)) (sym e)
+      ∙ cells-run side ports list c start len 1 entries (run-ends start len l)
       ∙ ap (λ z. z + inSlot c (start + len)) (cells-slots c start len l)
       ∙ sym (sum-more len (λ t. inSlot c (start + t)))
 
   -- a run of the frame that repeats for ever, slot by slot
   pub cells-repeated : (c : Class) → 1 ≤ slots → (start len : ℕ)
-      → cells c ports list (repeated ports slots entries start len) ≡ sumTo len (λ t. inSlot c ((start + t) % slots))
+      → cellsOn side ports list c (repeated ports slots entries start len) ≡ sumTo len (λ t. inSlot c ((start + t) % slots))
   unfolding repeated
-  cells-repeated c h start zero = cells-none ports list c ∙ sym (sum-none (λ t. inSlot c ((start + t) % slots)))
+  cells-repeated c h start zero = cells-none side ports list c ∙ sym (sum-none (λ t. inSlot c ((start + t) % slots)))
   cells-repeated c h start (suc len) =
       let f : ℕ → ℕ = λ t. inSlot c ((start + t) % slots) in
       let m : start % slots < slots = mod-lt start h in
@@ -103,30 +103,30 @@ module _ (ports slots : ℕ) (list entries : List ℕ) (size : length entries �
       let one : sumTo 1 f ≡ inSlot c (start % slots) = sum-single f ∙ ap (λ z. inSlot c (z % slots)) s in
       let rest : sumTo len (λ t. f (1 + t)) ≡ sumTo len (λ t. inSlot c ((suc start + t) % slots)) =
       sum-ext len (λ t. f (1 + t)) (λ t. inSlot c ((suc start + t) % slots)) (λ t l. ap (λ z. inSlot c (z % slots)) (omega arith)) in
-      cells-append ports list c 1 (runOf ports (start % slots) 1 entries) (repeated ports slots entries (suc start) len) (run-length ports (start % slots) 1 entries (run-ends (start % slots) 1 (omega arith)))
+      cells-append side ports list c 1 (runOf ports (start % slots) 1 entries) (repeated ports slots entries (suc start) len) (run-length ports (start % slots) 1 entries (run-ends (start % slots) 1 (omega arith)))
       ∙ omega (arith, cells-repeated c h (suc start) len, one, rest, sum-append 1 len f, ap (λ z. sumTo z f) e)
 
-  pub cells-once : (c : Class) → 1 ≤ slots → (t : ℕ) → cells c ports list (repeated ports slots entries t 1) ≡ inSlot c (t % slots)
+  pub cells-once : (c : Class) → 1 ≤ slots → (t : ℕ) → cellsOn side ports list c (repeated ports slots entries t 1) ≡ inSlot c (t % slots)
   cells-once c h t =
       cells-repeated c h t 1 ∙ sum-single (λ x. inSlot c ((t + x) % slots)) ∙ ap (λ z. inSlot c (z % slots)) (omega arith)
 
   -- where in the frame a run starts is all that its start says
   pub cells-from : (c : Class) → 1 ≤ slots → (start len : ℕ)
-      → cells c ports list (repeated ports slots entries start len) ≡ cells c ports list (repeated ports slots entries (start % slots) len)
+      → cellsOn side ports list c (repeated ports slots entries start len) ≡ cellsOn side ports list c (repeated ports slots entries (start % slots) len)
   cells-from c h start len =
       cells-repeated c h start len
       ∙ sum-ext len _ _ (λ t l. ap (inSlot c) (sym (mod-add-mod start slots t)))
       ∙ sym (cells-repeated c h (start % slots) len)
 
   -- the whole frame, slot by slot
-  cells-whole : (c : Class) → sumTo slots (λ t. inSlot c (t % slots)) ≡ cells c ports list entries
+  cells-whole : (c : Class) → sumTo slots (λ t. inSlot c (t % slots)) ≡ cellsOn side ports list c entries
   cells-whole c =
       sum-ext slots (λ t. inSlot c (t % slots)) (λ t. inSlot c (0 + t)) (λ t l. ap (inSlot c) (mod-eq-of-lt l ∙ omega arith))
       ∙ sym (cells-slots c 0 slots (omega arith))
-      ∙ ap (cells c ports list) (run-all ports slots entries size)
+      ∙ ap (cellsOn side ports list c) (run-all ports slots entries size)
 
   -- whole turns of the frame, from wherever they start
-  pub cells-rounds : (c : Class) → 1 ≤ slots → (start w : ℕ) → cells c ports list (repeated ports slots entries start (w * slots)) ≡ w * cells c ports list entries
+  pub cells-rounds : (c : Class) → 1 ≤ slots → (start w : ℕ) → cellsOn side ports list c (repeated ports slots entries start (w * slots)) ≡ w * cellsOn side ports list c entries
   cells-rounds c h start w =
       cells-repeated c h start (w * slots)
       ∙ sum-rounds slots (λ t. inSlot c (t % slots)) (λ t. ap (inSlot c) (add-mod-left slots t)) w start
@@ -135,8 +135,8 @@ module _ (ports slots : ℕ) (list entries : List ℕ) (size : length entries �
   -- whole turns, the slots from start to the frame's end, and the rest from the frame's first slot on
   pub cells-turns : (c : Class) (start len turns head tail : ℕ) → start < slots → turns ≡ len / slots
       → head ≡ min (len % slots) (slots - start) → head + tail ≡ len % slots
-      → cells c ports list (repeated ports slots entries start len)
-      ≡ turns * cells c ports list entries + (cells c ports list (runOf ports start head entries) + cells c ports list (runOf ports 0 tail entries))
+      → cellsOn side ports list c (repeated ports slots entries start len)
+      ≡ turns * cellsOn side ports list c entries + (cellsOn side ports list c (runOf ports start head entries) + cellsOn side ports list c (runOf ports 0 tail entries))
   cells-turns c start len turns head tail s t d r =
       let g : ℕ → ℕ = inSlot c in
       let h : ℕ → ℕ = λ x. g (x % slots) in
@@ -149,10 +149,10 @@ module _ (ports slots : ℕ) (list entries : List ℕ) (size : length entries �
       let split = sum-append (turns * slots) (head + tail) (λ x. h (start + x)) in
       let split' = sum-append head tail (λ x. h (start + x)) in
       let again = sum-ext (head + tail) (λ x. h (start + (turns * slots + x))) (λ x. h (start + x)) (λ x l. on x) in
-      let front : sumTo head (λ x. h (start + x)) ≡ cells c ports list (runOf ports start head entries) =
+      let front : sumTo head (λ x. h (start + x)) ≡ cellsOn side ports list c (runOf ports start head entries) =
       sum-ext head (λ x. h (start + x)) (λ x. g (start + x)) (λ x l. ap g (mod-eq-of-lt (omega arith)))
       ∙ sym (cells-slots c start head (omega arith)) in
-      let back : sumTo tail (λ x. h (start + (head + x))) ≡ cells c ports list (runOf ports 0 tail entries) =
+      let back : sumTo tail (λ x. h (start + (head + x))) ≡ cellsOn side ports list c (runOf ports 0 tail entries) =
       sum-ext tail (λ x. h (start + (head + x))) (λ x. g (0 + x))
       (λ x l. ap g (ap (λ z. z % slots) (omega arith) ∙ add-mod-left slots x ∙ mod-eq-of-lt (omega arith) ∙ omega arith))
       ∙ sym (cells-slots c 0 tail (omega arith)) in

@@ -11,7 +11,7 @@ use lib.ListN.{length, getD, set, replicate, length-set, length-replicate}
 use lib.Seq.{getD-set-same, getD-set-other, ext-getD}
 use borrow.Author.Tests.{eqb-true, eq-eqb}
 use Rattle.rules.specs.Words.{if, upFrom, keep}
-use Rattle.rules.specs.Flows.{flows, End, inputs, portOf, Class, flow, loadIn, Fits}
+use Rattle.rules.specs.Flows.{flows, End, inputs, portOf, Class, flow, loadIn, Fits, input}
 use Rattle.rules.specs.Frames.{right, cells}
 use Rattle.rules.specs.Rules.{odd, Slot}
 use Rattle.rules.specs.Schedule.{put, slotOf}
@@ -146,17 +146,17 @@ module _ (ports : ℕ) (list m entries : List ℕ) (size : length m ≡ flows li
     (sl : Slot ports (portOf list) m entries) where
   right-at : (i v : ℕ) → i < ports → getD entries i 0 ≡ v → right list i v ≡ true
   right-at i zero h e = refl
-  right-at i (suc f) h e = let o = sl .own i f h e in right-flow list i f (omega (arith, o .0)) (o .1)
+  right-at i (suc f) h e = let o = sl .own i f h e in right-flow input list i f (omega (arith, o .0)) (o .1)
 
   pub slot-right : (q : ℕ) → q < length entries → right list (q % ports) (getD entries q 0) ≡ true
   slot-right q h = let l : q < ports = omega (arith, sl .size) in rw (mod-eq-of-lt l) (right-at q (getD entries q 0) l refl)
 
   pub slot-flow : (f : ℕ) → f < flows list → cells (flow f) ports list entries ≡ getD m f 0
   slot-flow f h =
-      cells-slot ports list (flow f) entries (sl .size)
-      ∙ sum-ext ports _ _ (λ i _. flow-counts list f i (getD entries i 0) h)
+      cells-slot input ports list (flow f) entries (sl .size)
+      ∙ sum-ext ports _ _ (λ i _. flow-counts input list f i (getD entries i 0) h)
       ∙ sum-one ports (portOf list inputs f) _ (placed f h) (λ i l n. is-no (getD entries i 0) (suc f) (λ e. n (sym (sl .own i f l e .1))))
       ∙ sl .same f (omega arith)
 
   pub slot-exact : (c : Class) → cells c ports list entries ≡ loadIn c (portOf list) m
-  slot-exact = exact-all ports list entries slot-right m size slot-flow
+  slot-exact = exact-all input ports list entries slot-right m size slot-flow

@@ -1,7 +1,7 @@
 -- Flows: what a list of reservations asks for.
 use Prim.Native.Nat.{ℕ, _+_, _*_, _-_, _/_, _≤_, _<_}
 use mathlib.Core.List.{List, map}
-use mathlib.Core.Bool.{Bool, true}
+use mathlib.Core.Bool.{Bool, true, false}
 use lib.Dec.{eqb}
 use lib.ListN.{length, getD}
 use Rattle.rules.specs.Words.{upFrom, sumIf}
@@ -21,6 +21,16 @@ numberOf place list f = getD list (f * stride + place) 0
 pub data Side : Type 0 where
   input : Side
   output : Side
+
+abbrev pub other : Side → Side
+other input = output
+other output = input
+
+abbrev pub same : Side → Side → Bool
+same input input = true
+same input output = false
+same output input = false
+same output output = true
 
 -- The two ends of a flow: an input, and a link, up to four of which an output drives. On these pages both are numbered from 0, the links
 -- through all outputs, output by output: four to each.

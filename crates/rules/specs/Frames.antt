@@ -6,32 +6,45 @@ use mathlib.Core.Bool.{Bool, true, not}
 use lib.Dec.{eqb}
 use lib.ListN.{length, getD, take, drop}
 use Rattle.rules.specs.Words.{if, both, bit, within, first, sumTo, Near}
-use Rattle.rules.specs.Flows.{flows, inputs, portOf, Class, flow, portOn, input, output, link, total, OnSwitch, isOf, load}
+use Rattle.rules.specs.Flows.{flows, portOf, Side, other, same, Class, flow, portOn, input, link, total, OnSwitch, isOf, load}
 
--- A frame is its slots, first slot first; a slot is one entry per input: the number of the flow that it sends a cell of, from 1,
--- or 0 for idle. So entry q of any whole slots, end to end, is that of input q % ports.
+-- A frame is its slots, first slot first. It has a side, and a slot is one entry per port of that side: the number of the flow that the input
+-- sends a cell of, or the output takes a cell of, from 1, or 0 for idle. So entry q of any whole slots, end to end, is that of port q % ports.
+-- Build makes frames of the input side; what is said of a frame without a side is said of that one.
 
 -- An entry is a flow if it is the number of one in the list; flow e - 1, as flows are numbered on these pages.
 abbrev pub isFlow : List ℕ → ℕ → Bool
 isFlow list e = within 1 (flows list) e
 
--- An entry is right at an input if it is 0 or the number of a flow of that input. A wrong one is above the number of flows, or of
--- another input's flow.
-abbrev pub right : List ℕ → ℕ → ℕ → Bool
-right list at e = if (eqb e 0) true (both (isFlow list e) (eqb (portOf list inputs (e - 1)) at))
+-- It is a flow of a class.
+abbrev pub isFlowOf : Class → List ℕ → ℕ → Bool
+isFlowOf c list e = both (isFlow list e) (isOf c (portOf list) (e - 1))
 
--- An entry that is a flow counts for that flow, its output, its link and the total, wherever it stands; for an input counts every
--- entry of its own that is not 0. So one that is no flow counts for its input only.
+-- An entry is right at a port of the frame's side if it is 0 or the number of a flow of that port. A wrong one is above the number of
+-- flows, or of another port's flow.
+abbrev pub rightOn : Side → List ℕ → ℕ → ℕ → Bool
+rightOn side list at e = if (eqb e 0) true (isFlowOf (portOn side at) list e)
+
+abbrev pub right : List ℕ → ℕ → ℕ → Bool
+right list at e = rightOn input list at e
+
+-- An entry that is a flow counts for that flow, its link, the total and its port of the other side, wherever it stands; for a port of the
+-- frame's own side counts every entry of its own that is not 0. So one that is no flow counts for the port at whose place it stands only.
+abbrev pub countsOn : Side → Class → List ℕ → ℕ → ℕ → Bool
+countsOn side (flow f) list at e = isFlowOf (flow f) list e
+countsOn side (portOn s x) list at e = if (same side s) (both (eqb at x) (not (eqb e 0))) (isFlowOf (portOn s x) list e)
+countsOn side (link x) list at e = isFlowOf (link x) list e
+countsOn side total list at e = isFlowOf total list e
+
 abbrev pub counts : Class → List ℕ → ℕ → ℕ → Bool
-counts (flow f) list at e = both (isFlow list e) (isOf (flow f) (portOf list) (e - 1))
-counts (portOn input i) list at e = both (eqb at i) (not (eqb e 0))
-counts (portOn output o) list at e = both (isFlow list e) (isOf (portOn output o) (portOf list) (e - 1))
-counts (link x) list at e = both (isFlow list e) (isOf (link x) (portOf list) (e - 1))
-counts total list at e = both (isFlow list e) (isOf total (portOf list) (e - 1))
+counts c list at e = countsOn input c list at e
 
 -- The cells of a class in the entries of whole slots: those that count for it.
-unfoldable pub cells : Class → ℕ → List ℕ → List ℕ → ℕ
-cells c ports list entries = sumTo (length entries) (λ q. bit (counts c list (q % ports) (getD entries q 0)))
+unfoldable pub cellsOn : Side → ℕ → List ℕ → Class → List ℕ → ℕ
+cellsOn side ports list c entries = sumTo (length entries) (λ q. bit (countsOn side c list (q % ports) (getD entries q 0)))
+
+abbrev pub cells : Class → ℕ → List ℕ → List ℕ → ℕ
+cells c ports list entries = cellsOn input ports list c entries
 
 -- The entries of a run of len slots from slot start on.
 unfoldable pub runOf : ℕ → ℕ → ℕ → List ℕ → List ℕ
@@ -53,12 +66,15 @@ abbrev pub levels : ℕ → ℕ
 levels slots = first (λ k. eqb slots (2 ^ k)) 0 11
 
 -- A frame of a list is legal if it has its size, no entry is wrong, each flow is in exactly its cells of slots, and no slot uses
--- an output twice.
-pub record Legal (ports slots : ℕ) (list entries : List ℕ) : Type 0 where
+-- a port of the other side twice.
+pub record LegalOn (side : Side) (ports slots : ℕ) (list entries : List ℕ) : Type 0 where
   pub size : length entries ≡ slots * ports
-  pub each-right : (q : ℕ) → q < length entries → right list (q % ports) (getD entries q 0) ≡ true
-  pub exact : (f : ℕ) → f < flows list → cells (flow f) ports list entries ≡ load (flow f) list
-  pub once : (s o : ℕ) → s < slots → o < ports → cells (portOn output o) ports list (runOf ports s 1 entries) ≤ 1
+  pub each-right : (q : ℕ) → q < length entries → rightOn side list (q % ports) (getD entries q 0) ≡ true
+  pub exact : (f : ℕ) → f < flows list → cellsOn side ports list (flow f) entries ≡ load (flow f) list
+  pub once : (s x : ℕ) → s < slots → x < ports → cellsOn side ports list (portOn (other side) x) (runOf ports s 1 entries) ≤ 1
+
+abbrev pub Legal : ℕ → ℕ → List ℕ → List ℕ → Type 0
+Legal ports slots list entries = LegalOn input ports slots list entries
 
 -- Rule 1: a block is the whole frame, or either half of a block; it is named by its first slot and its size.
 pub data Block (slots : ℕ) : ℕ → ℕ → Type 0 where
@@ -68,7 +84,10 @@ pub data Block (slots : ℕ) : ℕ → ℕ → Type 0 where
 
 -- A frame is balanced if in every block that has halves they differ by at most 1 for each flow, input, output and link and for
 -- the total.
-abbrev pub Balanced : ℕ → ℕ → List ℕ → List ℕ → Type 0
-Balanced ports slots list entries =
+abbrev pub BalancedOn : Side → ℕ → ℕ → List ℕ → List ℕ → Type 0
+BalancedOn side ports slots list entries =
     (c : Class) → OnSwitch ports c → (start half : ℕ) → Block slots start (2 * half)
-    → Near 1 (cells c ports list (runOf ports start half entries)) (cells c ports list (runOf ports (start + half) half entries))
+    → Near 1 (cellsOn side ports list c (runOf ports start half entries)) (cellsOn side ports list c (runOf ports (start + half) half entries))
+
+abbrev pub Balanced : ℕ → ℕ → List ℕ → List ℕ → Type 0
+Balanced ports slots list entries = BalancedOn input ports slots list entries

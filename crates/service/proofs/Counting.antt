@@ -11,7 +11,7 @@ use lib.ListN.{length, getD, List·getD-eq-default}
 use borrow.Author.Tests.{ne-eqb}
 use Rattle.rules.specs.Words.{both, bit, sumTo}
 use Rattle.rules.specs.Flows.{Class, flow, portOn, input, output, link, total}
-use Rattle.rules.specs.Frames.{counts, cells}
+use Rattle.rules.specs.Frames.{counts, cells, cellsOn}
 use Rattle.rules.proofs.Cases.{byLt}
 use Rattle.rules.proofs.Sums.{sum-zero, sum-one, sum-append}
 use Rattle.rules.proofs.Runs.{sum-bits}
@@ -90,7 +90,7 @@ module _ {c : Class} {ports : ℕ} {list entries : List ℕ} {q sum : ℕ} (k : 
       }
 
   pub counting-end : length entries ≤ q → sum ≡ cells c ports list entries
-  unfolding cells
+  unfolding cellsOn
   counting-end l =
       let f = one c ports list entries in
       let n = length entries in

@@ -6,7 +6,7 @@ use mathlib.Core.List.{List}
 use native.Mathlib.Omega.{arith}
 use native.Mathlib.Nat.{zero-add, mul-le-mul-right}
 use Rattle.rules.specs.Words.{Near}
-use Rattle.rules.specs.Flows.{Class, OnSwitch, load}
+use Rattle.rules.specs.Flows.{Class, OnSwitch, load, input}
 use Rattle.rules.specs.Frames.{cells, runOf, Legal, Block, whole, Balanced}
 use Rattle.rules.proofs.Cells.{cells-none, cells-run, run-none, run-all}
 use Rattle.rules.proofs.Blocks.{block-fits}
@@ -23,13 +23,13 @@ module _ {ports slots : ℕ} {list entries : List ℕ} (legal : Legal ports slot
   pub before-more : (t n : ℕ) → t ≤ slots → before (t + n) ≡ before t + cells c ports list (runOf ports t n entries)
   before-more t n h =
       let k = mul-le-mul-right ports h in
-      rw zero-add at (cells-run ports list c 0 t n entries (omega (arith, legal .size)))
+      rw zero-add at (cells-run input ports list c 0 t n entries (omega (arith, legal .size)))
 
   pub before-all : before slots ≡ load c list
   before-all = ap (cells c ports list) (run-all ports slots entries (legal .size)) ∙ legal-exact legal c
 
   pub before-none : before 0 ≡ 0
-  before-none = ap (cells c ports list) (run-none ports 0 entries) ∙ cells-none ports list c
+  before-none = ap (cells c ports list) (run-none ports 0 entries) ∙ cells-none input ports list c
 
   pub before-balanced : BalancedCount slots before
   before-balanced start half b =

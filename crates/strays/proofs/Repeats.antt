@@ -6,7 +6,7 @@ use native.Mathlib.Omega.{arith}
 use native.Mathlib.Nat.{mod-lt, div-add-mod', mul-le-mul-left, mul-le-mul-right}
 use lib.Pow.{pow-pos}
 use Rattle.rules.specs.Words.{Near}
-use Rattle.rules.specs.Flows.{Class, OnSwitch, load}
+use Rattle.rules.specs.Flows.{Class, OnSwitch, load, input}
 use Rattle.rules.specs.Frames.{cells, runOf, Legal, Block, front, back, Balanced, repeated}
 use Rattle.rules.proofs.Cases.{byEq, byLt}
 use Rattle.rules.proofs.Runs.{cells-from, cells-turns}
@@ -204,8 +204,8 @@ module _ {ports slots : ℕ} {list entries : List ℕ} (legal : Legal ports slot
       let full : cells c ports list entries ≡ m = legal-exact legal c in
       let is : cells c ports list (repeated ports slots entries start len)
       ≡ turns * cells c ports list entries + (cells c ports list (runOf ports s head entries) + cells c ports list (runOf ports 0 tail entries))
-      = cells-from ports slots list entries (legal .size) c some start len
-      ∙ cells-turns ports slots list entries (legal .size) c s len turns head tail low refl refl (omega arith) in
+      = cells-from input ports slots list entries (legal .size) c some start len
+      ∙ cells-turns input ports slots list entries (legal .size) c s len turns head tail low refl refl (omega arith) in
       let is2 : 2 ^ k * cells c ports list (repeated ports slots entries start len)
       ≡ m * (turns * slots) + (2 ^ k * cells c ports list (runOf ports s head entries) + 2 ^ k * cells c ports list (runOf ports 0 tail entries))
       = ap (λ z. 2 ^ k * z) is ∙ omega (arith, ap (λ z. 2 ^ k * (turns * z)) full, ap (λ z. m * (turns * z)) power) in

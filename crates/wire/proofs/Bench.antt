@@ -5,7 +5,7 @@ use native.Mathlib.Omega.{arith}
 use lib.ListN.{replicate}
 use Rattle.rules.specs.Words.{Near, sumTo, upFrom}
 use Rattle.rules.specs.Flows.{portOf, countsOf, flow, loadIn}
-use Rattle.rules.specs.Frames.{cells, runOf}
+use Rattle.rules.specs.Frames.{cellsOn, runOf}
 use Rattle.rules.specs.Schedule.{walk, settleAt, favours, slotOf, frameOf}
 use Rattle.calls.specs.Refusals.{slotsEach}
 use Rattle.calls.specs.Build.{buildChecks}
@@ -18,12 +18,12 @@ twice = chain none (replicate 16 77) (record { ports = 4; slots = 4; list = tabl
 
 -- the run of flow 5 from slot 4 on over two slots: 2 cells, and a share of 1, which is 4 over 2 ^ k
 pub ninth : (cellsIn (flow 4) twice 3 2 ≡ 2) × (share (flow 4) 0 twice 3 2 ≡ 4)
-unfolding chain cellsAt cellsIn share cells runOf buildChecks sumTo portOf countsOf loadIn walk settleAt favours slotOf frameOf
+unfolding chain cellsAt cellsIn share cellsOn runOf buildChecks sumTo portOf countsOf loadIn walk settleAt favours slotOf frameOf
 ninth = (refl, refl)
 
 -- the bound of that run for k = 2 is 5/3, which is 20 over 3 × 2 ^ k: 24 for the cells is within 20 of 12 for the share
 pub ninth-bound : Accurate 4 2 twice → Near 20 24 12
-unfolding chain cellsAt cellsIn share cells runOf buildChecks sumTo portOf countsOf loadIn walk settleAt favours slotOf frameOf
+unfolding chain cellsAt cellsIn share cellsOn runOf buildChecks sumTo portOf countsOf loadIn walk settleAt favours slotOf frameOf
 ninth-bound a = a 3 2 (omega arith) (flow 4) tt
 
 -- a switch of two ports, so that ports are not slots: a flow of 2 cells from input 1 to output 1 and one of 3 from 2 to 2, in a frame of
@@ -36,7 +36,7 @@ twoPorts =
 -- the cells of the second slot by slot, and in the run of three slots over the seam, of which 3 × 3 / 4 are its share
 pub two-ports : (map (cellsAt (flow 1) twoPorts) (upFrom 0 9) ≡ 1 ∷ 1 ∷ 0 ∷ 1 ∷ 1 ∷ 1 ∷ 0 ∷ 1 ∷ 0 ∷ [])
     × (cellsIn (flow 1) twoPorts 3 3 ≡ 3) × (share (flow 1) 0 twoPorts 3 3 ≡ 9)
-unfolding chain cellsAt cellsIn share cells runOf buildChecks sumTo portOf countsOf loadIn walk settleAt favours slotOf frameOf
+unfolding chain cellsAt cellsIn share cellsOn runOf buildChecks sumTo portOf countsOf loadIn walk settleAt favours slotOf frameOf
 two-ports = (refl, refl, refl)
 
 -- a call for no ports, which is refused

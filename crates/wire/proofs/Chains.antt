@@ -8,7 +8,7 @@ use lib.Pow.{pow-pos}
 use lib.ListN.{length}
 use borrow.Author.Tests.{lt-ltb, le-ltb}
 use Rattle.rules.specs.Words.{sumTo, Near, Every}
-use Rattle.rules.specs.Flows.{Class, OnSwitch, load}
+use Rattle.rules.specs.Flows.{Class, OnSwitch, load, input}
 use Rattle.rules.specs.Frames.{cells, runOf, Legal, Balanced}
 use Rattle.strays.specs.Stray.{stray}
 use Rattle.wire.specs.Wire.{Carried, cellsAt, cellsIn, inside, share, Shape}
@@ -87,7 +87,7 @@ module _ (c : Class) (ports n : ℕ) (f : Carried) (fs : List Carried) (shape : 
   unfolding cellsIn
   in-first size start len h =
       sum-ext len _ _ (λ t l. first-at (start + t) (omega arith))
-      ∙ sym (cells-slots ports n (f .call .list) (f .entries) size c start len h)
+      ∙ sym (cells-slots input ports n (f .call .list) (f .entries) size c start len h)
 
   pub in-rest : (start len : ℕ) → cellsIn c (f ∷ fs) (n + start) len ≡ cellsIn c fs start len
   unfolding cellsIn
@@ -182,7 +182,7 @@ module _ (c : Class) (ports k : ℕ) (of : OnSwitch ports c) (fs : List Carried)
   pub at-seam : (b t : ℕ) → t ≡ b * 2 ^ k → t ≤ length fs * 2 ^ k → OffAt 0 t
   at-seam b t e fits =
       prefix-chain c ports k (SoundFrame ports (2 ^ k)) (λ f g. g) 0 (λ _. 0) (λ _. 0) (omega arith)
-      (λ f g. omega (arith, ap (λ x. 2 ^ k * x) (ap (cells c ports (f .call .list)) (run-none ports 0 (f .entries)) ∙ cells-none ports (f .call .list) c))) fs good
+      (λ f g. omega (arith, ap (λ x. 2 ^ k * x) (ap (cells c ports (f .call .list)) (run-none ports 0 (f .entries)) ∙ cells-none input ports (f .call .list) c))) fs good
       b 0 0 t t (omega arith) (omega arith) (omega arith) fits
 
   -- a run is what is left of one prefix after another
