@@ -1,16 +1,19 @@
 -- What follows of a list and of a frame that no refusal turns away.
-use Prim.Native.Nat.{ℕ, _*_, _≤_, _<_}
+use Prim.Native.Nat.{ℕ, _-_, _*_, _≤_, _<_}
+use mathlib.Core.Path.{_≡_, refl}
 use mathlib.Core.List.{List}
 use native.Mathlib.Omega.{arith}
 use native.Mathlib.Nat.{mul-le-mul}
 use lib.ListN.{length}
 use lib.Pow.{pow-pos}
 use Rattle.rules.specs.Words.{Within}
-use Rattle.rules.specs.Flows.{flows, inputs, links, portOf}
+use Rattle.rules.specs.Flows.{flows, numberOf, Side, input, output, inputs, links, portOf, onSide}
 use Rattle.rules.specs.Frames.{levels}
+use Rattle.rules.proofs.Flows.{output-is}
 use Rattle.rules.proofs.Levels.{power-level, power-most}
 use Rattle.calls.proofs.Demand2.{ported-placed}
 use Rattle.checks.specs.Fits.{ListFits, FrameFits}
+use Rattle.checks.specs.Places.{placeOn}
 
 module _ {ports : ℕ} {list : List ℕ} (l : ListFits ports list) where
   -- its ports are of the largest switch too
@@ -32,6 +35,19 @@ module _ {ports : ℕ} {list : List ℕ} (l : ListFits ports list) where
     pub link-below : portOf list links f < ports * 4
     unfolding portOf
     link-below = let p = l .ported links f h in let k = l .linked f h in omega arith
+
+    -- its port on a side, by the number of the list
+    pub side-number : (side : Side) → Within 1 ports (numberOf (placeOn side) list f)
+    side-number input = l .ported inputs f h
+    side-number output = l .ported links f h
+
+    pub side-is : (side : Side) → onSide side (portOf list) f ≡ numberOf (placeOn side) list f - 1
+    unfolding portOf
+    side-is input = refl
+    side-is output = output-is list f (l .linked f h)
+
+    pub side-below : (side : Side) → onSide side (portOf list) f < ports
+    side-below side = let w = side-number side in omega (arith, side-is side)
 
 module _ {ports slots : ℕ} {entries : List ℕ} (f : FrameFits ports slots entries) where
   pub slots-within : Within 1 1024 slots

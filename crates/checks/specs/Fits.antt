@@ -1,9 +1,9 @@
 -- What a list, a frame and whom is asked about are, where no refusal turns them away.
-use Prim.Native.Nat.{ℕ, _*_, _≤_}
+use Prim.Native.Nat.{ℕ, _*_, _≤_, _<_}
 use mathlib.Core.Path.{_≡_}
 use mathlib.Core.List.{List}
 use mathlib.Core.Bool.{true}
-use lib.ListN.{length}
+use lib.ListN.{length, getD}
 use Rattle.rules.specs.Flows.{flows}
 use Rattle.rules.specs.Frames.{Power}
 use Rattle.calls.specs.Demand2.{Ported, Linked}
@@ -23,6 +23,12 @@ pub record FrameFits (ports slots : ℕ) (entries : List ℕ) : Type 0 where
   pub most : ports ≤ 16
   pub power : Power slots
   pub size : length entries ≡ slots * ports
+
+-- Such a list and such a frame, whose entries are 0 or numbers of flows.
+pub record FlowFrame (ports slots : ℕ) (list entries : List ℕ) : Type 0 where
+  pub listed : ListFits ports list
+  pub framed : FrameFits ports slots entries
+  pub each-flow : (q : ℕ) → q < length entries → getD entries q 0 ≤ flows list
 
 -- A flow of such a list or a port of its switch: refusal 12 does not turn it away.
 pub record WhoFits (ports : ℕ) (list : List ℕ) (who : Who) : Type 0 where

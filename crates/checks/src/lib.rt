@@ -1,7 +1,7 @@
 // The conditions of the refusals that several calls share.
 ghost use mathlib.Core.Path.{_≡_};
 ghost use mathlib.Core.Bool.{not};
-ghost use Prim.Native.Nat.{_*_, _<_};
+ghost use Prim.Native.Nat.{_*_, _<_, _≤_};
 ghost use lib.Dec.{eqb};
 ghost use lib.ListN.{length};
 ghost use Rattle.rules.specs.Words.{within};
@@ -9,9 +9,12 @@ ghost use Rattle.rules.specs.Flows.{flows};
 ghost use Rattle.rules.specs.Frames.{levels};
 ghost use Rattle.calls.specs.Refusals.{portsWithin, port-outside, link-outside, answered};
 ghost use Rattle.calls.specs.Service.{whoWithin};
+ghost use Rattle.calls.specs.Sides.{sideOf};
 ghost use Rattle.checks.specs.Lists.{ListAnswer};
+ghost use Rattle.checks.specs.Places.{placeOn};
 use calls::Answer;
 use calls::Refusal;
+use calls::Side;
 use calls::Who;
 use flows::STRIDE;
 use flows::flows_of;
@@ -112,6 +115,16 @@ pub fn bad_who(ports: usize, list: &[u16], who: Who) -> bool
         Who::Flow(flow) => outside(flows_of(list), flow),
         Who::Input(input) => outside(ports, input),
         Who::Output(output) => outside(ports, output),
+    }
+}
+
+// Where the port of a side stands among the numbers of a flow.
+pub fn place_of(side: Side) -> usize
+    ensures { λ r. ⌜ (r ≡ placeOn (sideOf side)) × (r ≤ 1) ⌝ }
+{
+    match side {
+        Side::Input => 0,
+        Side::Output => 1,
     }
 }
 
