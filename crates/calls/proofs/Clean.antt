@@ -40,16 +40,16 @@ module _ (side : Side) (ports slots : ℕ) (list entries : List ℕ) (w : WellFo
       rw (digits-mod s b) at (l .each-right (s * ports + i) (omega (arith, digits-lt {q = s} {m = slots} {r = i} {c = ports} a b)))
 
   -- the four checks, of which the first that holds is reported
-  abbrev one : Check
+  abbrev pub one : Check
   one = wrongEntry side ports slots list entries
 
-  abbrev two : Check
+  abbrev pub two : Check
   two = portTwice side ports slots list entries
 
-  abbrev three : Check
+  abbrev pub three : Check
   three = flowCount side ports list entries
 
-  abbrev four : Check
+  abbrev pub four : Check
   four = unbalancedBlock (cellsOn side ports list) ports slots list entries
 
   -- 1 to 4 are past, and then each fault where nothing of it is found
@@ -60,7 +60,7 @@ module _ (side : Side) (ports slots : ℕ) (list entries : List ℕ) (w : WellFo
   past-one : Throughout slots ports (EntryRight side ports list entries) → inspected side ports slots list entries ≡ report (two ∷ three ∷ four ∷ []) (0 ∷ [])
   past-one a = inspected-is ∙ report-on one (two ∷ three ∷ four ∷ []) (0 ∷ []) (entries-search side ports slots list entries .tells .met a)
 
-  past-two : Throughout slots ports (EntryRight side ports list entries) → Throughout slots ports (PortOnce side ports list entries) → inspected side ports slots list entries ≡ report (three ∷ four ∷ []) (0 ∷ [])
+  pub past-two : Throughout slots ports (EntryRight side ports list entries) → Throughout slots ports (PortOnce side ports list entries) → inspected side ports slots list entries ≡ report (three ∷ four ∷ []) (0 ∷ [])
   past-two a b = past-one a ∙ report-on two (three ∷ four ∷ []) (0 ∷ []) (twice-search side ports slots list entries .tells .met b)
 
   past-three : LegalOn side ports slots list entries → inspected side ports slots list entries ≡ report (four ∷ []) (0 ∷ [])

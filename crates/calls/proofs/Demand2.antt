@@ -7,16 +7,16 @@ use mathlib.Core.Bool.{true, false, not}
 use native.Mathlib.Omega.{arith}
 use lib.ListN.{length, getD}
 use borrow.Author.Tests.{not-true, eq-eqb}
-use Rattle.rules.specs.Flows.{flows, numberOf, inputs, portOf, countsOf, portOn, input, output, Fits}
+use Rattle.rules.specs.Flows.{flows, numberOf, inputs, links, portOf, countsOf, Side, onSide, portOn, input, output, Fits}
 use Rattle.rules.specs.Frames.{Legal, Balanced, levels}
-use Rattle.calls.specs.Demand2.{Ported, WellFormed, OverloadAnswers, Accepts, Light, Allows, Demand2}
+use Rattle.calls.specs.Demand2.{Ported, Linked, WellFormed, OverloadAnswers, Accepts, Light, Allows, Demand2}
 use Rattle.calls.specs.Refusals.{Check, report, none-holds, accepted, bad-ports, bad-slots, bad-list, too-many-flows, port-outside, link-outside, listChecks, bad-frame, overload, portOverloads, linkOverload, overloads, admitted}
 use Rattle.rules.specs.Rules.{Scheduled}
 use Rattle.rules.specs.Schedule.{frameOf}
 use Rattle.calls.specs.Build.{buildChecks, acceptance, built, buildAccepts, frameAfter, AcceptedWith0}
 use Rattle.rules.proofs.Cases.{both-true}
 use Rattle.rules.proofs.Levels.{levels-power, power-known}
-use Rattle.rules.proofs.Flows.{counts-length, counts-at}
+use Rattle.rules.proofs.Flows.{counts-length, counts-at, output-is}
 use Rattle.rules.proofs.Halves.{load-has}
 use Rattle.rules.proofs.Slots.{AtInputs}
 use Rattle.rules.proofs.OneFrame.{frame-is, one-frame}
@@ -28,6 +28,11 @@ use Rattle.calls.proofs.Overloads.{over-reported, overload-tells, link-
 pub ported-placed : {ports : ℕ} (list : List ℕ) → Ported ports list → AtInputs ports (portOf list) (flows list)
 unfolding portOf
 ported-placed list ported f h = let p = ported inputs f h in omega arith
+
+-- and the ports of a flow on either side are ports of the switch
+pub ported-on : {ports : ℕ} (list : List ℕ) → Ported ports list → Linked list → (side : Side) (f : ℕ) → f < flows list → onSide side (portOf list) f < ports
+ported-on list ported linked input f h = ported-placed list ported f h
+ported-on list ported linked output f h = let p = ported links f h in omega (arith, output-is list f (linked f h))
 
 -- the cells of a flow are at most the load of its input, and so at most the slots of a frame that they fit
 pub flow-most : {ports slots : ℕ} (list : List ℕ) → Ported ports list → Fits ports slots (portOf list) (countsOf list) → (f : ℕ) → f < flows list

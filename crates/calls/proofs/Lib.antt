@@ -5,6 +5,7 @@ pub mod Overloads
 pub mod Demand2
 pub mod Work
 pub mod Inspected
+pub mod Blocks
 pub mod Answers
 pub mod Faults
 pub mod Clean

@@ -87,6 +87,11 @@ unbalancedBlock count ports slots list entries =
     let size = slots / 2 ^ t in
     (ltb t (levels slots), 104 ∷ suc (firstAt count ports slots list entries t * size) ∷ size ∷ [])
 
+-- The first two as a refusal: a wrong entry, or a port of the other side used twice in a slot.
+abbrev pub bad-entries : ℕ → Side → ℕ → ℕ → List ℕ → List ℕ → List Check
+bad-entries number side ports slots list entries =
+    (wrongEntry side ports slots list entries .0, number ∷ []) ∷ (portTwice side ports slots list entries .0, number ∷ []) ∷ []
+
 -- The faults, in their order over the whole frame.
 abbrev pub faultChecks : Side → ℕ → ℕ → List ℕ → List ℕ → List Check
 faultChecks side ports slots list entries =

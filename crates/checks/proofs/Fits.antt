@@ -11,7 +11,7 @@ use Rattle.rules.specs.Flows.{flows, numberOf, Side, input, output, inputs, lin
 use Rattle.rules.specs.Frames.{levels}
 use Rattle.rules.proofs.Flows.{output-is}
 use Rattle.rules.proofs.Levels.{power-level, power-most}
-use Rattle.calls.proofs.Demand2.{ported-placed}
+use Rattle.calls.proofs.Demand2.{ported-placed, ported-on}
 use Rattle.checks.specs.Fits.{ListFits, FrameFits}
 use Rattle.checks.specs.Places.{placeOn}
 
@@ -47,7 +47,7 @@ module _ {ports : ℕ} {list : List ℕ} (l : ListFits ports list) where
     side-is output = output-is list f (l .linked f h)
 
     pub side-below : (side : Side) → onSide side (portOf list) f < ports
-    side-below side = let w = side-number side in omega (arith, side-is side)
+    side-below side = ported-on list (l .ported) (l .linked) side f h
 
 module _ {ports slots : ℕ} {entries : List ℕ} (f : FrameFits ports slots entries) where
   pub slots-within : Within 1 1024 slots

@@ -1,2 +1,3 @@
--- Laws of the numbers of an answer.
+-- Laws of the numbers of an answer and of a side.
 pub mod Told
+pub mod Sides

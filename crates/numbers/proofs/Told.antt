@@ -1,10 +1,14 @@
 -- The numbers of an answer are those of any that equals it.
 use Prim.Native.Nat.{ℕ}
-use mathlib.Core.Path.{_≡_, subst, _∙_}
+use mathlib.Core.Path.{_≡_, refl, subst, _∙_}
 use mathlib.Core.List.{List}
-use lib.IntN.{ℤ}
+use lib.IntN.{ℤ, pos}
 use lib.ListN.{getD}
-use Rattle.calls.specs.Service.{Reply}
+use Rattle.calls.specs.Refusals.{refusal}
+use Rattle.calls.specs.Service.{Reply, served}
+use Rattle.calls.specs.declared.Refusal.{Refusal}
+use Rattle.calls.specs.declared.Service.{Service}
+use Rattle.calls.specs.declared.Service.the-variants.{Refused}
 use Rattle.numbers.specs.Numbers.{Values2, Values3, Replied}
 
 pub three-of : {a b : List ℕ} {number first second : ℕ} → Values2 a number first second → a ≡ b → Values2 b number first second
@@ -26,3 +30,7 @@ module _ {E : Type 0} (numbered : E → List ℕ) (x y : E) (e : x ≡ y) where
 
   pub passed : {n f s t : ℕ} → Values3 (numbered y) n f s t → Values3 (numbered x) n f s t
   passed h = rw e h
+
+-- those of a refused count are its refusal's, and its lead is 0
+pub refused-count : {s : Service} {r : Refusal} {n f v t : ℕ} → s ≡ Refused r → Values3 (refusal r) n f v t → Replied (served s) n f (pos 0)
+refused-count e h = rw e (record { number-is = h .three .number-is; cells-is = h .three .first-is; lead-is = refl })

@@ -1,17 +1,20 @@
-// Document 01's number of each answer, and the values that it carries.
+// Document 01's number of each answer, with the values that it carries, and the side that a number means.
 ghost use mathlib.Core.Path.{_≡_};
 ghost use Rattle.calls.specs.Refusals.{refusal, answered};
 ghost use Rattle.calls.specs.Build.{outcome};
 ghost use Rattle.calls.specs.Inspect.{finding};
 ghost use Rattle.calls.specs.Service.{served};
 ghost use Rattle.calls.specs.Depth.{depthNumbers};
+ghost use Rattle.calls.specs.Sides.{sideOf};
 ghost use Rattle.numbers.specs.Numbers.{Values3, Replied};
+ghost use Rattle.numbers.specs.Sides.{sideNumbered};
 use calls::Answer;
 use calls::Built;
 use calls::Depth;
 use calls::Inspection;
 use calls::Refusal;
 use calls::Service;
+use calls::Side;
 
 // An answer's number and its three values, 0 where it has none.
 pub struct Numbers {
@@ -57,6 +60,8 @@ pub fn of_refusal(refused: Refusal) -> Numbers
         Refusal::SlotNumber => with_values(11, 0, 0, 0),
         Refusal::FlowOrPort => with_values(12, 0, 0, 0),
         Refusal::RunLength => with_values(13, 0, 0, 0),
+        Refusal::Entries => with_values(14, 0, 0, 0),
+        Refusal::SecondLength => with_values(15, 0, 0, 0),
         Refusal::TooManyFlows => with_values(21, 0, 0, 0),
         Refusal::FlowPort => with_values(22, 0, 0, 0),
         Refusal::FlowLink => with_values(23, 0, 0, 0),
@@ -94,8 +99,8 @@ pub fn of_inspection(inspection: Inspection) -> Numbers
 {
     match inspection {
         Inspection::Clean => with_values(0, 0, 0, 0),
-        Inspection::WrongEntry { slot, input } => with_values(101, slot, input, 0),
-        Inspection::OutputTwice { slot, output } => with_values(102, slot, output, 0),
+        Inspection::WrongEntry { slot, port } => with_values(101, slot, port, 0),
+        Inspection::PortTwice { slot, port } => with_values(102, slot, port, 0),
         Inspection::FlowCount { flow } => with_values(103, flow, 0, 0),
         Inspection::UnbalancedBlock { slot, size } => with_values(104, slot, size, 0),
         Inspection::Refused(refusal) => of_refusal(refusal),
@@ -131,4 +136,11 @@ pub fn of_depth(depth: Depth) -> Numbers
         Depth::Bound { parts, cells } => with_values(0, parts, cells, 0),
         Depth::Refused(refusal) => of_refusal(refusal),
     }
+}
+
+// The side of a frame by its number.
+pub fn side_of(side: usize) -> Side
+    ensures { λ r. ⌜ sideOf r ≡ sideNumbered side ⌝ }
+{
+    if side == 0 { Side::Input } else { Side::Output }
 }

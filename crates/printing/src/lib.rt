@@ -119,6 +119,8 @@ pub fn put_refusal(out: &mut [u8], r: Refusal) -> usize
         Refusal::SlotNumber => put_plain(out, 11),
         Refusal::FlowOrPort => put_plain(out, 12),
         Refusal::RunLength => put_plain(out, 13),
+        Refusal::Entries => put_plain(out, 14),
+        Refusal::SecondLength => put_plain(out, 15),
         Refusal::TooManyFlows => put_plain(out, 21),
         Refusal::FlowPort => put_plain(out, 22),
         Refusal::FlowLink => put_plain(out, 23),

@@ -1,2 +1,3 @@
 -- What the inner functions of Service count promise.
-pub mod Whom
+pub mod Ways
+pub mod Asked

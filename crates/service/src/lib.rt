@@ -5,16 +5,20 @@ ghost use lib.Dec.{ltb};
 ghost use lib.IntN.{pos, _-ℤ_};
 ghost use lib.ListN.{length};
 ghost use Rattle.rules.specs.Words.{bit};
-ghost use Rattle.rules.specs.Flows.{portOn, output};
-ghost use Rattle.rules.specs.Frames.{counts, cells, runOf, repeated};
-ghost use Rattle.calls.specs.Service.{classOf, lead, served, service};
+ghost use Rattle.rules.specs.Flows.{portOn};
+ghost use Rattle.rules.specs.Frames.{isFlowOf, cellsOn, runOf, repeated};
+ghost use Rattle.calls.specs.Sides.{sideOf};
+ghost use Rattle.calls.specs.Service.{classOf, leadOn, served, service};
 ghost use Rattle.checks.specs.Fits.{ListFits, FrameFits, WhoFits};
-ghost use Rattle.service.specs.Whom.{whoNumber, WhoNumbered, firstEntry, nextEntry, CountAsked};
+ghost use Rattle.service.specs.Ways.{whoNumber, portWay, wayOf, firstEntry, nextEntry, wayCounts, WayFits};
+ghost use Rattle.service.specs.Asked.{CountAsked};
 use calls::Answer;
 use calls::Count;
 use calls::Refusal;
 use calls::Service;
+use calls::Side;
 use calls::Who;
+use checks::place_of;
 use flows::flows_of;
 use flows::number_of;
 
@@ -39,33 +43,63 @@ fn one_if(counts: bool) -> usize
     if counts { 1 } else { 0 }
 }
 
-// Index of the first entry that can count for `who`.
-fn first_entry(who: Who) -> usize
+// How a count reads entries: those that are a number, wherever they stand; those at one place of each slot that are not 0; those that are
+// flows of a port of a side, wherever they stand.
+enum Way {
+    Number(usize),
+    Place(usize),
+    FlowOf(Side, usize),
+}
+
+// How a count for a port reads a frame of a side.
+fn port_way(side: Side, of: Side, port: usize) -> Way
+    requires { ⌜ 1 ≤ port ⌝ }
+    ensures { λ r. ⌜ r ≡ portWay side of port ⌝ }
+{
+    if place_of(side) == place_of(of) {
+        return Way::Place(port - 1);
+    }
+    Way::FlowOf(of, port)
+}
+
+// How a count reads a frame of a side.
+fn way_of(side: Side, who: Who) -> Way
     requires { ⌜ 1 ≤ whoNumber who ⌝ }
-    ensures { λ r. ⌜ r ≡ firstEntry (classOf who) ⌝ }
+    ensures { λ r. ⌜ r ≡ wayOf side who ⌝ }
 {
     match who {
-        Who::Flow(_) => 0,
-        Who::Input(input) => input - 1,
-        Who::Output(_) => 0,
+        Who::Flow(flow) => Way::Number(flow),
+        Who::Input(port) => port_way(side, Side::Input, port),
+        Who::Output(port) => port_way(side, Side::Output, port),
+    }
+}
+
+// Index of the first entry that is read.
+fn first_entry(way: Way) -> usize
+    ensures { λ r. ⌜ r ≡ firstEntry way ⌝ }
+{
+    match way {
+        Way::Number(_) => 0,
+        Way::Place(at) => at,
+        Way::FlowOf(_, _) => 0,
     }
 }
 
 // How many entries later the next one stands.
-fn next_entry(ports: usize, who: Who) -> usize
-    ensures { λ r. ⌜ r ≡ nextEntry ports (classOf who) ⌝ }
+fn next_entry(ports: usize, way: Way) -> usize
+    ensures { λ r. ⌜ r ≡ nextEntry ports way ⌝ }
 {
-    match who {
-        Who::Flow(_) => 1,
-        Who::Input(_) => ports,
-        Who::Output(_) => 1,
+    match way {
+        Way::Number(_) => 1,
+        Way::Place(_) => ports,
+        Way::FlowOf(_, _) => 1,
     }
 }
 
-// An entry is a flow of an output.
-fn sends_to(list: &[u16], entry: usize, to: usize) -> bool
-    requires { ⌜ ListFits 16 (now list) × (1 ≤ to) ⌝ }
-    ensures { λ r. ⌜ r ≡ counts (portOn output (to - 1)) (now (list .entry)) 0 entry ⌝ }
+// An entry is a flow of a port of a side.
+fn is_flow_of(list: &[u16], side: Side, port: usize, entry: usize) -> bool
+    requires { ⌜ ListFits 16 (now list) × (1 ≤ port) ⌝ }
+    ensures { λ r. ⌜ r ≡ isFlowOf (portOn (sideOf side) (port - 1)) (now (list .entry)) entry ⌝ }
 {
     if entry == 0 {
         return false;
@@ -73,31 +107,32 @@ fn sends_to(list: &[u16], entry: usize, to: usize) -> bool
     if flows_of(list) < entry {
         return false;
     }
-    number_of(list, entry - 1, 1) == to
+    number_of(list, entry - 1, place_of(side)) == port
 }
 
-// 1 where an entry that stands there counts, else 0.
-fn counted(list: &[u16], who: Who, entry: usize) -> usize
-    requires { ⌜ WhoNumbered (now list) who ⌝ }
-    ensures { λ r. ⌜ r ≡ bit (counts (classOf who) (now (list .entry)) (firstEntry (classOf who)) entry) ⌝ }
+// 1 where an entry that is read counts, else 0.
+fn counted(list: &[u16], way: Way, entry: usize) -> usize
+    requires { ⌜ WayFits (now list) way ⌝ }
+    ensures { λ r. ⌜ r ≡ bit (wayCounts way (now (list .entry)) entry) ⌝ }
 {
-    match who {
-        Who::Flow(flow) => one_if(entry == flow),
-        Who::Input(_) => one_if(entry != 0),
-        Who::Output(to) => one_if(sends_to(list, entry, to)),
+    match way {
+        Way::Number(number) => one_if(entry == number),
+        Way::Place(_) => one_if(entry != 0),
+        Way::FlowOf(side, port) => one_if(is_flow_of(list, side, port, entry)),
     }
 }
 
 // The cells of whole slots.
-fn slot_cells(ports: usize, list: &[u16], who: Who, entries: &[u16]) -> usize
+fn slot_cells(side: Side, ports: usize, list: &[u16], who: Who, entries: &[u16]) -> usize
     requires { ⌜ WhoFits ports (now list) who × (length (now entries) ≤ 16384) ⌝ }
-    ensures { λ r. ⌜ r ≡ cells (classOf who) ports (now (list .entry)) (now (entries .entry)) ⌝ }
+    ensures { λ r. ⌜ r ≡ cellsOn (sideOf side) ports (now (list .entry)) (classOf who) (now (entries .entry)) ⌝ }
 {
-    let step = next_entry(ports, who);
+    let way = way_of(side, who);
+    let step = next_entry(ports, way);
     let mut sum: usize = 0;
-    let mut q: usize = first_entry(who);
+    let mut q: usize = first_entry(way);
     while q < entries.len() {
-        sum += counted(list, who, bits::number(entries[q]));
+        sum += counted(list, way, bits::number(entries[q]));
         q += step;
     }
     sum
@@ -105,6 +140,7 @@ fn slot_cells(ports: usize, list: &[u16], who: Who, entries: &[u16]) -> usize
 
 // The cells of a run that stays inside the frame.
 fn inside_cells(
+    side: Side,
     ports: usize,
     slots: usize,
     list: &[u16],
@@ -114,15 +150,16 @@ fn inside_cells(
     len: usize,
 ) -> usize
     requires { ⌜ FrameFits ports slots (now frame) × WhoFits ports (now list) who × (start + len ≤ slots) ⌝ }
-    ensures { λ r. ⌜ r ≡ cells (classOf who) ports (now (list .entry)) (runOf ports start len (now (frame .entry))) ⌝ }
+    ensures { λ r. ⌜ r ≡ cellsOn (sideOf side) ports (now (list .entry)) (classOf who) (runOf ports start len (now (frame .entry))) ⌝ }
 {
     let from = start * ports;
     let to = from + len * ports;
-    slot_cells(ports, list, who, &frame[from..to])
+    slot_cells(side, ports, list, who, &frame[from..to])
 }
 
 // The cells of a run of a frame that repeats for ever, from the slot after `start` others on, by what the whole frame holds.
 fn run_cells(
+    side: Side,
     ports: usize,
     slots: usize,
     list: &[u16],
@@ -132,14 +169,14 @@ fn run_cells(
     len: usize,
     whole: usize,
 ) -> usize
-    requires { ⌜ CountAsked ports slots (now list) (now frame) who start len × (whole ≡ cells (classOf who) ports (now list) (now frame)) ⌝ }
-    ensures { λ r. ⌜ r ≡ cells (classOf who) ports (now (list .entry)) (repeated ports slots (now (frame .entry)) start len) ⌝ }
+    requires { ⌜ CountAsked ports slots (now list) (now frame) who start len × (whole ≡ cellsOn (sideOf side) ports (now list) (classOf who) (now frame)) ⌝ }
+    ensures { λ r. ⌜ r ≡ cellsOn (sideOf side) ports (now (list .entry)) (classOf who) (repeated ports slots (now (frame .entry)) start len) ⌝ }
 {
     let rest = len % slots;
     let head = lesser(rest, slots - start);
     let tail = rest - head;
-    let before = inside_cells(ports, slots, list, frame, who, start, head);
-    let after = inside_cells(ports, slots, list, frame, who, 0, tail);
+    let before = inside_cells(side, ports, slots, list, frame, who, start, head);
+    let after = inside_cells(side, ports, slots, list, frame, who, 0, tail);
     len / slots * whole + (before + after)
 }
 
@@ -155,6 +192,7 @@ fn lead_of(slots: usize, cells: usize, len: usize, whole: usize) -> i64
 
 // The count of a run and its lead; the whole frame is counted once, for both.
 fn count_run(
+    side: Side,
     ports: usize,
     slots: usize,
     list: &[u16],
@@ -164,17 +202,18 @@ fn count_run(
     len: usize,
 ) -> Count
     requires { ⌜ CountAsked ports slots (now list) (now frame) who start len ⌝ }
-    ensures { λ r. ⌜ r .cells ≡ cells (classOf who) ports (now (list .entry)) (repeated ports slots (now (frame .entry)) start len) ⌝ }
-    ensures { λ r. ⌜ r .lead ≡ lead (classOf who) ports slots (now (list .entry)) (now (frame .entry)) start len ⌝ }
+    ensures { λ r. ⌜ r .cells ≡ cellsOn (sideOf side) ports (now (list .entry)) (classOf who) (repeated ports slots (now (frame .entry)) start len) ⌝ }
+    ensures { λ r. ⌜ r .lead ≡ leadOn (sideOf side) (classOf who) ports slots (now (list .entry)) (now (frame .entry)) start len ⌝ }
 {
-    let whole = slot_cells(ports, list, who, frame);
-    let cells = run_cells(ports, slots, list, frame, who, start, len, whole);
+    let whole = slot_cells(side, ports, list, who, frame);
+    let cells = run_cells(side, ports, slots, list, frame, who, start, len, whole);
     let lead = lead_of(slots, cells, len, whole);
     Count { cells, lead }
 }
 
 // Service count: 1, 2, 3, 21, 22, 23, 4, 11, 12, 13.
 pub fn service_count(
+    side: Side,
     ports: usize,
     slots: usize,
     list: &[u16],
@@ -183,7 +222,7 @@ pub fn service_count(
     start: usize,
     len: usize,
 ) -> Service
-    ensures { λ r. ⌜ served r ≡ service ports slots (now (list .entry)) (now (frame .entry)) who start len ⌝ }
+    ensures { λ r. ⌜ served r ≡ service (sideOf side) ports slots (now (list .entry)) (now (frame .entry)) who start len ⌝ }
 {
     if let Answer::Refused(refusal) = checks::check_list(ports, slots, list) {
         return Service::Refused(refusal);
@@ -200,5 +239,5 @@ pub fn service_count(
     if too_long(len) {
         return Service::Refused(Refusal::RunLength);
     }
-    Service::Counted(count_run(ports, slots, list, frame, who, start - 1, len))
+    Service::Counted(count_run(side, ports, slots, list, frame, who, start - 1, len))
 }

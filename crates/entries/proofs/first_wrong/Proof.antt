@@ -1,6 +1,7 @@
 use Prim.Native.Nat.{_≤_, _-_, _*_}
 use borrow.Author.Needs.{needs}
 use native.Mathlib.Omega.{arith}
+use Rattle.calls.specs.Sides.{sideOf}
 use Rattle.calls.specs.Inspect.{isWrong}
 use Rattle.rules.proofs.Searches.{Passed}
 use Rattle.entries.proofs.Found.{slots-start, entries-on, entries-found, entries-row, entries-fits, slots-end, whole-fits}
@@ -8,10 +9,10 @@ use Rattle.entries.proofs.first_wrong.Statement.{statement}
 use Rattle.entries.proofs.first_wrong.Tie as tie
 
 abbrev Inv-loop : tie.InvT-loop
-Inv-loop ports slots list frame s₀ s = (s ≤ slots) × Passed (isWrong ports list frame) 0 (slots * ports) (s * ports)
+Inv-loop side ports slots list frame s₀ s = (s ≤ slots) × Passed (isWrong (sideOf side) ports list frame) 0 (slots * ports) (s * ports)
 
 abbrev μ-loop : tie.MeasureT-loop
-μ-loop ports slots list frame s₀ s = slots - s
+μ-loop side ports slots list frame s₀ s = slots - s
 
 pub first-wrong-spec : {M : Type 1} → statement M
 first-wrong-spec =

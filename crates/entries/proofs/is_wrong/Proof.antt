@@ -11,6 +11,7 @@ is-wrong-spec =
     (λ c κs. search needs)
     (λ c. search (needs, above-wrong))
     (λ c. search needs)
+    (λ c κs. search needs)
     (λ c κs. (search (needs, flow-in), search needs))
     (λ c. search needs)
     (λ c. search (needs, flow-wrong)))

@@ -3,6 +3,7 @@ use borrow.Author.Needs.{needs}
 use mir.Syntax.{w64}
 use mir.Val.{toZ, ofZ}
 use Rattle.calls.specs.Service.{served}
+use Rattle.numbers.proofs.Told.{refused-count}
 use Rattle.numbers.proofs.of_service.Statement.{statement}
 use Rattle.numbers.proofs.of_service.Tie as tie
 
@@ -14,4 +15,4 @@ returns c =
 
 pub of-service-spec : {M : Type 1} → statement M
 of-service-spec =
-    tie.close (tie.spec (λ c. search needs) (λ c. search needs) (λ c κs. search needs) returns (λ c. search needs))
+    tie.close (tie.spec (λ c. search needs) (λ c. search needs) (λ c κs. search needs) returns (λ c. refused-count (c .before .before .service2 .given .1) (c .of-refusal .ensures)))

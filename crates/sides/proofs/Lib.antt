@@ -1,0 +1,3 @@
+-- Laws of the sides of a frame.
+pub mod Slots
+pub mod Turned
