@@ -61,7 +61,7 @@ module _ (ports slots : ℕ) (list : List ℕ) (cs : List Check) (asked : List �
       )
 
 module _ (ports slots : ℕ) (list entries : List ℕ) (cs : List Check) (asked : List ℕ) where
-  frame-reported : {n : ℕ} → FrameRefused ports slots list entries n → report (listChecks ports slots list ++ (bad-frame ports slots entries ∷ cs)) asked ≡ n ∷ []
+  pub frame-reported : {n : ℕ} → FrameRefused ports slots list entries n → report (listChecks ports slots list ++ (bad-frame ports slots entries ∷ cs)) asked ≡ n ∷ []
   frame-reported (load-refused r) = load-reported ports slots list (bad-frame ports slots entries ∷ cs) asked r
   frame-reported (frame-4 w b) = past-load ports slots list w (bad-frame ports slots entries ∷ cs) asked ∙ rw (broken (frame-tells ports slots entries) b)
 
@@ -70,7 +70,7 @@ rack-low : {ports slots n : ℕ} → RackRefused ports slots n → 0 < n
 rack-low (ports-1 b) = omega arith
 rack-low (slots-2 p b) = omega arith
 
-frame-low : {ports slots : ℕ} {list entries : List ℕ} {n : ℕ} → FrameRefused ports slots list entries n → 0 < n
+pub frame-low : {ports slots : ℕ} {list entries : List ℕ} {n : ℕ} → FrameRefused ports slots list entries n → 0 < n
 frame-low (load-refused (rack r)) = rack-low r
 frame-low (load-refused (list-3 p s b)) = omega arith
 frame-low (load-refused (flows-21 p s e b)) = omega arith
@@ -122,7 +122,7 @@ byLoad ports slots list off on =
     (λ w. byFact (link-tells list) (λ b. off 23 (link-23 p s e f w b))
     (λ l. on (record { rack = p; power = s; whole = e; few = f; ported = w; linked = l }))))))
 
-byFrame : {P : Type 0} (ports slots : ℕ) (list entries : List ℕ) → ((n : ℕ) → FrameRefused ports slots list entries n → P)
+pub byFrame : {P : Type 0} (ports slots : ℕ) (list entries : List ℕ) → ((n : ℕ) → FrameRefused ports slots list entries n → P)
     → (WellFormed ports slots list → length entries ≡ slots * ports → P) → P
 byFrame ports slots list entries off on =
     byLoad ports slots list (λ n r. off n (load-refused r))

@@ -2,16 +2,16 @@
 use Prim.Native.Nat.{ℕ, suc, _+_, _*_, _/_, _%_, _≤_, _<_}
 use mathlib.Core.Path.{_≡_, refl, sym, ap, _∙_, subst}
 use mathlib.Core.List.{List}
-use mathlib.Core.Bool.{true, false}
+use mathlib.Core.Bool.{true, false, true≢false}
 use native.Mathlib.Omega.{arith}
-use native.Mathlib.Nat.{mul-le-mul-right}
+use native.Mathlib.Nat.{mul-le-mul-right, mod-lt}
 use lib.Arith.{digits-div, digits-mod, digits-lt}
 use lib.ListN.{length, getD, drop}
+use lib.Pow.{pow-pos}
 use lib.Seq.{getD-take, getD-drop, ext-getD}
 use Rattle.rules.specs.Words.{bit, sumTo}
 use Rattle.rules.specs.Flows.{flows, Side, other, same, onSide, portOf, Class, portOn}
-use Rattle.rules.specs.Frames.{isFlowOf, rightOn, cellsOn, runOf, repeated, Power}
-use Rattle.rules.proofs.Cases.{byBool}
+use Rattle.rules.specs.Frames.{isFlowOf, cellsOn, runOf, repeated}
 use Rattle.rules.proofs.Sums.{sum-ext}
 use Rattle.rules.proofs.Cells.{cells-slot, run-length, run-all}
 use Rattle.rules.proofs.Runs.{cells-slots, cells-repeated}
@@ -21,7 +21,7 @@ use Rattle.calls.specs.Answers.{Throughout, EntryRight, PortOnce}
 use Rattle.calls.proofs.Demand2.{ported-on}
 use Rattle.calls.proofs.Faults.{place-of}
 use Rattle.sides.specs.Turn.{BySide, entryOf, bySide}
-use Rattle.sides.proofs.Slots.{Sound, by-port, entry-flow, entry-none, sound-other, sums-same, entry-back, by-flow}
+use Rattle.sides.proofs.Slots.{Sound, by-port, entry-flow, sound-other, sums-same, entry-back, flow-of}
 
 -- ---- entries of a slot
 module _ (ports slots : ℕ) (entries : List ℕ) (size : length entries ≡ slots * ports) (s : ℕ) (h : s < slots) where
@@ -135,11 +135,23 @@ module _ {side : Side} {ports slots : ℕ} {list entries : List ℕ} (t : Turnab
       ∙ sum-ext len _ _ (λ x l. slot-cells c (start + x) (omega arith))
       ∙ sym (cells-slots side ports slots list entries (t .size) c start len h)
 
+  pub repeated-cells : (c : Class) (start len : ℕ)
+      → cellsOn to ports list c (repeated ports slots new start len) ≡ cellsOn side ports list c (repeated ports slots entries start len)
+  repeated-cells c start len =
+      let some : 1 ≤ slots = omega (arith, t .well .power .is, pow-pos (t .well .power .k)) in
+      cells-repeated to ports slots list new new-size c some start len
+      ∙ sum-ext len _ _ (λ x l. slot-cells c ((start + x) % slots) (mod-lt (start + x) some))
+      ∙ sym (cells-repeated side ports slots list entries (t .size) c some start len)
+
   pub frame-cells : (c : Class) → cellsOn to ports list c new ≡ cellsOn side ports list c entries
   frame-cells c =
       ap (cellsOn to ports list c) (sym (run-all ports slots new new-size))
       ∙ run-cells c 0 slots (omega arith)
       ∙ ap (cellsOn side ports list c) (run-all ports slots entries (t .size))
+
+  -- an entry that is not 0 is a flow of the list
+  in-list : {P : Type 0} (s i f : ℕ) → s < slots → i < ports → getD entries (s * ports + i) 0 ≡ suc f → (f < flows list → P) → P
+  in-list s i f h l z then = by-entry side list i (getD entries (s * ports + i) 0) (t .each-right s i h l) (λ d. absurd (omega arith)) (λ v k d p. then (omega arith))
 
   -- ---- nothing else is the frame by the other side
   pub turned-by : BySide to ports slots list entries new
@@ -153,11 +165,23 @@ module _ {side : Side} {ports slots : ℕ} {list entries : List ℕ} (t : Turnab
         idle = λ s x h l none. by-at to ports slots list entries (t .size) s x h l ∙ not-there s x h l none;
       }
     where
-      -- an entry that is not 0 is a flow of the list
-      in-list : {P : Type 0} (s i f : ℕ) → s < slots → i < ports → getD entries (s * ports + i) 0 ≡ suc f → (f < flows list → P) → P
-      in-list s i f h l z then = by-entry side list i (getD entries (s * ports + i) 0) (t .each-right s i h l) (λ d. absurd (omega arith)) (λ v k d p. then (omega arith))
-
       not-there : (s x : ℕ) → s < slots → x < ports → ((i f : ℕ) → i < ports → getD entries (s * ports + i) 0 ≡ suc f → onSide to (portOf list) f ≡ x → ⊥)
           → entryOf to ports list (runOf ports s 1 entries) x ≡ 0
       not-there s x h l none =
           by-port (slot-sound s h) x l (λ e _. e) (λ i f a b c d p q. absurd (none i f a (sym (slot-at ports slots entries (t .size) s h i a) ∙ c) p))
+
+  pub only-turned : (given : List ℕ) → BySide to ports slots list entries given → given ≡ new
+  only-turned given b =
+      places-same ports slots given new (b .size ∙ t .size) new-size
+      (λ s x h l.
+      let in-slot = slot-at ports slots entries (t .size) s h in
+      let there = by-at to ports slots list entries (t .size) s x h l in
+      by-port (slot-sound s h) x l
+      (λ e out. b .idle s x h l (λ i f a z p. true≢false (sym (goes-there s i f h a z p) ∙ out i a)) ∙ sym (there ∙ e))
+      (λ i f a k c d p q. ap (λ z. getD given (s * ports + z) 0) (sym p) ∙ b .stands s i f h a (sym (in-slot i a) ∙ c) ∙ sym (there ∙ d)))
+    where
+      goes-there : (s i f : ℕ) {x : ℕ} → s < slots → i < ports → getD entries (s * ports + i) 0 ≡ suc f → onSide to (portOf list) f ≡ x
+          → isFlowOf (portOn to x) list (getD (runOf ports s 1 entries) i 0) ≡ true
+      goes-there s i f h a z p =
+          let e = slot-at ports slots entries (t .size) s h i a ∙ z in
+          in-list s i f h a z (λ k. rw (e, sym p) (flow-of list to f k))
