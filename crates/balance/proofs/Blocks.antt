@@ -19,8 +19,9 @@ use Rattle.calls.specs.Inspect.{unbalanced, unbalancedNumber, firstAt, unbalanc
 use Rattle.rules.proofs.Searches.{Passed, passed-start, passed-on, passed-found, passed-done, first-low, first-found, first-before}
 use Rattle.rules.proofs.Levels.{levels-power, depth-half, depth-fill, double}
 use Rattle.calls.proofs.Inspected.{InList, nearFor, unbalanced-yes, unbalanced-no}
+use Rattle.checks.specs.Fits.{FlowFrame}
 use Rattle.checks.proofs.Fits.{slots-within, level-low}
-use Rattle.tally.specs.Tally.{place, RightFrame, tallyOf}
+use Rattle.tally.specs.Tally.{place, flowCells, tallyOf}
 use Rattle.tally.proofs.Tallies.{tally-class}
 use Rattle.balance.specs.Balance.{far}
 
@@ -46,7 +47,7 @@ module _ (a b : List ℕ) (from count x u v : ℕ) (r : Bool) where
   far-found p h e f g k = passed-found p h (rw (sym e, sym f) (sym g ∙ k))
 
 -- ---- blocks
-module _ (ports slots half count b : ℕ) (list frame : List ℕ) (r : RightFrame ports slots list frame) (room : count * (2 * half) ≤ slots) (l : b < count) where
+module _ (ports slots half count b : ℕ) (list frame : List ℕ) (r : FlowFrame ports slots list frame) (room : count * (2 * half) ≤ slots) (l : b < count) where
   pub block-ends : b * (2 * half) + half + half ≤ slots
   block-ends = let k = mul-le-mul-right {m = suc b} {n = count} (2 * half) l in omega arith
 
@@ -57,30 +58,30 @@ module _ (ports slots half count b : ℕ) (list frame : List ℕ) (r : RightFram
   block-fits = record { fits = (let k = block-ends in let m = slots-within (r .framed) in omega arith) }
 
 module _ (ports half count b : ℕ) (list frame : List ℕ) (u : Bool) where
-  pub number-on : Passed (unbalancedNumber ports list frame half) 0 count b → b < count → u ≡ unbalanced ports list frame (b * (2 * half)) half → u ≡ false
-      → Passed (unbalancedNumber ports list frame half) 0 count (b + 1)
+  pub number-on : Passed (unbalancedNumber (flowCells list) ports list frame half) 0 count b → b < count → u ≡ unbalanced (flowCells list) ports list frame (b * (2 * half)) half → u ≡ false
+      → Passed (unbalancedNumber (flowCells list) ports list frame half) 0 count (b + 1)
   unfolding unbalancedNumber
   number-on p h e f = passed-on p (omega arith) (sym e ∙ f)
 
-  pub number-found : Passed (unbalancedNumber ports list frame half) 0 count b → b < count → u ≡ unbalanced ports list frame (b * (2 * half)) half → u ≡ true
-      → b ≡ first (unbalancedNumber ports list frame half) 0 count
+  pub number-found : Passed (unbalancedNumber (flowCells list) ports list frame half) 0 count b → b < count → u ≡ unbalanced (flowCells list) ports list frame (b * (2 * half)) half → u ≡ true
+      → b ≡ first (unbalancedNumber (flowCells list) ports list frame half) 0 count
   unfolding unbalancedNumber
   number-found p h e f = passed-found p (omega arith) (sym e ∙ f)
 
 -- ---- one block: where the tallies of its halves are apart, its classes are
-module _ (ports slots start half : ℕ) (list frame a b : List ℕ) (r : RightFrame ports slots list frame) (ya : a ≡ tallyOf ports list (runOf ports start half frame))
+module _ (ports slots start half : ℕ) (list frame a b : List ℕ) (r : FlowFrame ports slots list frame) (ya : a ≡ tallyOf ports list (runOf ports start half frame))
     (yb : b ≡ tallyOf ports list (runOf ports (start + half) half frame)) where
-  far-class : (c : Class) → InList ports list c → far a b (place c) ≡ not (nearFor ports list frame start half c)
+  far-class : (c : Class) → InList ports list c → far a b (place c) ≡ not (nearFor (flowCells list) ports list frame start half c)
   unfolding far
   far-class c of = rw (tally-class ports list (runOf ports start half frame) a (r .listed) ya c of, tally-class ports list (runOf ports (start + half) half frame) b (r .listed) yb c of)
 
-  class-far : (c : Class) → InList ports list c → far a b (place c) ≡ true → true ≡ unbalanced ports list frame start half
-  class-far c of e = sym (unbalanced-yes ports list frame start half c of (not-true _ (sym (far-class c of) ∙ e)))
+  class-far : (c : Class) → InList ports list c → far a b (place c) ≡ true → true ≡ unbalanced (flowCells list) ports list frame start half
+  class-far c of e = sym (unbalanced-yes (flowCells list) ports list frame start half c of (not-true _ (sym (far-class c of) ∙ e)))
 
-  pub flow-far : (n x : ℕ) → n ≡ flows list → x ≡ first (far a b) 0 n → x < n → true ≡ unbalanced ports list frame start half
+  pub flow-far : (n x : ℕ) → n ≡ flows list → x ≡ first (far a b) 0 n → x < n → true ≡ unbalanced (flowCells list) ports list frame start half
   flow-far n x d e h = class-far (flow x) (omega arith) (ap (far a b) e ∙ first-found (far a b) n 0 (omega arith))
 
-  pub input-far : (x : ℕ) → x ≡ first (far a b) 512 ports → x < 512 + ports → true ≡ unbalanced ports list frame start half
+  pub input-far : (x : ℕ) → x ≡ first (far a b) 512 ports → x < 512 + ports → true ≡ unbalanced (flowCells list) ports list frame start half
   input-far x e h =
       let f = first-found (far a b) ports 512 (omega arith) in
       let l = first-low (far a b) ports 512 in
@@ -88,7 +89,7 @@ module _ (ports slots start half : ℕ) (list frame a b : List ℕ) (r : RightFr
       let d : 512 + i ≡ x = omega arith in
       class-far (portOn input i) (omega arith) (ap (far a b) (d ∙ e) ∙ f)
 
-  pub output-far : (x : ℕ) → x ≡ first (far a b) 528 ports → x < 528 + ports → true ≡ unbalanced ports list frame start half
+  pub output-far : (x : ℕ) → x ≡ first (far a b) 528 ports → x < 528 + ports → true ≡ unbalanced (flowCells list) ports list frame start half
   output-far x e h =
       let f = first-found (far a b) ports 528 (omega arith) in
       let l = first-low (far a b) ports 528 in
@@ -96,7 +97,7 @@ module _ (ports slots start half : ℕ) (list frame a b : List ℕ) (r : RightFr
       let d : 528 + i ≡ x = omega arith in
       class-far (portOn output i) (omega arith) (ap (far a b) (d ∙ e) ∙ f)
 
-  pub link-far : (x : ℕ) → x ≡ first (far a b) 544 (ports * 4) → x < 544 + ports * 4 → true ≡ unbalanced ports list frame start half
+  pub link-far : (x : ℕ) → x ≡ first (far a b) 544 (ports * 4) → x < 544 + ports * 4 → true ≡ unbalanced (flowCells list) ports list frame start half
   link-far x e h =
       let f = first-found (far a b) (ports * 4) 544 (omega arith) in
       let l = first-low (far a b) (ports * 4) 544 in
@@ -104,7 +105,7 @@ module _ (ports slots start half : ℕ) (list frame a b : List ℕ) (r : RightFr
       let d : 544 + i ≡ x = omega arith in
       class-far (link i) (omega arith) (ap (far a b) (d ∙ e) ∙ f)
 
-  pub total-far : (x : ℕ) → x ≡ first (far a b) 608 1 → x < 609 → true ≡ unbalanced ports list frame start half
+  pub total-far : (x : ℕ) → x ≡ first (far a b) 608 1 → x < 609 → true ≡ unbalanced (flowCells list) ports list frame start half
   total-far x e h =
       let f = first-found (far a b) 1 608 (omega arith) in
       let l = first-low (far a b) 1 608 in
@@ -114,9 +115,9 @@ module _ (ports slots start half : ℕ) (list frame a b : List ℕ) (r : RightFr
   pub none-far : (n x y z w t : ℕ) → n ≡ flows list → x ≡ first (far a b) 0 n → y ≡ first (far a b) 512 ports
       → z ≡ first (far a b) 528 ports → w ≡ first (far a b) 544 (ports * 4) → t ≡ first (far a b) 608 1
       → n ≤ x → 512 + ports ≤ y → 528 + ports ≤ z → 544 + ports * 4 ≤ w → 609 ≤ t
-      → false ≡ unbalanced ports list frame start half
+      → false ≡ unbalanced (flowCells list) ports list frame start half
   none-far n x y z w t d ex ey ez ew et hx hy hz hw ht =
-      sym (unbalanced-no ports list frame start half (λ c of. not-false _ (sym (far-class c of) ∙ near-at c of)))
+      sym (unbalanced-no (flowCells list) ports list frame start half (λ c of. not-false _ (sym (far-class c of) ∙ near-at c of)))
     where
       near-at : (c : Class) → InList ports list c → far a b (place c) ≡ false
       near-at (flow f) of = first-before (far a b) n 0 f (omega arith) (omega arith)
@@ -125,10 +126,10 @@ module _ (ports slots start half : ℕ) (list frame a b : List ℕ) (r : RightFr
       near-at (link k) of = first-before (far a b) (ports * 4) 544 (544 + k) (omega arith) (omega arith)
       near-at total of = first-before (far a b) 1 608 608 (omega arith) (omega arith)
 
-pub count-most : {ports slots n : ℕ} {list frame : List ℕ} → RightFrame ports slots list frame → n ≡ flows list → 0 + n ≤ 609
+pub count-most : {ports slots n : ℕ} {list frame : List ℕ} → FlowFrame ports slots list frame → n ≡ flows list → 0 + n ≤ 609
 count-most r e = omega (arith, r .listed .few)
 
-module _ {ports slots : ℕ} {list frame : List ℕ} (r : RightFrame ports slots list frame) where
+module _ {ports slots : ℕ} {list frame : List ℕ} (r : FlowFrame ports slots list frame) where
   pub links-most : 544 + ports * 4 ≤ 609
   links-most = omega (arith, r .listed .most)
 
@@ -143,12 +144,12 @@ pub record Depths (ports slots k : ℕ) (list frame : List ℕ) (t count half : 
   pub most : t ≤ k
   pub number : count ≡ 2 ^ t
   pub size : half ≡ slots / 2 ^ suc t
-  pub passed : Passed (unbalancedAt ports slots list frame) 0 k t
+  pub passed : Passed (unbalancedAt (flowCells list) ports slots list frame) 0 k t
 
 pub depths-start : (ports slots k : ℕ) (list frame : List ℕ) → Depths ports slots k list frame 0 1 (slots / 2)
-depths-start ports slots k list frame = record { most = omega arith; number = refl; size = refl; passed = passed-start (unbalancedAt ports slots list frame) 0 k }
+depths-start ports slots k list frame = record { most = omega arith; number = refl; size = refl; passed = passed-start (unbalancedAt (flowCells list) ports slots list frame) 0 k }
 
-module _ (ports slots k t count half : ℕ) (list frame : List ℕ) (e : k ≡ levels slots) (r : RightFrame ports slots list frame) (d : Depths ports slots k list frame t count half) (h : t < k) where
+module _ (ports slots k t count half : ℕ) (list frame : List ℕ) (e : k ≡ levels slots) (r : FlowFrame ports slots list frame) (d : Depths ports slots k list frame t count half) (h : t < k) where
   low : k < 11
   low = omega (arith, level-low (r .framed))
 
@@ -168,9 +169,9 @@ module _ (ports slots k t count half : ℕ) (list frame : List ℕ) (e : k ≡ l
   pub count-fits : Fits w64 (2 * count)
   count-fits = record { fits = (let n = d .number in let w : 2 ^ t ≤ 2 ^ 10 = pow-le-pow-right (omega arith) {j = 10} (omega (arith, low)) in omega arith) }
 
-  module _ (b : ℕ) (f : b ≡ first (unbalancedNumber ports list frame half) 0 count) where
-    at-depth : b ≡ firstAt ports slots list frame t
-    at-depth = f ∙ ap (λ z. first (unbalancedNumber ports list frame z) 0 count) (d .size) ∙ ap (λ z. first (unbalancedNumber ports list frame (slots / 2 ^ suc t)) 0 z) (d .number)
+  module _ (b : ℕ) (f : b ≡ first (unbalancedNumber (flowCells list) ports list frame half) 0 count) where
+    at-depth : b ≡ firstAt (flowCells list) ports slots list frame t
+    at-depth = f ∙ ap (λ z. first (unbalancedNumber (flowCells list) ports list frame z) 0 count) (d .size) ∙ ap (λ z. first (unbalancedNumber (flowCells list) ports list frame (slots / 2 ^ suc t)) 0 z) (d .number)
 
     pub depths-on : count ≤ b → Depths ports slots k list frame (t + 1) (2 * count) (half / 2)
     unfolding unbalancedAt
@@ -179,18 +180,18 @@ module _ (ports slots k t count half : ℕ) (list frame : List ℕ) (e : k ≡ l
           most = omega arith;
           number = ap (λ z. 2 * z) (d .number) ∙ sym (ap (λ z. 2 ^ z) (add-one t) ∙ double t);
           size = ap (λ z. z / 2) (d .size) ∙ shr-shr slots (suc t) 1 ∙ ap (λ z. slots / 2 ^ z) (omega arith);
-          passed = passed-on (d .passed) (omega arith) (le-ltb (firstAt ports slots list frame t) (2 ^ t) (omega (arith, at-depth, d .number)));
+          passed = passed-on (d .passed) (omega arith) (le-ltb (firstAt (flowCells list) ports slots list frame t) (2 ^ t) (omega (arith, at-depth, d .number)));
         }
 
-    found-at : b < count → t ≡ first (unbalancedAt ports slots list frame) 0 k
+    found-at : b < count → t ≡ first (unbalancedAt (flowCells list) ports slots list frame) 0 k
     unfolding unbalancedAt
-    found-at g = passed-found (d .passed) (omega arith) (lt-ltb (firstAt ports slots list frame t) (2 ^ t) (omega (arith, at-depth, d .number)))
+    found-at g = passed-found (d .passed) (omega arith) (lt-ltb (firstAt (flowCells list) ports slots list frame t) (2 ^ t) (omega (arith, at-depth, d .number)))
 
-    pub depths-found : b < count → 104 ∷ (b * (2 * half) + 1) ∷ (2 * half) ∷ [] ≡ report (unbalancedBlock ports slots list frame ∷ []) (0 ∷ [])
+    pub depths-found : b < count → 104 ∷ (b * (2 * half) + 1) ∷ (2 * half) ∷ [] ≡ report (unbalancedBlock (flowCells list) ports slots list frame ∷ []) (0 ∷ [])
     depths-found g =
         let a = found-at g in
         let s : 2 * half ≡ slots / 2 ^ t = ap (λ z. 2 * z) (d .size ∙ ap (λ z. z / 2 ^ suc t) power) ∙ depth-half k t h ∙ ap (λ z. z / 2 ^ t) (sym power) in
-        let m : first (unbalancedAt ports slots list frame) 0 (levels slots) ≡ t = ap (λ z. first (unbalancedAt ports slots list frame) 0 z) (sym e) ∙ sym a in
+        let m : first (unbalancedAt (flowCells list) ports slots list frame) 0 (levels slots) ≡ t = ap (λ z. first (unbalancedAt (flowCells list) ports slots list frame) 0 z) (sym e) ∙ sym a in
         rw (m, lt-ltb t (levels slots) (omega arith), ← s, ← at-depth, add-one)
 
     pub start-fits : b < count → Fits w64 (b * (2 * half))
@@ -199,9 +200,9 @@ module _ (ports slots k t count half : ℕ) (list frame : List ℕ) (e : k ≡ l
     pub number-fits : b < count → Fits w64 (b * (2 * half) + 1)
     number-fits g = record { fits = (let room = blocks-room in let q = slots-within (r .framed) in let w = mul-le-mul-right {m = b} {n = count} (2 * half) (omega arith) in omega arith) }
 
-pub depths-none : (ports slots k t count half : ℕ) (list frame : List ℕ) → k ≡ levels slots → Depths ports slots k list frame t count half → k ≤ t → 0 ∷ [] ≡ report (unbalancedBlock ports slots list frame ∷ []) (0 ∷ [])
+pub depths-none : (ports slots k t count half : ℕ) (list frame : List ℕ) → k ≡ levels slots → Depths ports slots k list frame t count half → k ≤ t → 0 ∷ [] ≡ report (unbalancedBlock (flowCells list) ports slots list frame ∷ []) (0 ∷ [])
 depths-none ports slots k t count half list frame e d h =
     let a = passed-done (d .passed) h in
     let l = d .most in
-    let m : first (unbalancedAt ports slots list frame) 0 (levels slots) ≡ t = ap (λ z. first (unbalancedAt ports slots list frame) 0 z) (sym e) ∙ sym a in
+    let m : first (unbalancedAt (flowCells list) ports slots list frame) 0 (levels slots) ≡ t = ap (λ z. first (unbalancedAt (flowCells list) ports slots list frame) 0 z) (sym e) ∙ sym a in
     rw (m, le-ltb t (levels slots) (omega arith))

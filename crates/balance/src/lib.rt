@@ -1,4 +1,4 @@
-// Balance: the first block whose halves differ by more than one cell.
+// Balance: the first block whose halves differ by more than one cell, in frames of flows, whose cells are counted by the flows alone.
 ghost use mathlib.Core.Path.{_≡_};
 ghost use mathlib.Core.Bool.{not};
 ghost use Prim.Native.Nat.{_+_, _*_, _≤_, _<_};
@@ -8,7 +8,8 @@ ghost use Rattle.rules.specs.Frames.{levels};
 ghost use Rattle.calls.specs.Refusals.{report};
 ghost use mathlib.Core.List.{[], _∷_};
 ghost use Rattle.calls.specs.Inspect.{finding, unbalanced, unbalancedNumber, unbalancedBlock};
-ghost use Rattle.tally.specs.Tally.{tallyPlaces, RightFrame};
+ghost use Rattle.checks.specs.Fits.{FlowFrame};
+ghost use Rattle.tally.specs.Tally.{tallyPlaces, flowCells};
 ghost use Rattle.balance.specs.Balance.{far};
 use calls::Inspection;
 use flows::flows_of;
@@ -58,8 +59,8 @@ fn unbalanced_at(
     start: usize,
     half: usize,
 ) -> bool
-    requires { ⌜ RightFrame ports slots (now list) (now frame) × (start + half + half ≤ slots) ⌝ }
-    ensures { λ r. ⌜ r ≡ unbalanced ports (now (list .entry)) (now (frame .entry)) start half ⌝ }
+    requires { ⌜ FlowFrame ports slots (now list) (now frame) × (start + half + half ≤ slots) ⌝ }
+    ensures { λ r. ⌜ r ≡ unbalanced (flowCells (now (list .entry))) ports (now (list .entry)) (now (frame .entry)) start half ⌝ }
 {
     let mut front = [0u16; TALLY_PLACES];
     let mut back = [0u16; TALLY_PLACES];
@@ -93,8 +94,8 @@ fn first_unbalanced(
     half: usize,
     count: usize,
 ) -> usize
-    requires { ⌜ RightFrame ports slots (now list) (now frame) × (count * (2 * half) ≤ slots) ⌝ }
-    ensures { λ r. ⌜ r ≡ first (unbalancedNumber ports (now (list .entry)) (now (frame .entry)) half) 0 count ⌝ }
+    requires { ⌜ FlowFrame ports slots (now list) (now frame) × (count * (2 * half) ≤ slots) ⌝ }
+    ensures { λ r. ⌜ r ≡ first (unbalancedNumber (flowCells (now (list .entry))) ports (now (list .entry)) (now (frame .entry)) half) 0 count ⌝ }
 {
     let mut b: usize = 0;
     while b < count {
@@ -114,8 +115,8 @@ pub fn unbalanced_block(
     list: &[u16],
     frame: &[u16],
 ) -> Inspection
-    requires { ⌜ RightFrame ports slots (now list) (now frame) × (depths ≡ levels slots) ⌝ }
-    ensures { λ r. ⌜ finding r ≡ report (unbalancedBlock ports slots (now (list .entry)) (now (frame .entry)) ∷ []) (0 ∷ []) ⌝ }
+    requires { ⌜ FlowFrame ports slots (now list) (now frame) × (depths ≡ levels slots) ⌝ }
+    ensures { λ r. ⌜ finding r ≡ report (unbalancedBlock (flowCells (now (list .entry))) ports slots (now (list .entry)) (now (frame .entry)) ∷ []) (0 ∷ []) ⌝ }
 {
     let mut depth: usize = 0;
     let mut count: usize = 1;

@@ -11,9 +11,14 @@ use Rattle.rules.specs.Flows.{flows, numberOf, Side, input, output, inputs, lin
 use Rattle.rules.specs.Frames.{levels}
 use Rattle.rules.proofs.Flows.{output-is}
 use Rattle.rules.proofs.Levels.{power-level, power-most}
+use Rattle.calls.specs.Demand2.{WellFormed}
 use Rattle.calls.proofs.Demand2.{ported-placed, ported-on}
 use Rattle.checks.specs.Fits.{ListFits, FrameFits}
 use Rattle.checks.specs.Places.{placeOn}
+
+-- a well-formed list
+pub well-fits : {ports slots : ℕ} {list : List ℕ} → WellFormed ports slots list → ListFits ports list
+well-fits w = record { least = w .rack .0; most = w .rack .1; few = w .few; ported = w .ported; linked = w .linked }
 
 module _ {ports : ℕ} {list : List ℕ} (l : ListFits ports list) where
   -- its ports are of the largest switch too

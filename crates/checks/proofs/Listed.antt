@@ -15,6 +15,7 @@ use Rattle.calls.specs.Demand2.{WellFormed}
 use Rattle.calls.proofs.Demand2.{clear-well}
 use Rattle.checks.specs.Lists.{ListAnswer}
 use Rattle.checks.specs.Fits.{ListFits, FrameFits}
+use Rattle.checks.proofs.Fits.{well-fits}
 
 module _ {ports slots : ℕ} {list : List ℕ} {a : Answer} (l : ListAnswer ports slots list (answered a)) where
   pub list-refused : {x : Refusal} → a ≡ Refused x → (cs : List Check) (asked : List ℕ) → refusal x ≡ report (listChecks ports slots list ++ cs) asked
@@ -29,7 +30,7 @@ module _ {ports slots : ℕ} {list : List ℕ} {a : Answer} (l : ListAnswer port
 
   -- where they let it pass, the list fits, and so does a frame that 4 lets pass
   pub list-fits : a ≡ Accepted → ListFits ports list
-  list-fits e = let w = list-well e in record { least = w .rack .0; most = w .rack .1; few = w .few; ported = w .ported; linked = w .linked }
+  list-fits e = well-fits (list-well e)
 
   pub frame-fits : {frame : List ℕ} {t : Bool} → a ≡ Accepted → t ≡ not (eqb (length frame) (slots * ports)) → t ≡ false → FrameFits ports slots frame
   frame-fits {frame} e is right =

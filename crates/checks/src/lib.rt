@@ -5,7 +5,7 @@ ghost use Prim.Native.Nat.{_*_, _<_, _≤_};
 ghost use lib.Dec.{eqb};
 ghost use lib.ListN.{length};
 ghost use Rattle.rules.specs.Words.{within};
-ghost use Rattle.rules.specs.Flows.{flows};
+ghost use Rattle.rules.specs.Flows.{flows, other};
 ghost use Rattle.rules.specs.Frames.{levels};
 ghost use Rattle.calls.specs.Refusals.{portsWithin, port-outside, link-outside, answered};
 ghost use Rattle.calls.specs.Service.{whoWithin};
@@ -115,6 +115,16 @@ pub fn bad_who(ports: usize, list: &[u16], who: Who) -> bool
         Who::Flow(flow) => outside(flows_of(list), flow),
         Who::Input(input) => outside(ports, input),
         Who::Output(output) => outside(ports, output),
+    }
+}
+
+// The other side.
+pub fn across(side: Side) -> Side
+    ensures { λ r. ⌜ sideOf r ≡ other (sideOf side) ⌝ }
+{
+    match side {
+        Side::Input => Side::Output,
+        Side::Output => Side::Input,
     }
 }
 

@@ -12,10 +12,10 @@ use lib.ListN.{length, getD, set, drop, replicate, length-set, length-replicate}
 use lib.Seq.{getD-set-same, getD-set-other, getD-take, getD-drop}
 use mir.Syntax.{w8, w64}
 use mir.Val.{Fits}
-use borrow.Author.Tests.{lt-ltb, le-ltb, eq-eqb, ne-eqb, not-false}
+use borrow.Author.Tests.{lt-ltb, le-ltb, ne-eqb, not-false}
 use Rattle.rules.specs.Words.{bit, first, sumTo}
-use Rattle.rules.specs.Flows.{flows, numberOf, Side, input, output, other, onSide, portOf, portOn}
-use Rattle.rules.specs.Frames.{isFlowOf, rightOn, countsOn, cellsOn, runOf}
+use Rattle.rules.specs.Flows.{flows, numberOf, Side, other, onSide, portOf, portOn}
+use Rattle.rules.specs.Frames.{isFlowOf, rightOn, cellsOn, runOf}
 use Rattle.calls.specs.Inspect.{isWrong, twiceIn, usedTwice}
 use Rattle.rules.proofs.Cases.{byBool, byEq, byLt, eqb-alike, within-yes, within-above, is-yes, is-no}
 use Rattle.rules.proofs.Sums.{sum-none, sum-more, sum-ext, sum-most}
@@ -25,7 +25,7 @@ use Rattle.rules.proofs.Cells.{cells-slot, run-length}
 use Rattle.rules.proofs.Searches.{Passed, passed-start, passed-on, passed-found, passed-done, first-found, first-before, first-ext}
 use Rattle.checks.specs.Fits.{ListFits, FrameFits, FlowFrame}
 use Rattle.checks.specs.Places.{placeOn}
-use Rattle.checks.proofs.Fits.{frame-most, fits-sixteen, side-number, side-is}
+use Rattle.checks.proofs.Fits.{frame-most, side-number, side-is}
 use Rattle.entries.specs.Entries.{wrongIn, usesPort, Room, Counts, Used, again}
 
 -- ---- one entry
@@ -77,48 +77,49 @@ module _ {ports slots slot : ℕ} {frame : List ℕ} (f : FrameFits ports slots 
       wrong-found p bad = passed-found p (omega arith) (rw (sym is) (sym told ∙ bad))
 
 -- ---- an entry counted for its port of the other side
-module _ (side : Side) (list : List ℕ) (e : ℕ) where
-  pub idle-counted : (old : List ℕ) → Room 254 old → e ≡ 0 → Counts side list e old old
+pub idle-counted : (side : Side) (list : List ℕ) (e : ℕ) (old : List ℕ) → Room 254 old → e ≡ 0 → Counts side list e old old
+unfolding usesPort
+idle-counted side list e old r z = record { size = r .size; each = λ x _. rw z (omega arith) }
+
+pub is-listed : (e : ℕ) (list : List ℕ) → (e ≡ 0 → ⊥) → e ≤ flows list → e - 1 < flows list
+is-listed e list some low = omega arith
+
+-- the number of its flow's port of a side
+module _ (list : List ℕ) (e : ℕ) (l : ListFits 16 list) (some : e ≡ 0 → ⊥) (low : e ≤ flows list) (s : Side) {p n : ℕ} (place : p ≡ placeOn s) (is : n ≡ numberOf p list (e - 1)) where
+  number-is : n ≡ numberOf (placeOn s) list (e - 1)
+  number-is = is ∙ ap (λ z. numberOf z list (e - 1)) place
+
+  pub number-least : 1 ≤ n
+  number-least = omega (arith, number-is, side-number l (e - 1) (is-listed e list some low) s .0)
+
+  pub port-within : n - 1 < 16
+  port-within = omega (arith, number-is, side-number l (e - 1) (is-listed e list some low) s)
+
+  port-is : onSide s (portOf list) (e - 1) ≡ n - 1
+  port-is = side-is l (e - 1) (is-listed e list some low) s ∙ ap (λ z. z - 1) (sym number-is)
+
+  pub one-fits : (old : List ℕ) → Room 254 old → Fits w8 (getD old (n - 1) 0 + 1)
+  one-fits old r = record { fits = omega (arith, r .each (n - 1) port-within) }
+
+module _ (side : Side) (list : List ℕ) (e : ℕ) (l : ListFits 16 list) (some : e ≡ 0 → ⊥) (low : e ≤ flows list) {p n : ℕ} (place : p ≡ placeOn (other side)) (is : n ≡ numberOf p list (e - 1)) where
+  port-uses : (x : ℕ) → usesPort side list e x ≡ bit (eqb (n - 1) x)
   unfolding usesPort
-  idle-counted old r z = record { size = r .size; each = λ x _. rw z (omega arith) }
+  port-uses x =
+      let d : e ≡ suc (e - 1) = omega arith in
+      ap bit (ap (isFlowOf (portOn (other side) x) list) d
+      ∙ is-flow list (portOn (other side) x) (e - 1) (is-listed e list some low)
+      ∙ ap (λ z. eqb z x) (port-is list e l some low (other side) place is))
 
-  module _ (l : ListFits 16 list) (some : e ≡ 0 → ⊥) (low : e ≤ flows list) where
-    pub is-listed : e - 1 < flows list
-    is-listed = omega arith
-
-    module _ {p n : ℕ} (place : p ≡ placeOn side) (is : n ≡ numberOf (1 - p) list (e - 1)) where
-      across : (s : Side) → 1 - placeOn s ≡ placeOn (other s)
-      across input = refl
-      across output = refl
-
-      number-is : n ≡ numberOf (placeOn (other side)) list (e - 1)
-      number-is = is ∙ ap (λ z. numberOf z list (e - 1)) (ap (λ z. 1 - z) place ∙ across side)
-
-      pub number-least : 1 ≤ n
-      number-least = omega (arith, number-is, side-number l (e - 1) is-listed (other side) .0)
-
-      pub port-within : n - 1 < 16
-      port-within = omega (arith, number-is, side-number l (e - 1) is-listed (other side))
-
-      port-uses : (x : ℕ) → usesPort side list e x ≡ bit (eqb (n - 1) x)
-      unfolding usesPort
-      port-uses x =
-          let d : e ≡ suc (e - 1) = omega arith in
-          let port : onSide (other side) (portOf list) (e - 1) ≡ n - 1 = side-is l (e - 1) is-listed (other side) ∙ ap (λ z. z - 1) (sym number-is) in
-          ap bit (ap (isFlowOf (portOn (other side) x) list) d ∙ is-flow list (portOn (other side) x) (e - 1) is-listed ∙ ap (λ z. eqb z x) port)
-
-      module _ (old : List ℕ) (r : Room 254 old) where
-        pub one-fits : Fits w8 (getD old (n - 1) 0 + 1)
-        one-fits = record { fits = omega (arith, r .each (n - 1) port-within) }
-
-        pub one-counted : Counts side list e old (set old (n - 1) (getD old (n - 1) 0 + 1))
-        one-counted =
-            record {
-              size = length-set old (n - 1) (getD old (n - 1) 0 + 1) ∙ r .size;
-              each = λ x _. byEq (n - 1) x
-                  (λ d. rw (port-uses x, ← d) (getD-set-same old (n - 1) (getD old (n - 1) 0 + 1) 0 (omega (arith, r .size, port-within)) ∙ ap (λ z. getD old (n - 1) 0 + z) (sym (is-yes (n - 1) (n - 1) refl))))
-                  (λ d. getD-set-other old (n - 1) x (getD old (n - 1) 0 + 1) 0 (λ k. d (sym k)) ∙ omega (arith, port-uses x, is-no (n - 1) x d));
-            }
+  pub one-counted : (old : List ℕ) → Room 254 old → Counts side list e old (set old (n - 1) (getD old (n - 1) 0 + 1))
+  one-counted old r =
+      let more : ℕ = getD old (n - 1) 0 + 1 in
+      let at : n - 1 < length old = omega (arith, r .size, port-within list e l some low (other side) place is) in
+      record {
+        size = length-set old (n - 1) more ∙ r .size;
+        each = λ x _. byEq (n - 1) x
+            (λ d. rw (port-uses x, ← d) (getD-set-same old (n - 1) more 0 at ∙ ap (λ z. getD old (n - 1) 0 + z) (sym (is-yes (n - 1) (n - 1) refl))))
+            (λ d. getD-set-other old (n - 1) x more 0 (λ k. d (sym k)) ∙ omega (arith, port-uses x, is-no (n - 1) x d));
+      }
 
 -- ---- the entries of a slot counted
 pub used-start : (side : Side) {ports slot : ℕ} {list frame uses : List ℕ} → uses ≡ replicate 16 0 → Used side ports list frame slot 0 uses
@@ -132,51 +133,56 @@ pub entry-flow : {ports slots slot i e : ℕ} {list frame : List ℕ} → FlowFr
     → e ≤ flows list
 entry-flow {ports} {slots} {slot} {i} r h at is = omega (arith, r .each-flow (slot * ports + i) (place-low (r .framed) h at))
 
-module _ (side : Side) {ports slots slot : ℕ} {list frame : List ℕ} where
-  module _ (r : FlowFrame ports slots list frame) (h : slot < slots) where
-    -- so often is a port used at most
-    used-most : (n x : ℕ) → sumTo n (λ i. usesPort side list (getD frame (slot * ports + i) 0) x) ≤ n
-    unfolding usesPort
-    used-most n x =
-        let t : ℕ → Bool = λ i. isFlowOf (portOn (other side) x) list (getD frame (slot * ports + i) 0) in
-        let m = sum-most n 1 (λ i. bit (t i)) (λ i _. byBool (t i) (λ e. rw e (omega arith)) (λ e. rw e (omega arith))) in
-        omega arith
+pub used-end : (side : Side) {ports slot i : ℕ} {list frame uses : List ℕ} → Used side ports list frame slot i uses → i ≤ ports → ports ≤ i → Used side ports list frame slot ports uses
+used-end side {ports} {slot} {i} {list} {frame} {uses} u l h =
+    let e : i ≡ ports = omega arith in
+    subst (λ n. Used side ports list frame slot n uses) e u
 
-    module _ {i : ℕ} (at : i < ports) where
-      pub used-room : {uses : List ℕ} → Used side ports list frame slot i uses → Room 254 uses
-      used-room u = record { size = u .size; each = λ x k. omega (arith, u .each x k, used-most i x, r .listed .most) }
+module _ (side : Side) {ports slots slot : ℕ} {list frame : List ℕ} (r : FlowFrame ports slots list frame) (h : slot < slots) where
+  -- so often is a port used at most
+  used-most : (n x : ℕ) → sumTo n (λ i. usesPort side list (getD frame (slot * ports + i) 0) x) ≤ n
+  unfolding usesPort
+  used-most n x =
+      let t : ℕ → Bool = λ i. isFlowOf (portOn (other side) x) list (getD frame (slot * ports + i) 0) in
+      let m = sum-most n 1 (λ i. bit (t i)) (λ i _. byBool (t i) (λ e. rw e (omega arith)) (λ e. rw e (omega arith))) in
+      omega arith
 
-      pub used-on : {e : ℕ} {old new : List ℕ} → Used side ports list frame slot i old → e ≡ getD frame (slot * ports + i) 0 → Counts side list e old new
-          → Used side ports list frame slot (i + 1) new
-      used-on u is c =
-          record {
-            size = c .size;
-            each = λ x k.
-                let f : ℕ → ℕ = λ j. usesPort side list (getD frame (slot * ports + j) 0) x in
-                omega (arith, c .each x k, u .each x k, ap (λ z. usesPort side list z x) is, sum-more i f, ap (λ z. sumTo z f) (add-one i));
-          }
+  module _ {i : ℕ} (at : i < ports) where
+    pub used-room : {uses : List ℕ} → Used side ports list frame slot i uses → Room 254 uses
+    used-room u = record { size = u .size; each = λ x k. omega (arith, u .each x k, used-most i x, r .listed .most) }
 
-    -- the entries of a slot, in the frame
-    run-at : (i : ℕ) → i < ports → getD (runOf ports slot 1 frame) i 0 ≡ getD frame (slot * ports + i) 0
-    unfolding runOf
-    run-at i k = getD-take (1 * ports) (drop (slot * ports) frame) i 0 (omega arith) ∙ getD-drop (slot * ports) frame i 0
+    pub used-on : {e : ℕ} {old new : List ℕ} → Used side ports list frame slot i old → e ≡ getD frame (slot * ports + i) 0 → Counts side list e old new
+        → Used side ports list frame slot (i + 1) new
+    used-on u is c =
+        record {
+          size = c .size;
+          each = λ x k.
+              let f : ℕ → ℕ = λ j. usesPort side list (getD frame (slot * ports + j) 0) x in
+              omega (arith, c .each x k, u .each x k, ap (λ z. usesPort side list z x) is, sum-more i f, ap (λ z. sumTo z f) (add-one i));
+        }
 
-    used-cells : {uses : List ℕ} → Used side ports list frame slot ports uses → (x : ℕ) → x < ports
-        → getD uses x 0 ≡ cellsOn side ports list (portOn (other side) x) (runOf ports slot 1 frame)
-    unfolding usesPort
-    used-cells u x k =
-        let m = mul-le-mul-right {m = slot + 1} {n = slots} ports (omega arith) in
-        let all : length (runOf ports slot 1 frame) ≡ ports = run-length ports slot 1 frame (omega (arith, r .framed .size)) ∙ omega arith in
-        u .each x (omega (arith, r .listed .most))
-        ∙ sym (cells-slot side ports list (portOn (other side) x) (runOf ports slot 1 frame) all
-        ∙ sum-ext ports _ _ (λ i l. rw (other-side side, run-at i l)))
+  -- the entries of the slot, in the frame
+  run-at : (i : ℕ) → i < ports → getD (runOf ports slot 1 frame) i 0 ≡ getD frame (slot * ports + i) 0
+  unfolding runOf
+  run-at i k = getD-take (1 * ports) (drop (slot * ports) frame) i 0 (omega arith) ∙ getD-drop (slot * ports) frame i 0
 
-    -- so the port that is found is used twice
-    pub twice-is : {x : ℕ} {uses : List ℕ} → Used side ports list frame slot ports uses → x ≡ first (again uses) 0 ports
-        → x ≡ first (twiceIn side ports list (runOf ports slot 1 frame)) 0 ports
-    unfolding again twiceIn
-    twice-is u e = e ∙ first-ext _ _ ports 0 (λ x _ k. ap (ltb 1) (used-cells u x (omega arith)))
+  used-cells : {uses : List ℕ} → Used side ports list frame slot ports uses → (x : ℕ) → x < ports
+      → getD uses x 0 ≡ cellsOn side ports list (portOn (other side) x) (runOf ports slot 1 frame)
+  unfolding usesPort
+  used-cells u x k =
+      let m = mul-le-mul-right {m = slot + 1} {n = slots} ports (omega arith) in
+      let all : length (runOf ports slot 1 frame) ≡ ports = run-length ports slot 1 frame (omega (arith, r .framed .size)) ∙ omega arith in
+      u .each x (omega (arith, r .listed .most))
+      ∙ sym (cells-slot side ports list (portOn (other side) x) (runOf ports slot 1 frame) all
+      ∙ sum-ext ports _ _ (λ i l. rw (other-side side, run-at i l)))
 
+  -- so the port that is found is one that the slot uses twice
+  pub twice-is : {x : ℕ} {uses : List ℕ} → Used side ports list frame slot ports uses → x ≡ first (again uses) 0 ports
+      → x ≡ first (twiceIn side ports list (runOf ports slot 1 frame)) 0 ports
+  unfolding again twiceIn
+  twice-is u e = e ∙ first-ext _ _ ports 0 (λ x _ k. ap (ltb 1) (used-cells u x (omega arith)))
+
+-- ports used more than once, one after the other
 module _ {ports x : ℕ} (uses : List ℕ) (p : Passed (again uses) 0 ports x) (at : x < ports) where
   pub again-on : getD uses x 0 ≤ 1 → Passed (again uses) 0 ports (x + 1)
   unfolding again
@@ -185,11 +191,6 @@ module _ {ports x : ℕ} (uses : List ℕ) (p : Passed (again uses) 0 ports x) (
   pub again-found : 1 < getD uses x 0 → x ≡ first (again uses) 0 ports
   unfolding again
   again-found l = passed-found p (omega arith) (lt-ltb 1 (getD uses x 0) l)
-
-pub used-end : (side : Side) {ports slot i : ℕ} {list frame uses : List ℕ} → Used side ports list frame slot i uses → i ≤ ports → ports ≤ i → Used side ports list frame slot ports uses
-used-end side {ports} {slot} {i} {list} {frame} {uses} u l h =
-    let e : i ≡ ports = omega arith in
-    subst (λ n. Used side ports list frame slot n uses) e u
 
 -- ---- slots, one after the other: a test of places, and the same test slot by slot
 module _ (ports slots : ℕ) (test : ℕ → Bool) (inSlot : ℕ → ℕ → Bool) (same : (s u : ℕ) → u < ports → test (s * ports + u) ≡ inSlot s u) where

@@ -1,2 +1,3 @@
--- Laws of the searches.
+-- Laws of the searches, and of clearing.
 pub mod Found
+pub mod Cleared

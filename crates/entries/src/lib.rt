@@ -1,4 +1,4 @@
-// Entries of a frame: the first wrong one, and the first port of the other side that is used twice in a slot.
+// Entries of a frame: cleared; the first wrong one, and the first port of the other side that is used twice in a slot.
 ghost use mathlib.Core.Path.{_≡_};
 ghost use mathlib.Core.Bool.{not};
 ghost use Prim.Native.Nat.{_*_, _≤_, _<_};
@@ -15,6 +15,17 @@ use calls::Side;
 use checks::place_of;
 use flows::flows_of;
 use flows::number_of;
+
+// Every entry is idle until a cell is written.
+pub fn clear(entries: &mut [u16])
+    ensures { λ _. ⌜ now (entries .exit) ≡ replicate (length (now (entries .entry))) 0 ⌝ }
+{
+    let mut i: usize = 0;
+    while i < entries.len() {
+        entries[i] = 0;
+        i += 1;
+    }
+}
 
 // The ports of a side, at most.
 const PORTS_MOST: usize = 16;
@@ -58,13 +69,7 @@ fn lowest_wrong(
 }
 
 // The place of the first wrong entry; the frame's length where there is none.
-pub fn first_wrong(
-    side: Side,
-    ports: usize,
-    slots: usize,
-    list: &[u16],
-    frame: &[u16],
-) -> usize
+pub fn first_wrong(side: Side, ports: usize, slots: usize, list: &[u16], frame: &[u16]) -> usize
     requires { ⌜ ListFits ports (now list) × FrameFits ports slots (now frame) ⌝ }
     ensures { λ r. ⌜ r ≡ first (isWrong (sideOf side) ports (now (list .entry)) (now (frame .entry))) 0 (slots * ports) ⌝ }
 {
@@ -79,6 +84,16 @@ pub fn first_wrong(
     slots * ports
 }
 
+// Where the port of the other side stands among the numbers of a flow.
+fn place_across(side: Side) -> usize
+    ensures { λ r. ⌜ (r ≡ placeOn (other (sideOf side))) × (r ≤ 1) ⌝ }
+{
+    match side {
+        Side::Input => 1,
+        Side::Output => 0,
+    }
+}
+
 // Counts an entry for the port of the other side that its flow has, if it is not 0.
 fn count_entry(side: Side, list: &[u16], entry: usize, uses: &mut [u8; PORTS_MOST])
     requires { ⌜ ListFits 16 (now list) × (entry ≤ flows (now list)) × Room 254 (now uses) ⌝ }
@@ -87,7 +102,7 @@ fn count_entry(side: Side, list: &[u16], entry: usize, uses: &mut [u8; PORTS_MOS
     if entry == 0 {
         return;
     }
-    let x = number_of(list, entry - 1, 1 - place_of(side)) - 1;
+    let x = number_of(list, entry - 1, place_across(side)) - 1;
     uses[x] = uses[x] + 1;
 }
 
@@ -146,13 +161,7 @@ fn lowest_twice(
 }
 
 // The place of the first port of the other side that is used twice in a slot; the frame's length where there is none.
-pub fn first_twice(
-    side: Side,
-    ports: usize,
-    slots: usize,
-    list: &[u16],
-    frame: &[u16],
-) -> usize
+pub fn first_twice(side: Side, ports: usize, slots: usize, list: &[u16], frame: &[u16]) -> usize
     requires { ⌜ FlowFrame ports slots (now list) (now frame) ⌝ }
     ensures { λ r. ⌜ r ≡ first (usedTwice (sideOf side) ports (now (list .entry)) (now (frame .entry))) 0 (slots * ports) ⌝ }
 {

@@ -1,18 +1,17 @@
 -- The faults of Inspect.
 use Prim.Native.Nat.{ℕ}
 use mathlib.Core.List.{List, [], _∷_}
-use Rattle.calls.specs.Refusals.{Check, report}
-use Rattle.calls.specs.Inspect.{wrongEntry, outputTwice, flowCount, unbalancedBlock}
+use mathlib.Core.Bool.{Bool, not}
+use lib.Dec.{eqb}
+use Rattle.rules.specs.Flows.{Side, flow, load}
+use Rattle.calls.specs.Refusals.{report}
+use Rattle.calls.specs.Inspect.{faultChecks}
+use Rattle.tally.specs.Tally.{flowCells}
 
--- The faults of Inspect, in their order.
-abbrev pub faultChecks : ℕ → ℕ → List ℕ → List ℕ → List Check
-faultChecks ports slots list entries =
-    wrongEntry ports slots list entries
-    ∷ outputTwice ports slots list entries
-    ∷ flowCount ports list entries
-    ∷ unbalancedBlock ports slots list entries
-    ∷ []
+-- A flow is in the wrong number of slots. Its entries count for it wherever they stand, so that its cells are the same on either side.
+unfoldable pub wrongFlow : List ℕ → List ℕ → ℕ → Bool
+wrongFlow list entries f = not (eqb (flowCells list (flow f) entries) (load (flow f) list))
 
--- The first of them, or clean.
-abbrev pub faults : ℕ → ℕ → List ℕ → List ℕ → List ℕ
-faults ports slots list entries = report (faultChecks ports slots list entries) (0 ∷ [])
+-- The first fault, or clean.
+abbrev pub faults : Side → ℕ → ℕ → List ℕ → List ℕ → List ℕ
+faults side ports slots list entries = report (faultChecks side ports slots list entries) (0 ∷ [])

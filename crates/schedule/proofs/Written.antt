@@ -1,14 +1,12 @@
--- One more entry cleared, one more cell written, one more word of them, and the slot that comes of it.
+-- One more cell written, one more word of them, and the slot that comes of it.
 use Prim.Native.Nat.{ℕ, suc, _+_, _*_, _^_, _≤_, _<_}
 use mathlib.Core.Path.{_≡_, refl, sym, ap, _∙_}
 use mathlib.Core.Logic.{_≢_}
-use mathlib.Core.List.{List, [], _∷_, _++_, append-nil}
+use mathlib.Core.List.{List, [], _∷_, _++_}
 use native.Mathlib.Omega.{arith}
 use native.Mathlib.Numerals.{add-one}
 use lib.Count.{trailingZeros}
-use lib.ListN.{length, getD, set, drop, replicate, length-set, length-replicate}
-use lib.Seq.{drop-length}
-use borrow.Author.Fill.{fill-more}
+use lib.ListN.{length, getD, set, replicate, length-set, length-replicate}
 use Rattle.rules.specs.Words.{upFrom, keep, Every}
 use Rattle.rules.specs.Flows.{inputs}
 use Rattle.rules.specs.Rules.{odd}
@@ -21,25 +19,6 @@ use Rattle.planes.proofs.Placed.{word-below, words-odds, odds-past}
 use Rattle.planes.proofs.Counts.{counts-length, odds-are}
 use Rattle.planes.specs.Tables.{tabled}
 use Rattle.schedule.specs.Steps.{InputsBelow, AtSlot, PutBy}
-
--- ---- clear
-pub record Cleared (s₀ : List ℕ) (i : ℕ) (s : List ℕ) : Type 0 where
-  pub most : i ≤ length s₀
-  pub len : length s ≡ length s₀
-  pub same : s ≡ replicate i 0 ++ drop i s₀
-
-pub cleared-start : (s : List ℕ) → Cleared s 0 s
-cleared-start s = record { most = omega arith; len = refl; same = refl }
-
-pub cleared-on : {s₀ s : List ℕ} {i : ℕ} → Cleared s₀ i s → i < length s → Cleared s₀ (i + 1) (set s i 0)
-cleared-on {s₀} {s} {i} b h =
-    let l = b .len in
-    record { most = omega arith; len = length-set s i 0 ∙ l; same = ap (λ (t : List ℕ). set t i 0) (b .same) ∙ fill-more i 0 s₀ (omega arith) }
-
-pub cleared-end : {s₀ s : List ℕ} {i : ℕ} → Cleared s₀ i s → length s ≤ i → s ≡ replicate (length s₀) 0
-cleared-end {s₀} {s} {i} b h =
-    let e : i ≡ length s₀ = omega (arith, b .most, b .len) in
-    b .same ∙ rw (e, drop-length s₀) (append-nil (replicate (length s₀) 0))
 
 -- ---- cells
 put-append : (ends l k s : List ℕ) → put (tabled ends) (l ++ k) s ≡ put (tabled ends) k (put (tabled ends) l s)

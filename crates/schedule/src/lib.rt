@@ -93,7 +93,7 @@ pub fn fill(ports: usize, slots: usize, list: &[u16], frame: &mut [u16]) -> usiz
     let multi_link = positions::tabulate(list, &mut ends);
     let mut odds = [0u16; POSITIONS];
     let mut mates = [0u16; ENDS];
-    slots::clear(frame);
+    entries::clear(frame);
     block(
         &planes,
         m,

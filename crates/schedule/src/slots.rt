@@ -13,17 +13,6 @@ ghost use Rattle.planes.specs.Planes.{countsIn, Ends};
 ghost use Rattle.planes.specs.Tables.{tabled};
 ghost use Rattle.schedule.specs.Steps.{InputsBelow, AtSlot, PutBy};
 
-// Every entry is idle until a cell is written.
-pub(crate) fn clear(frame: &mut [u16])
-    ensures { λ _. ⌜ now (frame .exit) ≡ replicate (length (now (frame .entry))) 0 ⌝ }
-{
-    let mut i: usize = 0;
-    while i < frame.len() {
-        frame[i] = 0;
-        i += 1;
-    }
-}
-
 // The entry at an input is the number of its flow, from 1.
 fn put_cells(x: u64, base: usize, ends: &[u8; ENDS], slot: &mut [u16])
     requires { ⌜ (base ≤ 512) × AtSlot (now ends) (length (now slot)) (places base 64 x) ⌝ }

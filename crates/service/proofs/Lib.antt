@@ -1,6 +1,6 @@
 -- What the functions of Service count rest on.
 pub mod Checks
-pub mod Whom
+pub mod Ways
 pub mod Counting
 pub mod Turns
 pub mod Signed

@@ -6,14 +6,14 @@ use native.Mathlib.Omega.{arith}
 use native.Mathlib.Nat.{mul-le-mul, mul-le-mul-right}
 use lib.IntN.{pos, _-ℤ_}
 use lib.ListN.{length, take, drop, length-take, length-drop}
-use Rattle.rules.specs.Flows.{Class}
-use Rattle.rules.specs.Frames.{cells, runOf, repeated}
-use Rattle.calls.specs.Service.{classOf, lead}
+use Rattle.rules.specs.Flows.{Side, Class}
+use Rattle.rules.specs.Frames.{cellsOn, runOf, repeated}
+use Rattle.calls.specs.Service.{classOf, leadOn}
 use Rattle.calls.specs.declared.Who.{Who}
 use Rattle.rules.proofs.Runs.{cells-most, repeated-most, cells-turns}
 use Rattle.checks.specs.Fits.{FrameFits}
 use Rattle.checks.proofs.Fits.{entries-most}
-use Rattle.service.specs.Whom.{CountAsked}
+use Rattle.service.specs.Asked.{CountAsked}
 
 -- the entries of a run inside a frame
 pub part-run : (ports start len : ℕ) (entries : List ℕ) → take (start * ports + len * ports - start * ports) (drop (start * ports) entries) ≡ runOf ports start len entries
@@ -29,31 +29,31 @@ module _ {ports slots : ℕ} {entries : List ℕ} (f : FrameFits ports slots ent
   pub run-inside : (start len : ℕ) → start + len ≤ slots → start * ports + len * ports ≤ length entries
   run-inside start len h = omega (arith, f .size, mul-le-mul-right ports h)
 
-module _ {ports slots : ℕ} {list entries : List ℕ} {who : Who} {start len : ℕ} (a : CountAsked ports slots list entries who start len) where
+module _ (side : Side) {ports slots : ℕ} {list entries : List ℕ} {who : Who} {start len : ℕ} (a : CountAsked ports slots list entries who start len) where
   -- what the whole frame holds, and a run of at most 1,000,000 slots
-  pub whole-fits : {n : ℕ} → n ≡ cells (classOf who) ports list entries → n ≤ 16384
-  whole-fits e = omega (arith, e, cells-most (classOf who) ports list entries, entries-most (a .framed))
+  pub whole-fits : {n : ℕ} → n ≡ cellsOn side ports list (classOf who) entries → n ≤ 16384
+  whole-fits e = omega (arith, e, cells-most side (classOf who) ports list entries, entries-most (a .framed))
 
-  pub run-fits : {n : ℕ} → n ≡ cells (classOf who) ports list (repeated ports slots entries start len) → n ≤ 16000000
+  pub run-fits : {n : ℕ} → n ≡ cellsOn side ports list (classOf who) (repeated ports slots entries start len) → n ≤ 16000000
   run-fits e =
-      omega (arith, e, repeated-most (classOf who) ports slots list entries start len, mul-le-mul (a .length-is) (a .framed .most))
+      omega (arith, e, repeated-most side (classOf who) ports slots list entries start len, mul-le-mul (a .length-is) (a .framed .most))
 
   -- whole turns, the part before the frame's end, and the part after it
   pub parts-run : (head tail : ℕ) {whole before after : ℕ} → head ≡ min (len % slots) (slots - start) → head + tail ≡ len % slots
-      → whole ≡ cells (classOf who) ports list entries → before ≡ cells (classOf who) ports list (runOf ports start head entries)
-      → after ≡ cells (classOf who) ports list (runOf ports 0 tail entries)
-      → len / slots * whole + (before + after) ≡ cells (classOf who) ports list (repeated ports slots entries start len)
+      → whole ≡ cellsOn side ports list (classOf who) entries → before ≡ cellsOn side ports list (classOf who) (runOf ports start head entries)
+      → after ≡ cellsOn side ports list (classOf who) (runOf ports 0 tail entries)
+      → len / slots * whole + (before + after) ≡ cellsOn side ports list (classOf who) (repeated ports slots entries start len)
   parts-run head tail h e w b t =
       omega (
         arith,
         b,
         t,
         ap (λ z. len / slots * z) w,
-        cells-turns ports slots list entries (a .framed .size) (classOf who) start len (len / slots) head tail (a .start-is) refl h e,
+        cells-turns side ports slots list entries (a .framed .size) (classOf who) start len (len / slots) head tail (a .start-is) refl h e,
       )
 
 -- the lead, by what was counted
-pub lead-counted : (c : Class) (ports slots : ℕ) (list entries : List ℕ) (start len : ℕ) {had whole : ℕ} → had ≡ cells c ports list (repeated ports slots entries start len)
-    → whole ≡ cells c ports list entries → pos (slots * had) -ℤ pos (len * whole) ≡ lead c ports slots list entries start len
-unfolding lead
-lead-counted c ports slots list entries start len h w = rw (h, w)
+pub lead-counted : (side : Side) (c : Class) (ports slots : ℕ) (list entries : List ℕ) (start len : ℕ) {had whole : ℕ} → had ≡ cellsOn side ports list c (repeated ports slots entries start len)
+    → whole ≡ cellsOn side ports list c entries → pos (slots * had) -ℤ pos (len * whole) ≡ leadOn side c ports slots list entries start len
+unfolding leadOn
+lead-counted side c ports slots list entries start len h w = rw (h, w)

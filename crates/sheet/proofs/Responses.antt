@@ -30,7 +30,8 @@ use Rattle.calls.proofs.Demand2.{clear-well, past-frame}
 use Rattle.sheets.proofs.Lengths.{response-most}
 use Rattle.reading.proofs.Reading.{the-type}
 use Rattle.reading.specs.Reading.{LoadsRead, SheetOf}
-use Rattle.printing.specs.Printing.{Printed, Sized, frameBytes}
+use Rattle.lines.specs.Lines.{Printed}
+use Rattle.printing.specs.Printing.{Sized, frameBytes}
 use Rattle.printing.proofs.Prints.{frame-bytes}
 use Rattle.sheet.specs.Response.{ReadLines, bytesOf, Lies, Printable, Answered, Whole}
 use Rattle.reading.specs.declared.Reading.{Reading}

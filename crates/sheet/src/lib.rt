@@ -4,14 +4,14 @@ ghost use Prim.Native.Nat.{_*_};
 ghost use lib.ListN.{length, take};
 ghost use Rattle.rules.specs.Flows.{stride};
 ghost use Rattle.sheets.specs.Sheet.{loads, overloaded, readSheet, response};
-ghost use Rattle.printing.specs.Printing.{Printed};
+ghost use Rattle.lines.specs.Lines.{Printed};
 ghost use Rattle.sheet.specs.Response.{ReadLines, bytesOf, Printable, Answered, Whole};
 use calls::Built;
 use calls::Refusal;
 use flows::LIST_MOST;
 use flows::STRIDE;
+use lines::put_refusal;
 use printing::put_frame;
-use printing::put_refusal;
 use reading::Reading;
 use reading::read_lines;
 

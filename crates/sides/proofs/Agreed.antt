@@ -23,9 +23,9 @@ use Rattle.calls.proofs.Blocks.{block-same}
 use Rattle.calls.proofs.Clean.{past-two}
 use Rattle.calls.proofs.Answers.{exactly}
 use Rattle.calls.proofs.Answered.{frame-reported, frame-low, byFrame}
-use Rattle.sides.specs.Turn.{bySide, bad-second, turnChecks, turnAccepts, turnAnswer, secondAfter}
+use Rattle.sides.specs.Turn.{bySide, Turnable, bad-second, turnChecks, turnAccepts, turnAnswer, secondAfter}
 use Rattle.sides.specs.Agreement.{TurnedTwice, InspectAgrees, CountAgrees, Turns, refused, second-15, entry-14, twice-14, accepted as turned-0, TurnByCases}
-use Rattle.sides.proofs.Turned.{Turnable, by-size, turned-turnable, turned-back, run-cells, repeated-cells, frame-cells, turned-by, only-turned}
+use Rattle.sides.proofs.Turned.{by-size, turned-turnable, turned-back, run-cells, repeated-cells, frame-cells, turned-by, only-turned}
 
 -- 15: the two buffers have one length
 second-tells : (entries second : List ℕ) → Tells (bad-second entries second) (length second ≡ length entries)

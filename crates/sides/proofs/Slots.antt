@@ -52,10 +52,14 @@ module _ {side to : Side} {ports : ℕ} {list slot : List ℕ} (g : Sound side t
   abbrev goes : ℕ → ℕ → Bool
   goes x i = isFlowOf (portOn to x) list (getD slot i 0)
 
-  one-goes : (x i j : ℕ) → x < ports → i < ports → j < ports → goes x i ≡ true → goes x j ≡ true → i ≡ j
+  pub one-goes : (x i j : ℕ) → x < ports → i < ports → j < ports → goes x i ≡ true → goes x j ≡ true → i ≡ j
   one-goes x i j h a b d e =
       byEq i j (λ z. z)
       (λ n. absurd (omega (arith, sum-has-two ports i j (λ i. bit (goes x i)) a b n, g .once x h, ap bit d, ap bit e)))
+
+  -- an entry is 0 or the number of a flow
+  pub at-most : (i : ℕ) → i < ports → getD slot i 0 ≤ flows list
+  at-most i h = by-entry side list i (at i) (g .each i h) (λ z. omega arith) (λ f l z p. omega arith)
 
   -- the entry of a port is the one that goes to it
   pub entry-there : (x i : ℕ) → x < ports → i < ports → goes x i ≡ true → entryOf to ports list slot x ≡ getD slot i 0

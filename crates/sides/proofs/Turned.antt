@@ -16,11 +16,9 @@ use Rattle.rules.proofs.Sums.{sum-ext}
 use Rattle.rules.proofs.Cells.{cells-slot, run-length, run-all}
 use Rattle.rules.proofs.Runs.{cells-slots, cells-repeated}
 use Rattle.rules.proofs.Flows.{map-length, map-at, other-side, other-twice, by-entry, right-counts}
-use Rattle.calls.specs.Demand2.{WellFormed}
-use Rattle.calls.specs.Answers.{Throughout, EntryRight, PortOnce}
 use Rattle.calls.proofs.Demand2.{ported-on}
 use Rattle.calls.proofs.Faults.{place-of}
-use Rattle.sides.specs.Turn.{BySide, entryOf, bySide}
+use Rattle.sides.specs.Turn.{BySide, entryOf, bySide, Turnable}
 use Rattle.sides.proofs.Slots.{Sound, by-port, entry-flow, sound-other, sums-same, entry-back, flow-of}
 
 -- ---- entries of a slot
@@ -56,13 +54,6 @@ places-same ports slots v w a b h =
     (λ q l. let d = place-of slots ports q (omega arith) in subst (λ (z : ℕ). getD v z 0 ≡ getD w z 0) (sym (d .2)) (h (q / ports) (q % ports) (d .0) (d .1)))
 
 -- ---- what Turn accepts
--- A frame of a well-formed list in which no entry is wrong and no slot uses a port of the other side twice.
-pub record Turnable (side : Side) (ports slots : ℕ) (list entries : List ℕ) : Type 0 where
-  pub well : WellFormed ports slots list
-  pub size : length entries ≡ slots * ports
-  pub each-right : Throughout slots ports (EntryRight side ports list entries)
-  pub each-once : Throughout slots ports (PortOnce side ports list entries)
-
 -- the cells of a port of the other side in a slot are the flows of it
 other-cells : (side to : Side) (ports : ℕ) (list slot : List ℕ) → same side to ≡ false → length slot ≡ ports → (x : ℕ)
     → cellsOn side ports list (portOn to x) slot ≡ sumTo ports (λ i. bit (isFlowOf (portOn to x) list (getD slot i 0)))
@@ -75,7 +66,7 @@ module _ {side : Side} {ports slots : ℕ} {list entries : List ℕ} (t : Turnab
   abbrev new : List ℕ
   new = bySide to ports list entries
 
-  slot-sound : (s : ℕ) → s < slots → Sound side to ports list (runOf ports s 1 entries)
+  pub slot-sound : (s : ℕ) → s < slots → Sound side to ports list (runOf ports s 1 entries)
   slot-sound s h =
       let size = slot-size ports slots entries (t .size) s h in
       record {
@@ -85,7 +76,7 @@ module _ {side : Side} {ports slots : ℕ} {list entries : List ℕ} (t : Turnab
         once = λ x l. omega (arith, t .each-once s x h l, other-cells side to ports list (runOf ports s 1 entries) (other-side side) size x);
       }
 
-  new-size : length new ≡ slots * ports
+  pub new-size : length new ≡ slots * ports
   new-size = by-size to ports slots list entries (t .size) ∙ t .size
 
   new-slot : (s : ℕ) → s < slots → Sound to side ports list (runOf ports s 1 new)
@@ -185,3 +176,39 @@ module _ {side : Side} {ports slots : ℕ} {list entries : List ℕ} (t : Turnab
       goes-there s i f h a z p =
           let e = slot-at ports slots entries (t .size) s h i a ∙ z in
           in-list s i f h a z (λ k. rw (e, sym p) (flow-of list to f k))
+
+-- ---- frames of one slot
+-- a slot of the frame is one by itself
+pub slot-turnable : {side : Side} {ports slots : ℕ} {list entries : List ℕ} → Turnable side ports slots list entries → (s : ℕ) → s < slots
+    → Turnable side ports 1 list (runOf ports s 1 entries)
+slot-turnable {side} {ports} {slots} {list} {entries} t s h =
+    let v = runOf ports s 1 entries in
+    let size : length v ≡ 1 * ports = slot-size ports slots entries (t .size) s h ∙ omega arith in
+    let whole = run-all ports 1 v size in
+    record {
+      well = record {
+        rack = t .well .rack;
+        power = record { k = 0; most = omega arith; is = refl };
+        whole = t .well .whole;
+        few = t .well .few;
+        ported = t .well .ported;
+        linked = t .well .linked;
+      };
+      size = size;
+      each-right = λ r i a l. let z : r ≡ 0 = omega arith in let d : 0 * ports + i ≡ i = omega arith in rw (z, d) (slot-sound t s h .each i l);
+      each-once = λ r x a l. let z : r ≡ 0 = omega arith in rw (z, whole) (t .each-once s x h l);
+    }
+
+pub one-sound : {side : Side} {ports : ℕ} {list slot : List ℕ} → Turnable side ports 1 list slot → Sound side (other side) ports list slot
+one-sound {side} {ports} {list} {slot} t = rw (run-all ports 1 slot (t .size)) at (slot-sound t 0 (omega arith))
+
+-- a slot of the frame by the other side is that slot by the other side
+pub slot-turned : {side : Side} {ports slots : ℕ} {list entries : List ℕ} → Turnable side ports slots list entries → (s : ℕ) → s < slots
+    → (x : ℕ) → x < ports → getD (bySide (other side) ports list (runOf ports s 1 entries)) x 0 ≡ getD (bySide (other side) ports list entries) (s * ports + x) 0
+slot-turned {side} {ports} {slots} {list} {entries} t s h x l =
+    let v = runOf ports s 1 entries in
+    let size = slot-turnable t s h .size in
+    let d : 0 * ports + x ≡ x = omega arith in
+    rw d at (by-at (other side) ports 1 list v size 0 x (omega arith) l)
+    ∙ ap (λ z. entryOf (other side) ports list z x) (run-all ports 1 v size)
+    ∙ sym (by-at (other side) ports slots list entries (t .size) s x h l)

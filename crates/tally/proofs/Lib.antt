@@ -1,2 +1,3 @@
 -- What the functions of a tally rest on.
+pub mod ByFlow
 pub mod Tallies

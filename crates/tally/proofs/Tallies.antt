@@ -1,11 +1,11 @@
 -- Tallies: one entry more, one slot more, a run.
-use Prim.Native.Nat.{ℕ, suc, _+_, _-_, _*_, _%_, _≤_, _<_}
+use Prim.Native.Nat.{ℕ, suc, _+_, _-_, _*_, _≤_, _<_}
 use mathlib.Core.Path.{_≡_, refl, sym, ap, _∙_, subst}
 use mathlib.Core.List.{List}
 use mathlib.Core.Logic.{_≢_}
 use mathlib.Core.Bool.{false, true≢false}
 use native.Mathlib.Omega.{arith}
-use native.Mathlib.Nat.{mul-le-mul-right, mul-add-mod-self-right, mod-eq-of-lt}
+use native.Mathlib.Nat.{mul-le-mul-right}
 use native.Mathlib.Numerals.{add-one}
 use mir.Syntax.{w16, w64}
 use mir.Val.{Fits}
@@ -15,16 +15,17 @@ use lib.Seq.{getD-set-same, getD-set-other, getD-take, getD-drop, set-out, ext-g
 use borrow.Author.Tests.{eq-eqb, ne-eqb, lt-ltb, le-ltb}
 use Rattle.rules.specs.Words.{bit, within, sumTo, Within}
 use Rattle.rules.specs.Flows.{flows, numberOf, inputs, links, outputOf, portOf, Class, flow, portOn, input, output, link, total}
-use Rattle.rules.specs.Frames.{counts, cells, runOf}
+use Rattle.rules.specs.Frames.{isFlowOf, runOf}
 use Rattle.rules.proofs.Cases.{byBool, byEq, byLt, within-yes, within-above, within-true, is-yes, is-no}
 use Rattle.rules.proofs.Sums.{sum-none, sum-more, sum-most, sum-zero}
 use Rattle.rules.proofs.Lists.{zero-at}
-use Rattle.rules.proofs.Flows.{map-length, map-at, output-low, by-entry, idle-counts, own-counts, flow-counts}
+use Rattle.rules.proofs.Flows.{map-length, map-at, output-low, is-flow}
 use Rattle.calls.proofs.Inspected.{InList}
-use Rattle.rules.proofs.Cells.{cells-slot, cells-none, cells-run, run-none, run-length}
-use Rattle.checks.specs.Fits.{ListFits}
-use Rattle.checks.proofs.Fits.{fits-sixteen, link-below, entries-most}
-use Rattle.tally.specs.Tally.{place, Vacant, RightFrame, RightAt, Room, Adds, ofEntry, partly, cellsOf, ofSlot, numberAt, tallyOf}
+use Rattle.rules.proofs.Cells.{run-none, run-length}
+use Rattle.checks.specs.Fits.{ListFits, FlowFrame}
+use Rattle.checks.proofs.Fits.{fits-sixteen, input-below, link-below, entries-most}
+use Rattle.tally.specs.Tally.{place, Vacant, flowCells, FlowEntry, Room, Adds, ofEntry, partly, cellsOf, ofSlot, numberAt, tallyOf}
+use Rattle.tally.proofs.ByFlow.{flow-none, flow-run}
 
 -- ---- one more at a place
 abbrev pub raised : List ℕ → ℕ → List ℕ
@@ -37,53 +38,58 @@ raised-at l x y h =
     (λ n. getD-set-other l x y (getD l x 0 + 1) 0 n ∙ (let z = is-no y x n in omega arith))
 
 -- ---- an entry
-idle : (c : Class) (list : List ℕ) (i : ℕ) → ofEntry list i 0 c ≡ 0
+idle : (c : Class) (list : List ℕ) → ofEntry list 0 c ≡ 0
 unfolding ofEntry
-idle (flow f) list i = idle-counts list (flow f) i
-idle (portOn input j) list i = idle-counts list (portOn input j) i
-idle (portOn output o) list i = idle-counts list (portOn output o) i
-idle (link x) list i = idle-counts list (link x) i
-idle total list i = refl
+idle (flow f) list = refl
+idle (portOn s x) list = refl
+idle (link x) list = refl
+idle total list = refl
 
-pub adds-idle : (ports i e : ℕ) (list old : List ℕ) → Room 65531 old → e ≡ 0 → Adds ports list 1 (ofEntry list i e) old old
-adds-idle ports i e list old l z =
+pub adds-idle : (ports e : ℕ) (list old : List ℕ) → Room 65531 old → e ≡ 0 → Adds ports list 1 (ofEntry list e) old old
+adds-idle ports e list old l z =
     record {
       size = l .size;
-      each = λ c of. rw z (let y = idle c list i in omega arith);
+      each = λ c of. rw z (let y = idle c list in omega arith);
       none = λ x v. refl;
       bound = λ x. omega arith;
     }
 
-pub no-cell : (list : List ℕ) (i e : ℕ) → e ≡ 0 → 0 ≡ bit (counts total list i e)
-no-cell list i e z = rw z
+pub no-cell : (list : List ℕ) (e : ℕ) → e ≡ 0 → 0 ≡ bit (isFlowOf total list e)
+no-cell list e z = rw z
 
--- a right entry that is not 0 is a flow of its input
-module _ {ports i e : ℕ} {list : List ℕ} (r : RightAt ports list i e) (n : e ≡ 0 → ⊥) where
-  own : (e - 1 < flows list) × (portOf list inputs (e - 1) ≡ i)
-  own =
-      by-entry list i e (r .is) (λ z. absurd (n z))
-      (λ f h z p. let d : e - 1 ≡ f = omega arith in rw d (h, p))
-
+-- an entry that is not 0 is a flow, with an input and a link
+module _ {ports e : ℕ} {list : List ℕ} (r : FlowEntry ports list e) (n : e ≡ 0 → ⊥) where
   pub flow-low : e - 1 < flows list
-  flow-low = own .0
+  flow-low = omega (arith, r .low)
 
-  pub one-cell : 1 ≡ bit (counts total list i e)
-  one-cell = let d : e ≡ suc (e - 1) = omega arith in sym (ap (λ z. bit (counts total list i z)) d ∙ own-counts list total i (e - 1) (own .0) (own .1))
+  pub one-cell : 1 ≡ bit (isFlowOf total list e)
+  one-cell = let d : e ≡ suc (e - 1) = omega arith in sym (ap (λ z. bit (isFlowOf total list z)) d ∙ ap bit (is-flow list total (e - 1) flow-low))
 
   pub output-number : Within 1 16 (numberOf 1 list (e - 1))
-  output-number = fits-sixteen (r .listed) .ported links (e - 1) (own .0)
+  output-number = fits-sixteen (r .listed) .ported links (e - 1) flow-low
 
   pub link-number : Within 1 4 (numberOf 3 list (e - 1))
-  link-number = r .listed .linked (e - 1) (own .0)
+  link-number = r .listed .linked (e - 1) flow-low
 
   pub flow-place : e - 1 < 609
-  flow-place = omega (arith, own .0, r .listed .few)
+  flow-place = omega (arith, flow-low, r .listed .few)
 
   link-low : portOf list links (e - 1) < ports * 4
-  link-low = link-below (r .listed) (e - 1) (own .0)
+  link-low = link-below (r .listed) (e - 1) flow-low
 
-pub input-place : {ports i e : ℕ} {list : List ℕ} → RightAt ports list i e → 512 + i < 609
-input-place r = omega (arith, r .at, r .listed .most)
+  module _ (i : ℕ) (is : i ≡ numberOf 0 list (e - 1)) where
+    pub input-least : 1 ≤ i
+    input-least = omega (arith, r .listed .ported inputs (e - 1) flow-low .0)
+
+    input-is : portOf list inputs (e - 1) ≡ i - 1
+    unfolding portOf
+    input-is = ap (λ z. z - 1) (sym is)
+
+    input-low : i - 1 < ports
+    input-low = omega (arith, input-is, input-below (r .listed) (e - 1) flow-low)
+
+    pub input-place : 512 + (i - 1) < 609
+    input-place = omega (arith, input-low, r .listed .most)
 
 module _ (ports i f x : ℕ) (list : List ℕ) (sw : ListFits ports list) (hi : i < ports) (hf : f < flows list) (pi : portOf list inputs f ≡ i)
     (px : portOf list links f ≡ x) (hx : x < ports * 4) where
@@ -91,26 +97,27 @@ module _ (ports i f x : ℕ) (list : List ℕ) (sw : ListFits ports list) (hi : 
   abbrev added : ℕ → ℕ
   added y = bit (eqb y f) + bit (eqb y (512 + i)) + bit (eqb y (528 + outputOf x)) + bit (eqb y (544 + x))
 
-  adds-at : (c : Class) → InList ports list c → added (place c) ≡ ofEntry list i (suc f) c
+  adds-at : (c : Class) → InList ports list c → added (place c) ≡ ofEntry list (suc f) c
   unfolding ofEntry
   adds-at (flow g) of =
       let w = sw .few in
       let a = is-no g (512 + i) (omega arith) in
       let b = is-no g (528 + outputOf x) (omega arith) in
       let d = is-no g (544 + x) (omega arith) in
-      let k = flow-counts list g i (suc f) of in
+      let k = ap bit (is-flow list (flow g) f hf) in
       byEq g f
-      (λ e. omega (arith, k, is-yes g f e, is-yes (suc f) (suc g) (omega arith)))
-      (λ n. omega (arith, k, is-no g f n, is-no (suc f) (suc g) (λ z. n (omega arith))))
+      (λ e. omega (arith, k, is-yes g f e, is-yes f g (sym e)))
+      (λ n. omega (arith, k, is-no g f n, is-no f g (λ z. n (sym z))))
   adds-at (portOn input j) of =
       let w = sw .few in
       let h = sw .most in
       let a = is-no (512 + j) f (omega arith) in
       let b = is-no (512 + j) (528 + outputOf x) (omega arith) in
       let d = is-no (512 + j) (544 + x) (omega arith) in
+      let k = ap bit (is-flow list (portOn input j) f hf ∙ ap (λ z. eqb z j) pi) in
       byEq i j
-      (λ e. rw (eq-eqb i j e, ne-eqb (suc f) 0 (omega arith)) (let z = is-yes (512 + j) (512 + i) (omega arith) in omega arith))
-      (λ n. rw (ne-eqb i j n) (let z = is-no (512 + j) (512 + i) (λ k. n (omega arith)) in omega arith))
+      (λ e. omega (arith, k, is-yes i j e, is-yes (512 + j) (512 + i) (omega arith)))
+      (λ n. omega (arith, k, is-no i j n, is-no (512 + j) (512 + i) (λ z. n (omega arith))))
   adds-at (portOn output u) of =
       let w = sw .few in
       let h = sw .most in
@@ -118,7 +125,7 @@ module _ (ports i f x : ℕ) (list : List ℕ) (sw : ListFits ports list) (hi : 
       let a = is-no (528 + u) f (omega arith) in
       let b = is-no (528 + u) (512 + i) (omega arith) in
       let d = is-no (528 + u) (544 + x) (omega arith) in
-      let k = own-counts list (portOn output u) i f hf pi ∙ ap (λ z. bit (eqb (outputOf z) u)) px in
+      let k = ap bit (is-flow list (portOn output u) f hf ∙ ap (λ z. eqb (outputOf z) u) px) in
       byEq o u
       (λ e. omega (arith, k, is-yes o u e, is-yes (528 + u) (528 + o) (omega arith)))
       (λ n. omega (arith, k, is-no o u n, is-no (528 + u) (528 + o) (λ z. n (omega arith))))
@@ -128,7 +135,7 @@ module _ (ports i f x : ℕ) (list : List ℕ) (sw : ListFits ports list) (hi : 
       let a = is-no (544 + y) f (omega arith) in
       let b = is-no (544 + y) (512 + i) (omega arith) in
       let d = is-no (544 + y) (528 + outputOf x) (omega arith) in
-      let k = own-counts list (link y) i f hf pi ∙ ap (λ z. bit (eqb z y)) px in
+      let k = ap bit (is-flow list (link y) f hf ∙ ap (λ z. eqb z y) px) in
       byEq x y
       (λ e. omega (arith, k, is-yes x y e, is-yes (544 + y) (544 + x) (omega arith)))
       (λ n. omega (arith, k, is-no x y n, is-no (544 + y) (544 + x) (λ z. n (omega arith))))
@@ -188,7 +195,7 @@ module _ (ports i f x : ℕ) (list : List ℕ) (sw : ListFits ports list) (hi : 
         let d = is-no y (544 + x) (v (link x) hx) in
         omega (arith, counted-at y)
 
-    pub adds-all : Adds ports list 1 (ofEntry list i (suc f)) old counted
+    pub adds-all : Adds ports list 1 (ofEntry list (suc f)) old counted
     adds-all =
         record {
           size = counted-length;
@@ -197,21 +204,21 @@ module _ (ports i f x : ℕ) (list : List ℕ) (sw : ListFits ports list) (hi : 
           bound = λ y. omega (arith, counted-at y, adds-most y);
         }
 
-pub adds-cell : {ports i e x : ℕ} {list old t1 t2 t3 t4 : List ℕ} → RightAt ports list i e → Room 65531 old → (e ≡ 0 → ⊥)
+pub adds-cell : {ports e i x : ℕ} {list old t1 t2 t3 t4 : List ℕ} → FlowEntry ports list e → Room 65531 old → (e ≡ 0 → ⊥)
+    → i ≡ numberOf 0 list (e - 1)
     → x ≡ portOf list links (e - 1)
     → t1 ≡ set old (e - 1) (getD old (e - 1) 0 + 1)
-    → t2 ≡ set t1 (512 + i) (getD t1 (512 + i) 0 + 1)
+    → t2 ≡ set t1 (512 + (i - 1)) (getD t1 (512 + (i - 1)) 0 + 1)
     → t3 ≡ set t2 (528 + outputOf x) (getD t2 (528 + outputOf x) 0 + 1)
     → t4 ≡ set t3 (544 + x) (getD t3 (544 + x) 0 + 1)
-    → Adds ports list 1 (ofEntry list i e) old t4
-adds-cell {ports} {i} {e} {x} {list} {old} {t1} {t2} {t3} {t4} r room n d e1 e2 e3 e4 =
+    → Adds ports list 1 (ofEntry list e) old t4
+adds-cell {ports} {e} {i} {x} {list} {old} {t1} {t2} {t3} {t4} r room n is d e1 e2 e3 e4 =
     let f = e - 1 in
     let k : e ≡ suc f = omega arith in
-    let w = own r n in
     let low : x < ports * 4 = omega (arith, link-low r n) in
-    let new = counted ports i f x list (r .listed) (r .at) (w .0) (w .1) (sym d) low old (room .size) in
-    rw (e4, e3, e2, e1) (subst (λ z. Adds ports list 1 (ofEntry list i z) old new) (sym k)
-    (adds-all ports i f x list (r .listed) (r .at) (w .0) (w .1) (sym d) low old (room .size)))
+    let new = counted ports (i - 1) f x list (r .listed) (input-low r n i is) (flow-low r n) (input-is r n i is) (sym d) low old (room .size) in
+    rw (e4, e3, e2, e1) (subst (λ z. Adds ports list 1 (ofEntry list z) old new) (sym k)
+    (adds-all ports (i - 1) f x list (r .listed) (input-low r n i is) (flow-low r n) (input-is r n i is) (sym d) low old (room .size)))
 
 -- ---- the room that the code asks for
 room-within : {n : ℕ} {l : List ℕ} → n ≤ 65534 → Room n l → Room 65534 l
@@ -245,17 +252,17 @@ room-three x y z l l′ l″ l‴ g f e r = room-raised 65533 z l″ l‴ g (roo
 pub slot-start : (ports : ℕ) (list slot old : List ℕ) → Room 65000 old → Adds ports list 0 (partly list slot 0) old old
 unfolding partly
 slot-start ports list slot old r =
-    record { size = r .size; each = λ c of. omega (arith, sum-none (λ i. ofEntry list i (getD slot i 0) c)); none = λ x v. refl; bound = λ x. omega arith }
+    record { size = r .size; each = λ c of. omega (arith, sum-none (λ i. ofEntry list (getD slot i 0) c)); none = λ x v. refl; bound = λ x. omega arith }
 
 pub slot-on : (ports i b : ℕ) (list slot old mid new : List ℕ) → Adds ports list i (partly list slot i) old mid → b ≡ getD slot i 0
-    → Adds ports list 1 (ofEntry list i b) mid new → Adds ports list (i + 1) (partly list slot (i + 1)) old new
+    → Adds ports list 1 (ofEntry list b) mid new → Adds ports list (i + 1) (partly list slot (i + 1)) old new
 unfolding partly
 slot-on ports i b list slot old mid new a e n =
     record {
       size = n .size;
       each = λ c of.
-          let f : ℕ → ℕ = λ i. ofEntry list i (getD slot i 0) c in
-          omega (arith, a .each c of, n .each c of, ap (λ z. ofEntry list i z c) e, sum-more i f, ap (λ z. sumTo z f) (add-one i));
+          let f : ℕ → ℕ = λ i. ofEntry list (getD slot i 0) c in
+          omega (arith, a .each c of, n .each c of, ap (λ z. ofEntry list z c) e, sum-more i f, ap (λ z. sumTo z f) (add-one i));
       none = λ x v. n .none x v ∙ a .none x v;
       bound = λ x. omega (arith, a .bound x, n .bound x);
     }
@@ -263,22 +270,22 @@ slot-on ports i b list slot old mid new a e n =
 -- the cells among the entries so far
 pub cells-start : (list slot : List ℕ) → 0 ≡ cellsOf list slot 0
 unfolding cellsOf
-cells-start list slot = sym (sum-none (λ i. bit (counts total list i (getD slot i 0))))
+cells-start list slot = sym (sum-none (λ i. bit (isFlowOf total list (getD slot i 0))))
 
-pub cells-on : (list slot : List ℕ) (i b n r : ℕ) → n ≡ cellsOf list slot i → b ≡ getD slot i 0 → r ≡ bit (counts total list i b) → n + r ≡ cellsOf list slot (i + 1)
+pub cells-on : (list slot : List ℕ) (i b n r : ℕ) → n ≡ cellsOf list slot i → b ≡ getD slot i 0 → r ≡ bit (isFlowOf total list b) → n + r ≡ cellsOf list slot (i + 1)
 unfolding cellsOf
 cells-on list slot i b n r e f g =
-    let c : ℕ → ℕ = λ i. bit (counts total list i (getD slot i 0)) in
-    omega (arith, ap (λ z. bit (counts total list i z)) f, sum-more i c, ap (λ z. sumTo z c) (add-one i))
+    let c : ℕ → ℕ = λ i. bit (isFlowOf total list (getD slot i 0)) in
+    omega (arith, ap (λ z. bit (isFlowOf total list z)) f, sum-more i c, ap (λ z. sumTo z c) (add-one i))
 
 cells-most : (list slot : List ℕ) (n : ℕ) → cellsOf list slot n ≤ n
 unfolding cellsOf
-cells-most list slot n = let s = sum-most n 1 (λ i. bit (counts total list i (getD slot i 0))) (λ i h. byBool (counts total list i (getD slot i 0)) (λ e. rw e (omega arith)) (λ e. rw e (omega arith))) in omega arith
+cells-most list slot n = let s = sum-most n 1 (λ i. bit (isFlowOf total list (getD slot i 0))) (λ i h. byBool (isFlowOf total list (getD slot i 0)) (λ e. rw e (omega arith)) (λ e. rw e (omega arith))) in omega arith
 
-pub cells-fit : (ports i n : ℕ) (list slot : List ℕ) → RightFrame ports 1 list slot → i < length slot → n ≡ cellsOf list slot i → (r : ℕ) → r ≤ 1 → Fits w16 (n + r)
+pub cells-fit : (ports i n : ℕ) (list slot : List ℕ) → FlowFrame ports 1 list slot → i < length slot → n ≡ cellsOf list slot i → (r : ℕ) → r ≤ 1 → Fits w16 (n + r)
 cells-fit ports i n list slot d h e r l = record { fits = (let s = d .framed .size in let w = d .listed .most in omega (arith, cells-most list slot i)) }
 
-module _ (ports i n : ℕ) (list slot old mid : List ℕ) (a : Adds ports list i (partly list slot i) old mid) (r : RightFrame ports 1 list slot) (e : n ≡ cellsOf list slot i) where
+module _ (ports i n : ℕ) (list slot old mid : List ℕ) (a : Adds ports list i (partly list slot i) old mid) (r : FlowFrame ports 1 list slot) (e : n ≡ cellsOf list slot i) where
   total-same : getD mid 608 0 ≡ getD old 608 0
   unfolding partly ofEntry
   total-same = let z = sum-zero i (λ j. 0) (λ j h. refl) in omega (arith, a .each total tt)
@@ -297,14 +304,15 @@ module _ (ports i n : ℕ) (list slot old mid : List ℕ) (a : Adds ports list i
     at-total : getD (set mid 608 (getD mid 608 0 + n)) 608 0 ≡ getD mid 608 0 + n
     at-total = getD-set-same mid 608 (getD mid 608 0 + n) 0 (let s = a .size in omega arith)
 
-    slot-cells : (c : Class) → cells c ports list slot ≡ sumTo ports (λ j. bit (counts c list j (getD slot j 0)))
-    slot-cells c = cells-slot ports list c slot (let s = r .framed .size in s ∙ omega arith)
+    slot-cells : (c : Class) → flowCells list c slot ≡ sumTo ports (λ j. bit (isFlowOf c list (getD slot j 0)))
+    unfolding flowCells
+    slot-cells c = ap (λ z. sumTo z (λ j. bit (isFlowOf c list (getD slot j 0)))) (r .framed .size ∙ omega arith)
 
-    port-each : (c : Class) → InList ports list c → place c ≢ 608 → cells c ports list slot ≡ partly list slot ports c
-        → getD (set mid 608 (getD mid 608 0 + n)) (place c) 0 ≡ getD old (place c) 0 + cells c ports list slot
+    port-each : (c : Class) → InList ports list c → place c ≢ 608 → flowCells list c slot ≡ partly list slot ports c
+        → getD (set mid 608 (getD mid 608 0 + n)) (place c) 0 ≡ getD old (place c) 0 + flowCells list c slot
     port-each c of d k = omega (arith, at-other (place c) d, a .each c of, ap (λ z. partly list slot z c) all)
 
-    slot-each : (c : Class) → InList ports list c → getD (set mid 608 (getD mid 608 0 + n)) (place c) 0 ≡ getD old (place c) 0 + ofSlot ports list slot c
+    slot-each : (c : Class) → InList ports list c → getD (set mid 608 (getD mid 608 0 + n)) (place c) 0 ≡ getD old (place c) 0 + ofSlot list slot c
     unfolding partly ofEntry cellsOf ofSlot
     slot-each (flow f) of = port-each (flow f) of (let h = r .listed .few in omega arith) (slot-cells (flow f))
     slot-each (portOn input j) of = port-each (portOn input j) of (let h = r .listed .most in omega arith) (slot-cells (portOn input j))
@@ -312,7 +320,7 @@ module _ (ports i n : ℕ) (list slot old mid : List ℕ) (a : Adds ports list i
     slot-each (link x) of = port-each (link x) of (let h = r .listed .most in omega arith) (slot-cells (link x))
     slot-each total of = omega (arith, at-total, total-same, ap (cellsOf list slot) all, slot-cells total)
 
-    pub slot-end : Adds ports list ports (ofSlot ports list slot) old (set mid 608 (getD mid 608 0 + n))
+    pub slot-end : Adds ports list ports (ofSlot list slot) old (set mid 608 (getD mid 608 0 + n))
     slot-end =
         record {
           size = length-set mid 608 (getD mid 608 0 + n) ∙ a .size;
@@ -324,16 +332,14 @@ module _ (ports i n : ℕ) (list slot old mid : List ℕ) (a : Adds ports list i
         }
 
 -- the room for one entry more
-pub slot-room : (ports i : ℕ) (list slot old mid : List ℕ) → Adds ports list i (partly list slot i) old mid → Room 65000 old → RightFrame ports 1 list slot → i < length slot → Room 65531 mid
+pub slot-room : (ports i : ℕ) (list slot old mid : List ℕ) → Adds ports list i (partly list slot i) old mid → Room 65000 old → FlowFrame ports 1 list slot → i < length slot → Room 65531 mid
 slot-room ports i list slot old mid a r d h =
     let s = d .framed .size in
     let w = d .listed .most in
     record { size = a .size; each = λ x. omega (arith, a .bound x, r .each x) }
 
-pub entry-right : {ports i e : ℕ} {list slot : List ℕ} → RightFrame ports 1 list slot → i < length slot → e ≡ getD slot i 0 → RightAt ports list i e
-entry-right {ports} {i} {e} {list} {slot} d h z =
-    let l : i < ports = (let s = d .framed .size in omega arith) in
-    record { listed = d .listed; at = l; is = rw z (rw (mod-eq-of-lt l) at (d .each-right i h)) }
+pub entry-flow : {ports i e : ℕ} {list slot : List ℕ} → FlowFrame ports 1 list slot → i < length slot → e ≡ getD slot i 0 → FlowEntry ports list e
+entry-flow {ports} {i} {e} {list} {slot} d h z = record { listed = d .listed; low = omega (arith, d .each-flow i h) }
 
 pub one-fits : (x : ℕ) (tally : List ℕ) → Room 65534 tally → Fits w16 (getD tally x 0 + 1)
 one-fits x tally r = record { fits = omega (arith, r .each x) }
@@ -342,7 +348,7 @@ one-fits x tally r = record { fits = omega (arith, r .each x) }
 -- a tally has the cells of each class, and 0 at the other places
 pub record Tally (ports : ℕ) (list entries tally : List ℕ) : Type 0 where
   pub size : length tally ≡ 609
-  pub each : (c : Class) → InList ports list c → getD tally (place c) 0 ≡ cells c ports list entries
+  pub each : (c : Class) → InList ports list c → getD tally (place c) 0 ≡ flowCells list c entries
   pub none : (x : ℕ) → Vacant ports list x → getD tally x 0 ≡ 0
   pub bound : (x : ℕ) → getD tally x 0 ≤ length entries
 
@@ -351,12 +357,12 @@ tally-start ports start list frame tally e =
     rw (e, run-none ports start frame)
     (record {
       size = length-replicate {A = ℕ} 609 0;
-      each = λ c of. zero-at 609 (place c) ∙ sym (cells-none ports list c);
+      each = λ c of. zero-at 609 (place c) ∙ sym (flow-none list c);
       none = λ x v. zero-at 609 x;
       bound = λ x. omega (arith, zero-at 609 x);
     })
 
-module _ (ports slots start len t : ℕ) (list frame : List ℕ) (r : RightFrame ports slots list frame) (h : start + len ≤ slots) (l : t < len) where
+module _ (ports slots start len t : ℕ) (list frame : List ℕ) (r : FlowFrame ports slots list frame) (h : start + len ≤ slots) (l : t < len) where
   pub part-ends : (start + t) * ports + ports ≤ length frame
   part-ends = let k = mul-le-mul-right {m = start + t + 1} {n = slots} ports (omega arith) in omega (arith, r .framed .size)
 
@@ -380,7 +386,7 @@ module _ (ports slots start len t : ℕ) (list frame : List ℕ) (r : RightFrame
   part-length : length part ≡ ports
   part-length = let a = part-ends in simp (length-take, length-drop) (omega arith)
 
-  pub part-readable : RightFrame ports 1 list part
+  pub part-readable : FlowFrame ports 1 list part
   part-readable =
       record {
         listed = r .listed;
@@ -389,12 +395,11 @@ module _ (ports slots start len t : ℕ) (list frame : List ℕ) (r : RightFrame
           power = record { k = 0; most = omega arith; is = refl };
           size = part-length ∙ omega arith;
         };
-        each-right = λ q k.
+        each-flow = λ q k.
             let lp = part-length in
             let a = part-ends in
-            let at : ((start + t) * ports + q) % ports ≡ q % ports = mul-add-mod-self-right (start + t) ports q in
             rw (getD-take ((start + t) * ports + ports - (start + t) * ports) (drop ((start + t) * ports) frame) q 0 (omega arith), getD-drop ((start + t) * ports) frame q 0)
-            (rw at at (r .each-right ((start + t) * ports + q) (omega arith)));
+            (r .each-flow ((start + t) * ports + q) (omega arith));
       }
 
   run-size : length (runOf ports start t frame) ≡ t * ports
@@ -405,7 +410,7 @@ module _ (ports slots start len t : ℕ) (list frame : List ℕ) (r : RightFrame
       let k = mul-le-mul-right {m = start + t} {n = slots} ports (omega arith) in
       record { size = y .size; each = λ x. omega (arith, y .bound x, run-size, entries-most (r .framed), r .framed .size) }
 
-  pub tally-on : (mid new : List ℕ) → Tally ports list (runOf ports start t frame) mid → Adds ports list ports (ofSlot ports list part) mid new → Tally ports list (runOf ports start (t + 1) frame) new
+  pub tally-on : (mid new : List ℕ) → Tally ports list (runOf ports start t frame) mid → Adds ports list ports (ofSlot list part) mid new → Tally ports list (runOf ports start (t + 1) frame) new
   unfolding ofSlot
   tally-on mid new y a =
       let k = mul-le-mul-right {m = start + t} {n = slots} ports (omega arith) in
@@ -414,7 +419,7 @@ module _ (ports slots start len t : ℕ) (list frame : List ℕ) (r : RightFrame
       record {
         size = a .size;
         each = λ c of.
-            a .each c of ∙ omega (arith, y .each c of, ap (cells c ports list) part-is, cells-run ports list c start t 1 frame (omega (arith, r .framed .size)));
+            a .each c of ∙ omega (arith, y .each c of, ap (flowCells list c) part-is, flow-run list c ports start t 1 frame);
         none = λ x v. a .none x v ∙ y .none x v;
         bound = λ x. omega (arith, a .bound x, y .bound x, run-size);
       }
@@ -430,7 +435,7 @@ tally-at ports list entries x h = map-at (numberAt ports list entries) 0 609 x h
 
 module _ (ports : ℕ) (list entries : List ℕ) where
   -- what the places of the classes and the others have
-  number-class : ListFits ports list → (c : Class) → InList ports list c → numberAt ports list entries (place c) ≡ cells c ports list entries
+  number-class : ListFits ports list → (c : Class) → InList ports list c → numberAt ports list entries (place c) ≡ flowCells list c entries
   unfolding numberAt
   number-class s (flow f) of = rw (lt-ltb f (flows list) of)
   number-class s (portOn input i) of =
@@ -457,7 +462,7 @@ module _ (ports : ℕ) (list entries : List ℕ) where
       )
 
   module _ (tally : List ℕ) (y : Tally ports list entries tally) (x : ℕ) where
-    at-class : (c : Class) → InList ports list c → place c ≡ x → getD tally x 0 ≡ cells c ports list entries
+    at-class : (c : Class) → InList ports list c → place c ≡ x → getD tally x 0 ≡ flowCells list c entries
     at-class c of e = ap (λ z. getD tally z 0) (sym e) ∙ y .each c of
 
     vacant : flows list ≤ x → within 512 (512 + ports - 1) x ≡ false → within 528 (528 + ports - 1) x ≡ false
@@ -501,7 +506,7 @@ tally-size ports list entries tally e = ap length e ∙ tally-length ports list 
 
 -- what a tally has for each class
 pub tally-class : (ports : ℕ) (list entries tally : List ℕ) → ListFits ports list → tally ≡ tallyOf ports list entries → (c : Class) → InList ports list c
-    → getD tally (place c) 0 ≡ cells c ports list entries
+    → getD tally (place c) 0 ≡ flowCells list c entries
 tally-class ports list entries tally s e c of =
     ap (λ z. getD z (place c) 0) e ∙ tally-at ports list entries (place c) (low c of) ∙ number-class ports list entries s c of
   where

@@ -10,7 +10,6 @@ count-entry-spec =
     (λ c. search (needs, idle-counted))
     (λ c. search needs)
     (λ c κs. search needs)
-    (λ c. search needs)
     (λ c κs. (search (needs, is-listed), search needs))
     (λ c. search (needs, number-least))
     (λ c. search (needs, port-within))

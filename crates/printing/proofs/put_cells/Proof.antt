@@ -1,6 +1,7 @@
 use Prim.Native.Nat.{_-_}
 use lib.ListN.{length}
-use Rattle.printing.proofs.Prints.{prints-size, Celled, cells-first, cells-next, cells-done}
+use Rattle.lines.proofs.Pieces.{prints-size}
+use Rattle.printing.proofs.Prints.{Celled, cells-first, cells-next, cells-done}
 use borrow.Author.Needs.{needs}
 use native.Mathlib.Omega.{arith}
 use Rattle.printing.proofs.put_cells.Statement.{statement}

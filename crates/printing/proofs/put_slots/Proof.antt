@@ -1,5 +1,6 @@
 use Prim.Native.Nat.{_-_}
-use Rattle.printing.proofs.Prints.{prints-size, Slotted, slots-first, slots-next, slots-done, slot-end, slot-size, slot-place, from-fits, end-fits, offset-fits}
+use Rattle.lines.proofs.Pieces.{prints-size}
+use Rattle.printing.proofs.Prints.{Slotted, slots-first, slots-next, slots-done, slot-end, slot-size, slot-place, from-fits, end-fits, offset-fits}
 use borrow.Author.Needs.{needs}
 use Rattle.printing.proofs.put_slots.Statement.{statement}
 use Rattle.printing.proofs.put_slots.Tie as tie

@@ -11,8 +11,8 @@ use Rattle.service.proofs.count_run.Tie as tie
 lead-of-requires : tie.Need-lead-of-requires
 lead-of-requires c κs =
     let asked = c .before .before .before .before .pre in
-    let run = run-fits asked (c .run-cells .ensures) in
-    let whole = whole-fits asked (c .before .slot-cells .ensures) in
+    let run = run-fits _ asked (c .run-cells .ensures) in
+    let whole = whole-fits _ asked (c .before .slot-cells .ensures) in
     (slots-within (asked .framed) .1, omega (arith, run, whole), asked .length-is, omega (arith, run, whole))
 
 returns : tie.Need-returns

@@ -3,7 +3,7 @@ use mathlib.Core.Path.{ap, _∙_}
 use native.Mathlib.Omega.{arith}
 use lib.ListN.{length}
 use borrow.Author.Needs.{needs}
-use Rattle.rules.specs.Frames.{cells}
+use Rattle.rules.specs.Frames.{cellsOn}
 use Rattle.checks.proofs.Fits.{entries-most}
 use Rattle.service.proofs.Turns.{part-run, part-short, run-inside}
 use Rattle.service.proofs.inside_cells.Statement.{statement}
@@ -20,7 +20,7 @@ slot-cells-requires c κs =
     (pre .1, part-short (pre .0) (a .start * a .ports + a .len * a .ports - a .start * a .ports) (a .start * a .ports))
 
 returns : tie.Need-returns
-returns c = c .slot-cells .ensures ∙ ap (cells _ _ _) (part-run _ _ _ _)
+returns c = c .slot-cells .ensures ∙ ap (cellsOn _ _ _ _) (part-run _ _ _ _)
 
 pub inside-cells-spec : {M : Type 1} → statement M
 inside-cells-spec =

@@ -16,7 +16,7 @@ returns : tie.Need-returns
 returns c =
     let start = c .before .before .before .before .before in
     let lesser = c .before .before .lesser in
-    parts-run (start .pre .0) _ _ (lesser .ensures) (search needs) (start .pre .1) (c .before .inside-cells .ensures) (c .inside-cells2 .ensures)
+    parts-run _ (start .pre .0) _ _ (lesser .ensures) (search needs) (start .pre .1) (c .before .inside-cells .ensures) (c .inside-cells2 .ensures)
 
 pub run-cells-spec : {M : Type 1} → statement M
 run-cells-spec =
@@ -29,7 +29,7 @@ run-cells-spec =
     (λ c κs. search needs)
     inside-cells-requires-2
     (λ c. search needs)
-    (λ c. omega (arith, run-fits (c .before .before .before .before .before .pre .0) (returns c)))
-    (λ c. omega (arith, run-fits (c .before .before .before .before .before .pre .0) (returns c)))
-    (λ c. omega (arith, run-fits (c .before .before .before .before .before .pre .0) (returns c)))
+    (λ c. omega (arith, run-fits _ (c .before .before .before .before .before .pre .0) (returns c)))
+    (λ c. omega (arith, run-fits _ (c .before .before .before .before .before .pre .0) (returns c)))
+    (λ c. omega (arith, run-fits _ (c .before .before .before .before .before .pre .0) (returns c)))
     returns)

@@ -20,7 +20,7 @@ returns-6 c =
     let sized = started .before .before in
     let told = sized .before .before in
     run-counted _ _ _ _ _ _ _ (told .before .before .check-list .ensures) (told .enum-told .given .1) (sized .before .bad-length .ensures) (sized .if1 .left)
-    (started .before .outside .ensures) (started .if2 .left) (named .before .bad-who .ensures) (named .if3 .left) (short .before .too-long .ensures) (short .if4 .left)
+    (started .before .outside .ensures) (started .if2 .left) (named .before .bad-who .ensures) (named .if3 .left) (short .before .too-long .ensures) (short .if4 .left) _
     (c .count-run .ensures .0) (c .count-run .ensures .1)
 
 pub service-count-spec : {M : Type 1} → statement M

@@ -1,6 +1,6 @@
 use native.Mathlib.Omega.{arith}
 use borrow.Author.Needs.{needs}
-use Rattle.tally.proofs.Tallies.{adds-idle, adds-cell, no-cell, one-cell, flow-low, output-number, link-number, flow-place, input-place, room-less, room-one, room-two, room-three}
+use Rattle.tally.proofs.Tallies.{adds-idle, adds-cell, no-cell, one-cell, flow-low, output-number, link-number, flow-place, input-least, input-place, room-less, room-one, room-two, room-three}
 use Rattle.tally.proofs.add_entry.Statement.{statement}
 use Rattle.tally.proofs.add_entry.Tie as tie
 
@@ -8,7 +8,7 @@ add-one-requires-3 : tie.Need-add-one-requires-3
 add-one-requires-3 c κs =
     let first = c .before .before .before in (
       search needs,
-      room-two _ _ _ _ _ (c .before .add-one2 .ensures) (first .add-one .ensures) (first .before .before .before .before .before .pre .1),
+      room-two _ _ _ _ _ (c .before .add-one2 .ensures) (first .add-one .ensures) (first .before .before .before .before .before .before .pre .1),
     )
 
 add-one-requires-4 : tie.Need-add-one-requires-4
@@ -17,7 +17,7 @@ add-one-requires-4 c κs =
     let first = second .before .before in (
       search needs,
       room-three _ _ _ _ _ _ _ (c .before .add-one3 .ensures) (second .add-one2 .ensures) (first .add-one .ensures)
-          (first .before .before .before .before .before .pre .1),
+          (first .before .before .before .before .before .before .pre .1),
     )
 
 pub add-entry-spec : {M : Type 1} → statement M
@@ -26,6 +26,8 @@ add-entry-spec =
     (tie.spec
     (λ c. (search (needs, adds-idle), search (needs, no-cell), omega arith))
     (λ c. search needs)
+    (λ c κs. (search (needs, flow-low), search needs))
+    (λ c. search (needs, input-least))
     (λ c κs. (search (needs, flow-low), search (needs, output-number), search (needs, link-number)))
     (λ c κs. (search (needs, flow-place), search (needs, room-less)))
     (λ c. search needs)

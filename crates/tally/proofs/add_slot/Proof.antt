@@ -2,7 +2,7 @@ use Prim.Native.Nat.{_≤_, _-_}
 use mathlib.Core.Path.{_≡_}
 use lib.ListN.{length}
 use Rattle.tally.specs.Tally.{Adds, partly, cellsOf}
-use Rattle.tally.proofs.Tallies.{slot-start, slot-on, slot-end, slot-room, cells-start, cells-on, cells-fit, total-fits, entry-right}
+use Rattle.tally.proofs.Tallies.{slot-start, slot-on, slot-end, slot-room, cells-start, cells-on, cells-fit, total-fits, entry-flow}
 use borrow.Author.Needs.{needs}
 use native.Mathlib.Omega.{arith}
 use Rattle.tally.proofs.add_slot.Statement.{statement}
@@ -24,7 +24,7 @@ add-slot-spec =
     (λ c. search needs)
     (λ c. search needs)
     (λ c κs. search needs)
-    (λ c κs. (search (needs, entry-right), search (needs, slot-room)))
+    (λ c κs. (search (needs, entry-flow), search (needs, slot-room)))
     (λ c. search (needs, cells-fit))
     (λ c. search needs)
     (λ c. search needs)

@@ -1,0 +1,2 @@
+-- What the functions that print a line promise.
+pub mod Lines

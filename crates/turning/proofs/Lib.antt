@@ -1,0 +1,4 @@
+-- Laws of Turn's code.
+pub mod Putting
+pub mod Turning
+pub mod Answered

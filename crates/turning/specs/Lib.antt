@@ -1,0 +1,2 @@
+-- What the inner functions of Turn promise.
+pub mod Put
