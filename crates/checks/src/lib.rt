@@ -118,16 +118,6 @@ pub fn bad_who(ports: usize, list: &[u16], who: Who) -> bool
     }
 }
 
-// The other side.
-pub fn across(side: Side) -> Side
-    ensures { λ r. ⌜ sideOf r ≡ other (sideOf side) ⌝ }
-{
-    match side {
-        Side::Input => Side::Output,
-        Side::Output => Side::Input,
-    }
-}
-
 // Where the port of a side stands among the numbers of a flow.
 pub fn place_of(side: Side) -> usize
     ensures { λ r. ⌜ (r ≡ placeOn (sideOf side)) × (r ≤ 1) ⌝ }
@@ -135,6 +125,16 @@ pub fn place_of(side: Side) -> usize
     match side {
         Side::Input => 0,
         Side::Output => 1,
+    }
+}
+
+// Where the port of the other side stands among the numbers of a flow.
+pub fn place_across(side: Side) -> usize
+    ensures { λ r. ⌜ (r ≡ placeOn (other (sideOf side))) × (r ≤ 1) ⌝ }
+{
+    match side {
+        Side::Input => 1,
+        Side::Output => 0,
     }
 }
 

@@ -4,14 +4,14 @@ ghost use mathlib.Core.Bool.{not};
 ghost use Prim.Native.Nat.{_*_, _≤_, _<_};
 ghost use lib.ListN.{length, replicate};
 ghost use Rattle.rules.specs.Words.{first};
-ghost use Rattle.rules.specs.Flows.{flows, other};
+ghost use Rattle.rules.specs.Flows.{flows};
 ghost use Rattle.rules.specs.Frames.{rightOn, runOf};
 ghost use Rattle.calls.specs.Sides.{sideOf};
 ghost use Rattle.calls.specs.Inspect.{isWrong, twiceIn, usedTwice};
 ghost use Rattle.checks.specs.Fits.{ListFits, FrameFits, FlowFrame};
-ghost use Rattle.checks.specs.Places.{placeOn};
 ghost use Rattle.entries.specs.Entries.{wrongIn, Room, Counts, Used, again};
 use calls::Side;
+use checks::place_across;
 use checks::place_of;
 use flows::flows_of;
 use flows::number_of;
@@ -82,16 +82,6 @@ pub fn first_wrong(side: Side, ports: usize, slots: usize, list: &[u16], frame: 
         s += 1;
     }
     slots * ports
-}
-
-// Where the port of the other side stands among the numbers of a flow.
-fn place_across(side: Side) -> usize
-    ensures { λ r. ⌜ (r ≡ placeOn (other (sideOf side))) × (r ≤ 1) ⌝ }
-{
-    match side {
-        Side::Input => 1,
-        Side::Output => 0,
-    }
 }
 
 // Counts an entry for the port of the other side that its flow has, if it is not 0.

@@ -30,7 +30,7 @@ use Rattle.tally.specs.Tally.{flowCells}
 use Rattle.tally.proofs.ByFlow.{cells-by-flow}
 use Rattle.entries.proofs.Found.{none-wrong}
 use Rattle.inspection.specs.Faults.{wrongFlow, faults}
-use Rattle.inspection.proofs.Blocks.{block-ext}
+use Rattle.calls.proofs.Blocks.{block-same}
 
 -- ---- one fault that is the first of some places
 module _ (n q : ℕ) (wrong : ℕ → Bool) (e : q ≡ first wrong 0 n) where
@@ -92,8 +92,8 @@ module _ (side : Side) (ports slots : ℕ) (list frame : List ℕ) (l : ListFits
         -- where no entry is wrong, so do those of every class
         by-flow : unbalancedBlock (flowCells list) ports slots list frame ≡ unbalancedBlock (cellsOn side ports list) ports slots list frame
         by-flow =
-            block-ext (flowCells list) (cellsOn side ports list) ports slots list frame frame
-            (λ c of start len h. sym (cells-by-flow side ports slots list frame (f .size) (none-wrong side l f e right-all) c start len h))
+            block-same (flowCells list) (cellsOn side ports list) ports slots list frame frame
+            (λ c start len h. sym (cells-by-flow side ports slots list frame (f .size) (none-wrong side l f e right-all) c start len h))
 
         pub last-fault : n ≤ p → (r : List ℕ) → r ≡ report (unbalancedBlock (flowCells list) ports slots list frame ∷ []) clean → r ≡ faults side ports slots list frame
         last-fault h r d =

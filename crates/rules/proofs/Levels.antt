@@ -4,7 +4,7 @@ use mathlib.Core.Path.{_≡_, refl, sym, ap, _∙_}
 use mathlib.Core.Logic.{_≢_}
 use mathlib.Core.Bool.{Bool}
 use native.Mathlib.Omega.{arith}
-use native.Mathlib.Nat.{pow-le-pow-right, two-pow-succ, div-eq-of-lt}
+use native.Mathlib.Nat.{pow-le-pow-right, two-pow-succ}
 use lib.Dec.{eqb}
 use lib.Pow.{pow-pos, pow-add, shl-shr}
 use borrow.Author.Tests.{eqb-true, eq-eqb, ne-eqb}
@@ -74,10 +74,6 @@ depth-half k t h =
     let e : k - t ≡ suc (k - suc t) = omega arith in
     let d = two-pow-succ (k - suc t) in
     omega (arith, depth-size k (suc t) h, depth-size k t (omega arith), ap (λ z. 2 ^ z) e)
-
--- below single slots there is nothing left
-pub depth-over : (k : ℕ) → 2 ^ k / 2 ^ suc k ≡ 0
-depth-over k = div-eq-of-lt (pow-less k (suc k) (omega arith))
 
 -- the blocks of a depth fill the frame
 pub depth-fill : (k t : ℕ) → t ≤ k → 2 ^ t * (2 ^ k / 2 ^ t) ≡ 2 ^ k

@@ -79,7 +79,7 @@ inspect-agrees side ports slots list entries second e =
     let count : ℕ → Check = λ f. (ltb f (flows list), 103 ∷ suc f ∷ []) in
     let flows-same : flowCount to ports list new ≡ flowCount side ports list entries
     = ap count (first-ext _ _ (flows list) 0 (λ f _ l. ap (λ z. not (eqb z (load (flow f) list))) (frame-cells t (flow f)))) in
-    let blocks = block-same (cellsOn to ports list) (cellsOn side ports list) ports slots list new entries (t .well .power) (run-cells t) in
+    let blocks = block-same (cellsOn to ports list) (cellsOn side ports list) ports slots list new entries (run-cells t) in
     let both : Check → Check → List ℕ = λ x y. report (x ∷ y ∷ []) (0 ∷ []) in
     rw e (
     past-two to ports slots list new (u .well) (u .size) (u .each-right) (u .each-once)

@@ -23,14 +23,14 @@ use Rattle.turning.specs.Put.{put}
 pub put-none : (to : Side) (list new : List ℕ) (e : ℕ) → e ≡ 0 → new ≡ put to list e new
 put-none to list new e z = sym (rw z)
 
-module _ (to by : Side) (list new : List ℕ) (e n place : ℕ) (fits : ListFits (length new) list) (low : e ≤ flows list) (some : e ≡ 0 → ⊥) (wide : n ≡ e)
-    (across : by ≡ to) (placed : place ≡ placeOn by) where
+module _ (to : Side) (list new : List ℕ) (e n place : ℕ) (fits : ListFits (length new) list) (low : e ≤ flows list) (some : e ≡ 0 → ⊥) (wide : n ≡ e)
+    (placed : place ≡ placeOn to) where
   pub flow-low : n - 1 < flows list
   flow-low = omega arith
 
   module _ (x : ℕ) (is : x ≡ numberOf place list (n - 1)) where
     x-is : x ≡ numberOf (placeOn to) list (e - 1)
-    x-is = is ∙ ap (λ p. numberOf p list (n - 1)) (placed ∙ ap placeOn across) ∙ ap (λ f. numberOf (placeOn to) list (f - 1)) wide
+    x-is = is ∙ ap (λ p. numberOf p list (n - 1)) placed ∙ ap (λ f. numberOf (placeOn to) list (f - 1)) wide
 
     pub port-least : 1 ≤ x
     port-least = let w = side-number fits (e - 1) (omega arith) to in omega (arith, w .0, x-is)

@@ -11,8 +11,7 @@ ghost use Rattle.turning.specs.Put.{put};
 use calls::Answer;
 use calls::Refusal;
 use calls::Side;
-use checks::across;
-use checks::place_of;
+use checks::place_across;
 use entries::first_twice;
 use entries::first_wrong;
 use flows::number_of;
@@ -25,8 +24,7 @@ fn put_entry(side: Side, list: &[u16], entry: u16, new: &mut [u16])
     if entry == 0 {
         return;
     }
-    let place = place_of(across(side));
-    let x = number_of(list, bits::number(entry) - 1, place) - 1;
+    let x = number_of(list, bits::number(entry) - 1, place_across(side)) - 1;
     new[x] = entry;
 }
 

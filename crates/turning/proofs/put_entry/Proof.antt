@@ -9,9 +9,8 @@ put-entry-spec =
     (tie.spec
     (λ c. search (needs, put-none))
     (λ c κs. search needs)
-    (λ c κs. search needs)
-    (λ c κs. search needs)
     (λ c. search needs)
+    (λ c κs. search needs)
     (λ c κs. (search (needs, flow-low), search needs))
     (λ c. search (needs, port-least))
     (λ c. search needs)
