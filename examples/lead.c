@@ -25,7 +25,8 @@ struct run {
 static struct run run_of(const uint16_t *frame, size_t start, size_t length)
 {
     struct run run = {start, length, 0, 0};
-    frame_builder_count_flow(PORTS, SLOTS, list, LIST_LENGTH, frame, FRAME_LENGTH, FLOW, start, length, &run.cells, &run.lead);
+    frame_builder_count_flow(FRAME_BUILDER_INPUT_SIDE, PORTS, SLOTS, list, LIST_LENGTH, frame, FRAME_LENGTH, FLOW, start, length,
+                             &run.cells, &run.lead);
     return run;
 }
 

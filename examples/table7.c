@@ -38,7 +38,8 @@ static void print_count(const uint16_t *list, const uint16_t *frame, size_t star
 {
     size_t cells;
     int64_t lead;
-    size_t answer = frame_builder_count_flow(PORTS, SLOTS, list, LIST_LENGTH, frame, FRAME_LENGTH, 5, start, 2, &cells, &lead);
+    size_t answer = frame_builder_count_flow(FRAME_BUILDER_INPUT_SIDE, PORTS, SLOTS, list, LIST_LENGTH, frame, FRAME_LENGTH, 5, start, 2,
+                                             &cells, &lead);
     if (answer != FRAME_BUILDER_ACCEPTED)
         return;
     printf("flow 5, 2 slots from slot %zu: %zu cells, lead %" PRId64 "/%d of a cell\n", start, cells, lead, SLOTS);
@@ -61,7 +62,7 @@ int main(void)
     printf("odd counts settled: %zu\n", first);
     print_slots(frame);
 
-    answer = frame_builder_inspect(PORTS, SLOTS, list, LIST_LENGTH, frame, FRAME_LENGTH, &first, &second);
+    answer = frame_builder_inspect(FRAME_BUILDER_INPUT_SIDE, PORTS, SLOTS, list, LIST_LENGTH, frame, FRAME_LENGTH, &first, &second);
     print_answer("inspect", frame_builder_inspect_text(answer), answer, first, second);
     print_count(list, frame, 4);
     print_count(list, frame, 2);
@@ -72,7 +73,7 @@ int main(void)
     print_answer("build with one cell more", frame_builder_text(answer), answer, first, second);
     /* A flow of input 4 where input 1 stands. */
     frame[0] = 5;
-    answer = frame_builder_inspect(PORTS, SLOTS, list, LIST_LENGTH, frame, FRAME_LENGTH, &first, &second);
+    answer = frame_builder_inspect(FRAME_BUILDER_INPUT_SIDE, PORTS, SLOTS, list, LIST_LENGTH, frame, FRAME_LENGTH, &first, &second);
     print_answer("inspect after damage", frame_builder_inspect_text(answer), answer, first, second);
     return 0;
 }

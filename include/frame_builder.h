@@ -6,9 +6,9 @@
  * -l:libframe_builder.a in the place of -lframe_builder. In a checkout `rt staticlib exports` writes the archive to
  * target/staticlib/libexports.a. The shared library exports the calls below and nothing else. Its soname is libframe_builder.so.N, where N
  * is the first number of the version, and its calls have the symbol version FRAME_BUILDER_N. So a program is never given the calls of
- * another N. A call that came with a later version N.M has the symbol version FRAME_BUILDER_N.M, so that a program that makes it does not
- * start with an older library. Of the C library the calls need memset and nothing else. examples/table7.c shows how the calls are used, examples/links.c how
- * links and limits are.
+ * another N. A call that comes with a later version N.M has the symbol version FRAME_BUILDER_N.M, and its comment below names N.M. So a
+ * program that makes it does not start with an older library. Of the C library the calls need memset and nothing else. examples/table7.c
+ * shows how the calls are used, examples/links.c how links and limits are, and examples/turn.c how the sides of a frame are.
  *
  * WORDS. Ports and slots are numbered from 1, inputs and outputs separately. An output drives up to four links, 1 to 4. A flow is so many
  * cells per frame from an input to one link of an output; a pair of ports may have several. A list is the reserved flows as 16-bit numbers,
@@ -16,25 +16,32 @@
  * port, and of a link, is the sum of the cells of its flows. A link's limit is how many cells per frame it takes. The limits are 64 16-bit
  * numbers, output by output: those of output 1's links 1 to 4, then those of output 2's, and so on to output 16. Those of outputs above
  * ports are not looked at. For a link as fast as its output the limit may be slots or any number above. A frame is slots x ports 16-bit
- * entries, slot 1 first; within a slot there is one entry per input: the number of the flow that it sends a cell of, or 0 for idle. A
- * block is the whole frame, or either half of a block of 2 or more slots. A slice is a list or a frame as a call is lent it: a pointer, and
- * how many 16-bit numbers there are. A lent number is one that a call is lent to write to: *first, *second, *third, *start, *size and
- * *cells, each a size_t, and *lead, an int64_t.
+ * entries, slot 1 first. A block is the whole frame, or either half of a block of 2 or more slots. A slice is a list, a frame or Turn's
+ * second buffer as a call is lent it: a pointer, and how many 16-bit numbers there are. A lent number is one that a call is lent to write
+ * to: *first, *second, *third, *start, *size and *cells, each a size_t, and *lead, an int64_t.
+ *
+ * SIDES. A frame has a side. On the input side a slot has one entry per input: the number of the flow that the input sends a cell of, or 0
+ * for idle. On the output side a slot has one entry per output: the number of the flow that the output takes a cell of, or 0 for idle.
+ * Build makes frames on the input side, and Turn writes a frame by the other side. Inspect, Turn and Service count are told the side of the
+ * frame that they are lent, as a number: 0 is the input side, and every other number is the output side. A port of the frame's side is an
+ * input where the frame is on the input side, and an output where it is on the output side. A port of the other side is an output in the
+ * first case, and an input in the second.
  *
  * ANSWERS. Every call takes any numbers and slices of any length. It tries its refusals, and Inspect then its faults, in the order of its
  * table below, and returns the number of the first whose condition holds, or 0 if none does. It writes its lent numbers whatever it
- * answers: the values of the answer, and 0 where the answer has none. No list and no limits are ever written, and no frame but Build's: an
- * accepted Build leaves the list's frame there, every entry of it, and a refused one leaves every entry as it was. All this is proved.
+ * answers: the values of the answer, and 0 where the answer has none. No list and no limits are ever written. Two slices are: the frame
+ * that Build is lent, and Turn's second buffer. An accepted Build leaves the list's frame in the first, and an accepted Turn the frame by
+ * the other side in the second, every entry of it. A refused call leaves every entry as it was. All this is proved.
  *
  * POINTERS. The caller sees to it that
  * - a slice's pointer points to as many 16-bit numbers as its length says, that of the limits to all FRAME_BUILDER_LIMITS of them, and a
  *   lent number's to one number;
  * - each is aligned as C asks of its type;
  * - what a call writes overlaps nothing else lent in the same call. So *first, *second and *third are three numbers even where none is
- *   looked at, *cells and *lead two, and Build's frame has no byte of the list or of the limits. What is only read may overlap, as a list
- *   and Inspect's frame;
+ *   looked at, *cells and *lead two, Build's frame has no byte of the list or of the limits, and Turn's second buffer has none of the list
+ *   or of the frame. What is only read may overlap, as a list and Inspect's frame;
  * - no pointer is null, but for that of a slice of length 0. Nothing is read or written there. A list of length 0 has no flows, and its
- *   frame is all 0; a frame of length 0 is refused, since no switch has one.
+ *   frame is all 0; a frame of length 0 is refused, since no switch has one, and so is a second buffer of length 0.
  * What a call writes needs no value before. No call keeps a pointer.
  *
  * THREADS, SIGNALS, STACK. A call keeps no state, allocates nothing, makes no system call, waits for nothing and leaves errno alone. Any
@@ -54,7 +61,7 @@
 #include <stdint.h>
 
 /* The version of the project. It stands in this line alone; whatever else says the version reads it from here. */
-#define FRAME_BUILDER_VERSION "5.2.0"
+#define FRAME_BUILDER_VERSION "6.0.0"
 
 /* Sizes. */
 #define FRAME_BUILDER_MAX_PORTS 16
@@ -66,6 +73,10 @@
 #define FRAME_BUILDER_MAX_FLOW_CELLS 65535
 #define FRAME_BUILDER_MAX_FRAME_ENTRIES 16384
 #define FRAME_BUILDER_MAX_RUN_SLOTS 1000000
+
+/* Sides of a frame. */
+#define FRAME_BUILDER_INPUT_SIDE 0
+#define FRAME_BUILDER_OUTPUT_SIDE 1 /* so is every other number but 0 */
 
 /* The most stack that a call takes, its arguments and its return address included. Build takes more than any other call. A thread of
  * PTHREAD_STACK_MIN and a signal stack of SIGSTKSZ may be too small for it. */
@@ -88,13 +99,15 @@
 #define FRAME_BUILDER_REFUSED_SLOT_NUMBER 11
 #define FRAME_BUILDER_REFUSED_FLOW_OR_PORT 12
 #define FRAME_BUILDER_REFUSED_RUN_LENGTH 13
+#define FRAME_BUILDER_REFUSED_ENTRIES 14
+#define FRAME_BUILDER_REFUSED_SECOND_LENGTH 15
 #define FRAME_BUILDER_REFUSED_TOO_MANY_FLOWS 21 /* the sheet program has it too */
 #define FRAME_BUILDER_REFUSED_FLOW_PORT 22
 #define FRAME_BUILDER_REFUSED_FLOW_LINK 23
 #define FRAME_BUILDER_REFUSED_LINK_LOAD 24
 
 #define FRAME_BUILDER_FAULT_WRONG_ENTRY 101
-#define FRAME_BUILDER_FAULT_OUTPUT_TWICE 102
+#define FRAME_BUILDER_FAULT_PORT_TWICE 102
 #define FRAME_BUILDER_FAULT_FLOW_COUNT 103
 #define FRAME_BUILDER_FAULT_UNBALANCED_BLOCK 104
 
@@ -129,6 +142,10 @@ static inline const char *frame_builder_text(size_t number)
         return "the flow is not in the list, or the port is outside 1 to ports";
     case FRAME_BUILDER_REFUSED_RUN_LENGTH:
         return "the run is longer than 1,000,000 slots";
+    case FRAME_BUILDER_REFUSED_ENTRIES:
+        return "an entry of the frame is wrong, or a port is used twice in a slot";
+    case FRAME_BUILDER_REFUSED_SECOND_LENGTH:
+        return "the second buffer's length differs from the frame's";
     case FRAME_BUILDER_REFUSED_TOO_MANY_FLOWS:
         return "there are more than 512 flows";
     case FRAME_BUILDER_REFUSED_FLOW_PORT:
@@ -138,9 +155,9 @@ static inline const char *frame_builder_text(size_t number)
     case FRAME_BUILDER_REFUSED_LINK_LOAD:
         return "a link's load is above its limit";
     case FRAME_BUILDER_FAULT_WRONG_ENTRY:
-        return "an entry of the frame is no flow of its input";
-    case FRAME_BUILDER_FAULT_OUTPUT_TWICE:
-        return "an output is used twice in a slot";
+        return "an entry of the frame is no flow of its port";
+    case FRAME_BUILDER_FAULT_PORT_TWICE:
+        return "a port of the other side is used twice in a slot";
     case FRAME_BUILDER_FAULT_FLOW_COUNT:
         return "a flow is in the wrong number of slots";
     case FRAME_BUILDER_FAULT_UNBALANCED_BLOCK:
@@ -179,7 +196,7 @@ extern "C" {
 size_t frame_builder_admit(size_t ports, size_t slots, const uint16_t *list, size_t list_length, const uint16_t *limits, size_t *first,
                            size_t *second, size_t *third);
 
-/* Build: fills the frame, every entry of it, and says how many odd counts it settled.
+/* Build: fills the frame, every entry of it, on the input side, and says how many odd counts it settled.
  *
  * Those are, over all blocks of 2 or more slots, the flows with an odd number of cells in that block of the frame: the halves of the block
  * cannot have as many cells each, so that Build has to find which gets one more. They say how much work the build was: its instructions
@@ -203,10 +220,15 @@ size_t frame_builder_admit(size_t ports, size_t slots, const uint16_t *list, siz
 size_t frame_builder_build(size_t ports, size_t slots, const uint16_t *list, size_t list_length, const uint16_t *limits, uint16_t *frame,
                            size_t frame_length, size_t *first, size_t *second, size_t *third);
 
-/* Inspect: whether a frame from anywhere is legal for the list and balanced; if not, its first fault. Each kind of fault is looked for in
- * the whole frame before the next kind. An entry is wrong that is above the number of flows, or that is the number of a flow of another
- * input. A block is unbalanced where its halves differ by more than one cell of some flow, input, output or link, or in total. Inspect is
- * not told the limits, so that a list that Build refuses for a link's load may have clean frames.
+/* Inspect: whether a frame from anywhere, on the side that is told, is legal for the list and balanced; if not, its first fault. Each kind
+ * of fault is looked for in the whole frame before the next kind. An entry is wrong that is above the number of flows, or that is the
+ * number of a flow of another port of the frame's side than the one at whose place it stands: of another input on the input side, of
+ * another output on the output side. A port of the other side is used twice in a slot where two or more entries of the slot are numbers of
+ * its flows. A block is unbalanced where its halves differ by more than one cell of some flow, input, output or link, or in total. Inspect
+ * is not told the limits, so that a list that Build refuses for a link's load may have clean frames.
+ *
+ * With FAULT_WRONG_ENTRY *second is the port of the frame's side at whose place the entry stands: an input on the input side, an output on
+ * the output side. With FAULT_PORT_TWICE *second is the port of the other side: an output on the input side, an input on the output side.
  *
  *     answer                  *first                   *second                             which, of several
  *     CLEAN                   0                        0
@@ -217,15 +239,44 @@ size_t frame_builder_build(size_t ports, size_t slots, const uint16_t *list, siz
  *     REFUSED_FLOW_PORT       0                        0
  *     REFUSED_FLOW_LINK       0                        0
  *     REFUSED_FRAME_LENGTH    0                        0
- *     FAULT_WRONG_ENTRY       the slot                 the input                           the lowest such slot, then input
- *     FAULT_OUTPUT_TWICE      the slot                 the output                          the lowest such slot, then output
+ *     FAULT_WRONG_ENTRY       the slot                 the port of the frame's side        the lowest such slot, then port
+ *     FAULT_PORT_TWICE        the slot                 the port of the other side          the lowest such slot, then port
  *     FAULT_FLOW_COUNT        the flow                 0                                   the first such flow in the list
  *     FAULT_UNBALANCED_BLOCK  the block's first slot   its size in slots                   the largest such block, then the earliest
  */
-size_t frame_builder_inspect(size_t ports, size_t slots, const uint16_t *list, size_t list_length, const uint16_t *frame,
+size_t frame_builder_inspect(size_t side, size_t ports, size_t slots, const uint16_t *list, size_t list_length, const uint16_t *frame,
                              size_t frame_length, size_t *first, size_t *second);
 
-/* Slot view: which part of the caller's frame is the slot. It begins at frame + *start and has *size entries.
+/* Turn: writes the frame by the other side to the second buffer, every entry of it. The side that is told is the frame's own. So whoever
+ * turns a frame back tells the other side. Each flow stands in the same slots as before, now at its port of the other side, and every place
+ * without a flow is 0. The frame itself is only read.
+ *
+ * A frame that has a wrong entry, or a port of the other side twice in a slot, cannot be turned. It is refused with REFUSED_ENTRIES, and
+ * Inspect, told the same side, says which entry or which port: FAULT_WRONG_ENTRY or FAULT_PORT_TWICE. Any other frame is turned, also one
+ * that has a flow in the wrong number of slots or an unbalanced block.
+ *
+ * A turned frame is accepted by Turn told the other side, which gives the first entries again. Where a frame turns, the sides agree:
+ * Inspect, told the other side, answers of the turned frame what it answers of the frame, with the same values. Service count does so too,
+ * for every flow, input and output and every run: the cells are the same, and so is the lead. All this is proved. It follows that the
+ * turned frame is balanced where the frame is, and that what Build leaves is clean on the input side and, turned, on the output side.
+ *
+ *     answer                  second buffer
+ *     ACCEPTED                the frame by the other side
+ *     REFUSED_PORTS           as it was
+ *     REFUSED_SLOTS           as it was
+ *     REFUSED_LIST_LENGTH     as it was
+ *     REFUSED_TOO_MANY_FLOWS  as it was
+ *     REFUSED_FLOW_PORT       as it was
+ *     REFUSED_FLOW_LINK       as it was
+ *     REFUSED_FRAME_LENGTH    as it was
+ *     REFUSED_SECOND_LENGTH   as it was
+ *     REFUSED_ENTRIES         as it was
+ */
+size_t frame_builder_turn(size_t side, size_t ports, size_t slots, const uint16_t *list, size_t list_length, const uint16_t *frame,
+                          size_t frame_length, uint16_t *second, size_t second_length);
+
+/* Slot view: which part of the caller's frame is the slot. It begins at frame + *start and has *size entries. It is the same part on either
+ * side, so that Slot view is not told the side.
  *
  *     answer                  *start                   *size
  *     ACCEPTED                (slot - 1) x ports       ports
@@ -238,10 +289,11 @@ size_t frame_builder_slot_view(size_t ports, size_t slots, const uint16_t *frame
                                size_t *size);
 
 /* Service count: the cells of a flow, of an input or of an output in a run of the frame, `length` slots from slot `start` on, and the lead
- * of that run; after the last slot comes slot 1 again. The frame may have any entries. A flow's cells are the entries that are its number,
- * at whatever input they stand, an input's are its entries that are not 0, an output's are the entries that are the number of a flow to it,
- * at whatever input they stand. So an entry above the number of flows counts for its input only. REFUSED_SLOT_NUMBER is about the start,
- * REFUSED_FLOW_OR_PORT about the flow, the input or the output that is asked for.
+ * of that run; after the last slot comes slot 1 again. The frame is on the side that is told, and may have any entries. A flow's cells are
+ * the entries that are its number, at whatever port they stand. The cells of a port of the frame's side are its entries that are not 0. The
+ * cells of a port of the other side are the entries that are the number of one of its flows, at whatever port they stand. So an entry above
+ * the number of flows counts for its input only on the input side, and for its output only on the output side. REFUSED_SLOT_NUMBER is about
+ * the start, REFUSED_FLOW_OR_PORT about the flow, the input or the output that is asked for.
  *
  * The lead says how far the run is ahead of its share:
  *
@@ -249,16 +301,16 @@ size_t frame_builder_slot_view(size_t ports, size_t slots, const uint16_t *frame
  *
  * Its unit is 1/slots of a cell: divided by slots, it is how many cells the run has had above its share, and it is negative where the run
  * is behind. Length 0 and whole turns of the frame have lead 0, so that a whole turn more or less leaves the lead as it is. Whatever the
- * entries, |lead| is at most slots x slots / 4 for an input, and ports times as much for a flow or an output, whose cells may stand at
- * every input in the same slot; this follows from what the lead is, and is no theorem of its own.
+ * entries, |lead| is at most slots x slots / 4 for a port of the frame's side, and ports times as much for a flow or a port of the other
+ * side, whose cells may stand at every port in the same slot; this follows from what the lead is, and is no theorem of its own.
  *
  * No call counts a link or the total: both are sums of these answers for the same start and length. The cells of a link are the sum of the
- * cells of its flows, and its lead is the sum of their leads. The cells of the total are the sum of the cells of all outputs, 1 to ports,
- * and its lead is the sum of their leads. So an entry above the number of flows counts for no link and not for the total.
+ * cells of its flows, and its lead is the sum of their leads. The cells of the total are the sum of the cells of all ports of the other
+ * side, 1 to ports, and its lead is the sum of their leads. So an entry above the number of flows counts for no link and not for the total.
  *
  * For a frame that Build made, counted with the ports, slots and list that Build was given, 3 x |lead| <= (2k + 1) x slots, where slots are
  * 2^k, and |lead| is at most the bound that Depth answers for the same flow, input or output, and at most what stands here. All three are
- * proved, for every flow, input and output and every run.
+ * proved, for every flow, input and output and every run. They hold of such a frame turned too, since its counts are the same.
  *
  *     slots     1     2     4     8    16    32    64   128     256     512   1,024
  *     |lead|    0     1     4    12    36    92   228   540   1,252   2,844   6,372
@@ -276,15 +328,15 @@ size_t frame_builder_slot_view(size_t ports, size_t slots, const uint16_t *frame
  *     REFUSED_FLOW_OR_PORT    0                             0
  *     REFUSED_RUN_LENGTH      0                             0
  */
-size_t frame_builder_count_flow(size_t ports, size_t slots, const uint16_t *list, size_t list_length, const uint16_t *frame,
+size_t frame_builder_count_flow(size_t side, size_t ports, size_t slots, const uint16_t *list, size_t list_length, const uint16_t *frame,
                                 size_t frame_length, size_t flow, size_t start, size_t length, size_t *cells, int64_t *lead);
-size_t frame_builder_count_input(size_t ports, size_t slots, const uint16_t *list, size_t list_length, const uint16_t *frame,
+size_t frame_builder_count_input(size_t side, size_t ports, size_t slots, const uint16_t *list, size_t list_length, const uint16_t *frame,
                                  size_t frame_length, size_t input, size_t start, size_t length, size_t *cells, int64_t *lead);
-size_t frame_builder_count_output(size_t ports, size_t slots, const uint16_t *list, size_t list_length, const uint16_t *frame,
+size_t frame_builder_count_output(size_t side, size_t ports, size_t slots, const uint16_t *list, size_t list_length, const uint16_t *frame,
                                   size_t frame_length, size_t output, size_t start, size_t length, size_t *cells, int64_t *lead);
 
-/* Depth, since version 5.2: how far from its share a flow, an input or an output can get on the wire, and how many cells a buffer for it
- * has to hold. Both go by its load alone, which is looked up in the list. No frame and no limits are asked for.
+/* Depth: how far from its share a flow, an input or an output can get on the wire, and how many cells a buffer for it has to hold. Both go
+ * by its load alone, which is looked up in the list. No frame and no limits are asked for.
  *
  * The bound is in parts of 1/slots of a cell. Let Build make frames, of any lists, in all of which the load is this one, and let each be
  * carried any number of times. Then in no run of slots, over seams too, are the cells more than the bound above their share, or more than

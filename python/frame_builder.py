@@ -4,7 +4,8 @@ The calls are those of the C header frame_builder.h, over the shared library lib
 
 A switch has 1 to 16 ports, each an input and an output, both numbered from 1. A flow is so many cells per frame from an input to one of the
 up to four links of an output. A list has up to 512 flows, and a flow's number is its place there, from 1. A frame is slots x ports numbers,
-slot 1 first. Within a slot there is one number per input: that of the flow that it sends a cell of, or 0 where it is idle.
+slot 1 first, and has a side. On the input side a slot has one number per input: that of the flow that it sends a cell of, or 0 where it is
+idle. On the output side a slot has one number per output: that of the flow that it takes a cell of, or 0 where it is idle.
 
     >>> flows = [Flow(1, 1, 2), Flow(1, 2, 2), Flow(4, 1, 1), Flow(4, 2, 1), Flow(4, 4, 2)]
     >>> frame, settled = build(4, 4, flows)
@@ -16,6 +17,16 @@ slot 1 first. Within a slot there is one number per input: that of the flow that
     Count(cells=2, lead=4)
     >>> depth_flow(4, 4, flows, flow=5)
     Depth(parts=4, cells=2)
+    >>> by_output = turn(4, 4, flows, frame)
+    >>> slot_view(4, 4, by_output, 2).tolist()
+    [3, 2, 0, 0]
+    >>> inspect(4, 4, flows, by_output, side=Side.OUTPUT) is None
+    True
+
+SIDES. A frame of build is on the input side, and turn returns a frame by the other side. The functions inspect, turn, count_flow,
+count_input and count_output are told the side of the frame that they are given: the argument side is Side.INPUT or Side.OUTPUT, and is
+Side.INPUT where it is left out. Any whole number does as well: 0 is the input side, and every other number is the output side. The ports
+that a slot has numbers of are those of the frame's side, and the others are those of the other side.
 
 ANSWERS. A call that cannot be answered raises Refused, which has the number and the text of the refusal and its values. It raises the first
 refusal of its own order that holds. A refused call leaves everything as it was. Inspect returns a fault, and does not raise it.
@@ -27,6 +38,8 @@ ARRAYS. The arguments flows, limits and frame are lists, tuples or buffers:
 - A buffer is array.array("H"), a ctypes array, a memoryview, a NumPy array, a bytearray or anything else with the buffer protocol. One with
   16-bit numbers is used without a copy where it is contiguous, aligned and can be written. One with single bytes is taken as the memory of
   such numbers, two bytes to a number, the low byte first. The numbers of any other buffer are copied as those of a list are.
+
+What is written, the argument frame of build and the argument into of turn, is a list, or a buffer that is used without a copy.
 
 A number that is not whole raises TypeError. One that is negative, or too large for its place, raises ValueError. None is cut off.
 
@@ -44,6 +57,7 @@ ImportError says what was tried where none is found, and refuses a library that 
 from __future__ import annotations
 
 import ctypes
+import enum
 import operator
 import os
 from array import array
@@ -51,7 +65,7 @@ from dataclasses import dataclass
 from typing import NamedTuple, Optional
 
 # The first number of the version of the library whose calls this module makes. Those of another take other arguments.
-CALLS = 5
+CALLS = 6
 
 # Sizes.
 MAX_PORTS = 16
@@ -63,6 +77,10 @@ FLOW_NUMBERS = 4
 MAX_FLOW_CELLS = 65535
 MAX_FRAME_ENTRIES = 16384
 MAX_RUN_SLOTS = 1000000
+
+# Sides of a frame.
+INPUT_SIDE = 0
+OUTPUT_SIDE = 1
 
 # The most stack that a call takes, for threading.stack_size.
 STACK_BYTES = 28672
@@ -82,12 +100,14 @@ REFUSED_SHEET_LENGTH = 10
 REFUSED_SLOT_NUMBER = 11
 REFUSED_FLOW_OR_PORT = 12
 REFUSED_RUN_LENGTH = 13
+REFUSED_ENTRIES = 14
+REFUSED_SECOND_LENGTH = 15
 REFUSED_TOO_MANY_FLOWS = 21
 REFUSED_FLOW_PORT = 22
 REFUSED_FLOW_LINK = 23
 REFUSED_LINK_LOAD = 24
 FAULT_WRONG_ENTRY = 101
-FAULT_OUTPUT_TWICE = 102
+FAULT_PORT_TWICE = 102
 FAULT_FLOW_COUNT = 103
 FAULT_UNBALANCED_BLOCK = 104
 
@@ -105,12 +125,14 @@ _TEXTS = {
     REFUSED_SLOT_NUMBER: "the slot or the start is outside 1 to slots",
     REFUSED_FLOW_OR_PORT: "the flow is not in the list, or the port is outside 1 to ports",
     REFUSED_RUN_LENGTH: "the run is longer than 1,000,000 slots",
+    REFUSED_ENTRIES: "an entry of the frame is wrong, or a port is used twice in a slot",
+    REFUSED_SECOND_LENGTH: "the second buffer's length differs from the frame's",
     REFUSED_TOO_MANY_FLOWS: "there are more than 512 flows",
     REFUSED_FLOW_PORT: "a flow's input or output is outside 1 to ports",
     REFUSED_FLOW_LINK: "a flow's link is outside 1 to 4",
     REFUSED_LINK_LOAD: "a link's load is above its limit",
-    FAULT_WRONG_ENTRY: "an entry of the frame is no flow of its input",
-    FAULT_OUTPUT_TWICE: "an output is used twice in a slot",
+    FAULT_WRONG_ENTRY: "an entry of the frame is no flow of its port",
+    FAULT_PORT_TWICE: "a port of the other side is used twice in a slot",
     FAULT_FLOW_COUNT: "a flow is in the wrong number of slots",
     FAULT_UNBALANCED_BLOCK: "a block of slots is unbalanced",
 }
@@ -120,8 +142,8 @@ _VALUES = {
     REFUSED_INPUT_LOAD: ("port", "cells"),
     REFUSED_OUTPUT_LOAD: ("port", "cells"),
     REFUSED_LINK_LOAD: ("output", "link", "cells"),
-    FAULT_WRONG_ENTRY: ("slot", "input"),
-    FAULT_OUTPUT_TWICE: ("slot", "output"),
+    FAULT_WRONG_ENTRY: ("slot", "port"),
+    FAULT_PORT_TWICE: ("slot", "port"),
     FAULT_FLOW_COUNT: ("flow",),
     FAULT_UNBALANCED_BLOCK: ("slot", "size"),
 }
@@ -146,6 +168,22 @@ class Flow(NamedTuple):
     output: int
     cells: int
     link: int = 1
+
+
+class Side(enum.IntEnum):
+    """The side that a frame is on: whose numbers a slot has, one per input or one per output.
+
+    >>> Side.INPUT.other
+    <Side.OUTPUT: 1>
+    """
+
+    INPUT = INPUT_SIDE
+    OUTPUT = OUTPUT_SIDE
+
+    @property
+    def other(self) -> Side:
+        """The side that a frame of this side is on once it is turned."""
+        return Side.OUTPUT if self is Side.INPUT else Side.INPUT
 
 
 class Built(NamedTuple):
@@ -184,16 +222,18 @@ class Fault:
 
     It has a number, and a text for it. Where the fault is depends on the number, and what a number does not have is None:
 
-    - 101, FAULT_WRONG_ENTRY: slot and input
-    - 102, FAULT_OUTPUT_TWICE: slot and output
+    - 101, FAULT_WRONG_ENTRY: slot, and port, the one of the frame's side at whose place the entry stands
+    - 102, FAULT_PORT_TWICE: slot, and port, the one of the other side
     - 103, FAULT_FLOW_COUNT: flow
     - 104, FAULT_UNBALANCED_BLOCK: slot, the first of the block, and size, its slots
+
+    So the port of 101 is an input on the input side and an output on the output side. The port of 102 is an output on the input side and an
+    input on the output side.
     """
 
     number: int
     slot: Optional[int] = None
-    input: Optional[int] = None
-    output: Optional[int] = None
+    port: Optional[int] = None
     flow: Optional[int] = None
     size: Optional[int] = None
 
@@ -204,7 +244,7 @@ class Fault:
 
     @property
     def places(self) -> dict:
-        """Where the fault is, by name, such as {"slot": 2, "input": 4}."""
+        """Where the fault is, by name, such as {"slot": 2, "port": 4}."""
         return {name: getattr(self, name) for name in _VALUES.get(self.number, ())}
 
     def __str__(self):
@@ -271,14 +311,16 @@ _SIZE = ctypes.c_size_t
 _NUMBERS = ctypes.POINTER(ctypes.c_uint16)
 _SHAPE = (_SIZE, _SIZE)
 _SLICE = (_NUMBERS, _SIZE)
-_COUNTED = (*_SHAPE, *_SLICE, *_SLICE, _SIZE, _SIZE, _SIZE)
+_FRAME = (_SIZE, *_SHAPE, *_SLICE, *_SLICE)
+_COUNTED = (*_FRAME, _SIZE, _SIZE, _SIZE)
 _ASKED = (*_SHAPE, *_SLICE, _SIZE)
 
 # Of each call what it is given, and what it is lent to write to.
 _SIGNATURES = {
     "admit": ((*_SHAPE, *_SLICE, _NUMBERS), (_SIZE, _SIZE, _SIZE)),
     "build": ((*_SHAPE, *_SLICE, _NUMBERS, *_SLICE), (_SIZE, _SIZE, _SIZE)),
-    "inspect": ((*_SHAPE, *_SLICE, *_SLICE), (_SIZE, _SIZE)),
+    "inspect": (_FRAME, (_SIZE, _SIZE)),
+    "turn": ((*_FRAME, *_SLICE), ()),
     "slot_view": ((*_SHAPE, *_SLICE, _SIZE), (_SIZE, _SIZE)),
     "count_flow": (_COUNTED, (_SIZE, ctypes.c_int64)),
     "count_input": (_COUNTED, (_SIZE, ctypes.c_int64)),
@@ -289,7 +331,7 @@ _SIGNATURES = {
 }
 
 # The version that each call came with, where that is not the first of CALLS.
-_SINCE = {"depth_flow": "5.2", "depth_input": "5.2", "depth_output": "5.2"}
+_SINCE = {}
 
 _SONAME = f"libframe_builder.so.{CALLS}"
 _VARIABLE = "FRAME_BUILDER_LIBRARY"
@@ -389,6 +431,11 @@ def _slice(numbers):
     return numbers, len(numbers)
 
 
+def _frame(side, ports, slots, flows, frame):
+    """What a call is given that looks at a frame: the side, the shape, the list and the frame."""
+    return _size(side, "side"), *_shape(ports, slots), *_slice(_list(flows)), *_slice(_read(frame, "frame"))
+
+
 def _numbers_of(values, name):
     """A list of whole numbers as an array of 16-bit numbers."""
     try:
@@ -471,14 +518,14 @@ def _limits(limits, slots):
     return numbers
 
 
-def _written(frame):
-    """The argument frame where it is written: its own memory, or new memory for a list."""
+def _written(frame, name):
+    """An argument that is written: its own memory, or new memory for a list."""
     if isinstance(frame, list):
         return (ctypes.c_uint16 * len(frame))()
     view = _memory(frame)
-    numbers = None if view is None else _lent(view, "frame")
+    numbers = None if view is None else _lent(view, name)
     if numbers is None:
-        raise TypeError("frame has to be a list, or a contiguous and aligned buffer of 16-bit numbers or of bytes that can be written")
+        raise TypeError(f"{name} has to be a list, or a contiguous and aligned buffer of 16-bit numbers or of bytes that can be written")
     return numbers
 
 
@@ -532,8 +579,9 @@ def admit(ports: int, slots: int, flows, limits=None) -> None:
 def build(ports: int, slots: int, flows, limits=None, frame=None) -> Built:
     """Lays the cells of the flows into a frame: returns Built, the frame and how many odd counts were settled for it.
 
-    Without the argument frame a new array.array("H") is made. A frame that is given, a list or a buffer of slots x ports numbers, is filled
-    in place. A refusal leaves it as it was. The limits are those of admit. The odd counts settled say how much work the build was.
+    The frame is on the input side. Without the argument frame a new array.array("H") is made. A frame that is given, a list or a buffer of
+    slots x ports numbers, is filled in place. A refusal leaves it as it was. The limits are those of admit. The odd counts settled say how
+    much work the build was.
 
     Refusals, in their order: 1, 2, 3, 21, 22, 23, 4, 5, 6, 24.
 
@@ -559,14 +607,14 @@ def _entries(ports, slots):
 def _fill(ports, slots, flows, limits, frame):
     """What Build answers. It fills memory, which an accepted list then has its numbers from."""
     shape, numbers, most = _shape(ports, slots), _list(flows), _limits(limits, slots)
-    written = _written(frame)
+    written = _written(frame, "frame")
     answer = _ask("build", shape, _slice(_apart(numbers, written)), [_apart(most, written)], _slice(written))
     if answer[0] == ACCEPTED and isinstance(frame, list):
         frame[:] = written
     return answer
 
 
-def inspect(ports: int, slots: int, flows, frame) -> Optional[Fault]:
+def inspect(ports: int, slots: int, flows, frame, side: int = Side.INPUT) -> Optional[Fault]:
     """Looks over a frame from anywhere: returns None where it is clean, or its first Fault, and raises Refused where it cannot tell.
 
     A frame is clean that carries the cells of every flow, each in a slot of its own, and is balanced. The limits are not asked for.
@@ -576,20 +624,63 @@ def inspect(ports: int, slots: int, flows, frame) -> Optional[Fault]:
     >>> flows = [Flow(1, 2, 1), Flow(2, 2, 1)]
     >>> inspect(2, 2, flows, [1, 0, 0, 2])
     >>> fault = inspect(2, 2, flows, [1, 2, 0, 0])
-    >>> fault.number, fault.slot, fault.output
+    >>> fault.number, fault.slot, fault.port
     (102, 1, 2)
     >>> print(fault)
-    fault 102: an output is used twice in a slot (slot 1, output 2)
+    fault 102: a port of the other side is used twice in a slot (slot 1, port 2)
+    >>> inspect(2, 2, flows, [0, 1, 0, 2], side=Side.OUTPUT)
+    >>> print(inspect(2, 2, flows, [1, 0, 0, 2], side=Side.OUTPUT))
+    fault 101: an entry of the frame is no flow of its port (slot 1, port 1)
     """
-    number, *values = _ask("inspect", _shape(ports, slots), _slice(_list(flows)), _slice(_read(frame, "frame")))
+    number, *values = _ask("inspect", _frame(side, ports, slots, flows, frame))
     if number >= FAULT_WRONG_ENTRY:
         return Fault(number, **_by_name(number, values))
     _accepted(number)
     return None
 
 
+def turn(ports: int, slots: int, flows, frame, side: int = Side.INPUT, into=None):
+    """Turns a frame: returns the frame by the other side.
+
+    The argument side is the frame's own. So whoever turns a frame back tells the other side. Each flow stands in the same slots as before,
+    now at its port of the other side, and every place without a flow is 0. Where a frame turns, the sides agree: inspect and the counts,
+    told the other side, answer of the turned frame what they answer of the frame. Turned back, it has its first numbers again. All this is
+    proved.
+
+    Without the argument into a new array.array("H") is made. What is given there, a list or a buffer of as many numbers as the frame has,
+    is filled in place and returned. It may be the frame itself. A refusal leaves it as it was.
+
+    Refusals, in their order: 1, 2, 3, 21, 22, 23, 4, 15, 14. A frame is refused with 14 where inspect finds 101 or 102 in it.
+
+    >>> flows = [Flow(1, 2, 2), Flow(2, 1, 1)]
+    >>> turn(2, 2, flows, [1, 2, 1, 0])
+    array('H', [2, 1, 0, 1])
+    >>> turn(2, 2, flows, [2, 1, 0, 1], side=Side.OUTPUT, into=[0] * 4)
+    [1, 2, 1, 0]
+    >>> turn(2, 2, flows, [2, 1, 0, 1])
+    Traceback (most recent call last):
+    frame_builder.Refused: refused 14: an entry of the frame is wrong, or a port is used twice in a slot
+    """
+    if _memory(frame) is None:
+        frame = _values_of(frame, "frame")
+    if into is None:
+        into = array("H", bytes(2 * len(_read(frame, "frame"))))
+    _accepted(*_fill_turned(ports, slots, flows, frame, side, into))
+    return into
+
+
+def _fill_turned(ports, slots, flows, frame, side, into):
+    """What Turn answers. It fills memory, which an accepted list then has its numbers from."""
+    told, shape, numbers, entries = _size(side, "side"), _shape(ports, slots), _list(flows), _read(frame, "frame")
+    written = _written(into, "into")
+    answer = _ask("turn", [told], shape, _slice(_apart(numbers, written)), _slice(_apart(entries, written)), _slice(written))
+    if answer[0] == ACCEPTED and isinstance(into, list):
+        into[:] = written
+    return answer
+
+
 def slot_view(ports: int, slots: int, frame, slot: int):
-    """The slot's part of the frame, one number per input.
+    """The slot's part of the frame, one number per port of the frame's side. It is the same part on either side.
 
     Of a contiguous buffer of 16-bit numbers or of bytes it is a memoryview: the frame's own memory and no copy. Of any other frame it is a
     list.
@@ -614,10 +705,10 @@ def slot_view(ports: int, slots: int, frame, slot: int):
     return view.cast("B").cast("H")[start : start + size]
 
 
-def count_flow(ports: int, slots: int, flows, frame, flow: int, start: int, length: int) -> Count:
+def count_flow(ports: int, slots: int, flows, frame, flow: int, start: int, length: int, side: int = Side.INPUT) -> Count:
     """Counts the cells of a flow in a run of the repeating frame, length slots from slot start on: returns a Count.
 
-    The frame may have any entries. Those that are the flow's number are counted, at whatever input they stand. After the last slot comes
+    The frame may have any entries. Those that are the flow's number are counted, at whatever port they stand. After the last slot comes
     slot 1 again. The cells of a link are the sum of the cells of its flows, and its lead is the sum of their leads.
 
     Refusals, in their order: 1, 2, 3, 21, 22, 23, 4, 11, 12, 13.
@@ -625,26 +716,38 @@ def count_flow(ports: int, slots: int, flows, frame, flow: int, start: int, leng
     >>> count_flow(1, 4, [Flow(1, 1, 3)], [1, 1, 1, 0], flow=1, start=4, length=2)
     Count(cells=1, lead=-2)
     """
-    return _count("count_flow", ports, slots, flows, frame, _size(flow, "flow"), start, length)
+    return _count("count_flow", ports, slots, flows, frame, side, _size(flow, "flow"), start, length)
 
 
-def count_input(ports: int, slots: int, flows, frame, input: int, start: int, length: int) -> Count:
-    """Counts the cells of an input in a run of the repeating frame, as count_flow does. Its entries that are not 0 are counted."""
-    return _count("count_input", ports, slots, flows, frame, _size(input, "input"), start, length)
+def count_input(ports: int, slots: int, flows, frame, input: int, start: int, length: int, side: int = Side.INPUT) -> Count:
+    """Counts the cells of an input in a run of the repeating frame, as count_flow does.
+
+    On the input side the input's own entries that are not 0 are counted. On the output side the entries are counted that are the number of
+    a flow from the input, at whatever output they stand. There the cells of the total are the sum of the cells of all inputs, and its lead
+    is the sum of their leads.
+    """
+    return _count("count_input", ports, slots, flows, frame, side, _size(input, "input"), start, length)
 
 
-def count_output(ports: int, slots: int, flows, frame, output: int, start: int, length: int) -> Count:
+def count_output(ports: int, slots: int, flows, frame, output: int, start: int, length: int, side: int = Side.INPUT) -> Count:
     """Counts the cells to an output in a run of the repeating frame, as count_flow does.
 
-    The entries are counted that are the number of a flow to the output, at whatever input they stand. The cells of the total are the sum of
-    the cells of all outputs, and its lead is the sum of their leads.
+    On the input side the entries are counted that are the number of a flow to the output, at whatever input they stand. There the cells of
+    the total are the sum of the cells of all outputs, and its lead is the sum of their leads. On the output side the output's own entries
+    that are not 0 are counted.
+
+    >>> flows = [Flow(1, 2, 2), Flow(2, 1, 1)]
+    >>> count_output(2, 2, flows, [1, 2, 1, 0], output=2, start=1, length=3)
+    Count(cells=3, lead=0)
+    >>> count_output(2, 2, flows, [2, 1, 0, 1], output=2, start=1, length=3, side=Side.OUTPUT)
+    Count(cells=3, lead=0)
     """
-    return _count("count_output", ports, slots, flows, frame, _size(output, "output"), start, length)
+    return _count("count_output", ports, slots, flows, frame, side, _size(output, "output"), start, length)
 
 
-def _count(call, ports, slots, flows, frame, whose, start, length):
+def _count(call, ports, slots, flows, frame, side, whose, start, length):
     run = (whose, _size(start, "start"), _size(length, "length"))
-    return Count(*_accepted(*_ask(call, _shape(ports, slots), _slice(_list(flows)), _slice(_read(frame, "frame")), run)))
+    return Count(*_accepted(*_ask(call, _frame(side, ports, slots, flows, frame), run)))
 
 
 def depth_flow(ports: int, slots: int, flows, flow: int) -> Depth:

@@ -16,8 +16,8 @@ import threading
 import unittest
 
 import frame_builder
-from frame_builder import Count, Depth, Fault, Flow, Refused, admit, build, count_flow, count_input, count_output
-from frame_builder import depth_flow, depth_input, depth_output, inspect, slot_view
+from frame_builder import Count, Depth, Fault, Flow, Refused, Side, admit, build, count_flow, count_input, count_output
+from frame_builder import depth_flow, depth_input, depth_output, inspect, slot_view, turn
 
 TOP = os.path.dirname(os.path.dirname(os.path.abspath(__file__)))
 MODULE = os.path.join(TOP, "python", "frame_builder.py")
@@ -26,6 +26,10 @@ MODULE = os.path.join(TOP, "python", "frame_builder.py")
 TABLE7 = [Flow(1, 1, 2), Flow(1, 2, 2), Flow(4, 1, 1), Flow(4, 2, 1), Flow(4, 4, 2)]
 TABLE7_NUMBERS = [number for flow in TABLE7 for number in flow]
 TABLE7_FRAME = [1, 0, 0, 5, 2, 0, 0, 3, 1, 0, 0, 4, 2, 0, 0, 5]
+TABLE7_BY_OUTPUT = [1, 0, 0, 5, 3, 2, 0, 0, 1, 4, 0, 0, 0, 2, 0, 5]
+
+# Numbers for the output side.
+OUTPUTS = (Side.OUTPUT, 1, 2, 256, 2**32, 2**64 - 1, True)
 
 
 def file_text(*names):
@@ -61,7 +65,7 @@ class Header(unittest.TestCase):
 
     def test_text_of_no_answer(self):
         (said,) = re.findall(r"default:\s+return \"(.*)\";", self.HEADER)
-        for number in (9, 14, 25, 100, 105, -1, 2**64):
+        for number in (9, 16, 25, 100, 105, -1, 2**64):
             self.assertEqual(frame_builder.text(number), said)
 
     def test_every_later_version(self):
@@ -70,6 +74,10 @@ class Header(unittest.TestCase):
             calls = re.findall(r"^size_t frame_builder_(\w+)\(", comment, re.MULTILINE)
             since.update((call, version) for version in re.findall(r"since version (\d+\.\d+)", comment) for call in calls)
         self.assertEqual(since, frame_builder._SINCE)
+
+    def test_sides(self):
+        self.assertEqual([(side.name, int(side)) for side in Side], [("INPUT", 0), ("OUTPUT", 1)])
+        self.assertEqual((Side.INPUT.other, Side.OUTPUT.other), (Side.OUTPUT, Side.INPUT))
 
     def test_every_call(self):
         declared = re.findall(r"^size_t frame_builder_(\w+)\(", self.HEADER, re.MULTILINE)
@@ -139,8 +147,9 @@ class Answers(unittest.TestCase):
 
     def test_inspect(self):
         self.assertIsNone(inspect(4, 4, TABLE7, TABLE7_FRAME))
-        self.refuses_list(inspect, TABLE7_FRAME)
-        self.refused(4, inspect, 4, 4, TABLE7, TABLE7_FRAME[1:])
+        for side in Side:
+            self.refuses_list(inspect, TABLE7_FRAME, side)
+            self.refused(4, inspect, 4, 4, TABLE7, TABLE7_FRAME[1:], side)
 
     def test_faults(self):
         def damaged(*entries):
@@ -148,8 +157,8 @@ class Answers(unittest.TestCase):
 
         bunched = [1, 0, 0, 5, 1, 0, 0, 4, 2, 0, 0, 3, 2, 0, 0, 5]
         for frame, fault, places in (
-            (damaged((7, 6)), Fault(101, slot=2, input=4), {"slot": 2, "input": 4}),
-            (damaged((11, 3)), Fault(102, slot=3, output=1), {"slot": 3, "output": 1}),
+            (damaged((7, 6)), Fault(101, slot=2, port=4), {"slot": 2, "port": 4}),
+            (damaged((11, 3)), Fault(102, slot=3, port=1), {"slot": 3, "port": 1}),
             (damaged((15, 0)), Fault(103, flow=5), {"flow": 5}),
             (bunched, Fault(104, slot=1, size=4), {"slot": 1, "size": 4}),
         ):
@@ -158,6 +167,49 @@ class Answers(unittest.TestCase):
             self.assertEqual(found.places, places)
             self.assertEqual(found.text, frame_builder.text(fault.number))
             self.assertTrue(str(found).startswith(f"fault {fault.number}: {found.text} ("), str(found))
+
+    def test_faults_by_output(self):
+        def damaged(*entries):
+            return [dict(entries).get(place, entry) for place, entry in enumerate(TABLE7_BY_OUTPUT)]
+
+        bunched = [1, 0, 0, 5, 1, 4, 0, 0, 3, 2, 0, 0, 0, 2, 0, 5]
+        for side in OUTPUTS:
+            self.assertIsNone(inspect(4, 4, TABLE7, TABLE7_BY_OUTPUT, side=side))
+            for frame, fault in (
+                (TABLE7_FRAME, Fault(101, slot=2, port=1)),
+                (damaged((5, 6)), Fault(101, slot=2, port=2)),
+                (damaged((8, 3)), Fault(102, slot=3, port=4)),
+                (damaged((15, 0)), Fault(103, flow=5)),
+                (bunched, Fault(104, slot=1, size=4)),
+            ):
+                self.assertEqual(inspect(4, 4, TABLE7, frame, side=side), fault)
+        self.assertEqual(inspect(4, 4, TABLE7, TABLE7_BY_OUTPUT), Fault(101, slot=2, port=1))
+
+    def test_turn(self):
+        for side in (0, Side.INPUT, False):
+            self.assertEqual(turn(4, 4, TABLE7, TABLE7_FRAME, side), array.array("H", TABLE7_BY_OUTPUT))
+        for side in OUTPUTS:
+            self.assertEqual(turn(4, 4, TABLE7, TABLE7_BY_OUTPUT, side), array.array("H", TABLE7_FRAME))
+        self.assertEqual(turn(1, 1, [], [0]).tolist(), [0])
+
+    def test_refused_turns(self):
+        for side in Side:
+            self.refuses_list(turn, TABLE7_FRAME, side)
+            self.refused(4, turn, 4, 4, TABLE7, TABLE7_FRAME[1:], side)
+            self.refused(4, turn, 4, 4, TABLE7, TABLE7_FRAME[1:], side, [0] * 16)
+            self.refused(4, turn, 4, 4, TABLE7, [], side, [])
+            for length in (0, 15, 17):
+                self.refused(15, turn, 4, 4, TABLE7, [9] * 16, side, [0] * length)
+            self.refused(14, turn, 4, 4, TABLE7, [9] * 16, side)
+        self.refused(14, turn, 4, 4, TABLE7, TABLE7_BY_OUTPUT, Side.INPUT)
+        self.refused(14, turn, 4, 4, TABLE7, TABLE7_FRAME, Side.OUTPUT)
+        self.refused(14, turn, 2, 1, [Flow(1, 2, 1), Flow(2, 2, 1)], [1, 2], Side.INPUT)
+        self.refused(14, turn, 2, 1, [Flow(1, 1, 1), Flow(1, 2, 1)], [1, 2], Side.OUTPUT)
+
+    def test_refused_turn_keeps_the_buffer(self):
+        for into in ([9] * 16, array.array("H", [9] * 16)):
+            self.refused(14, turn, 4, 4, TABLE7, TABLE7_FRAME, Side.OUTPUT, into)
+            self.assertEqual(list(into), [9] * 16)
 
     def test_slot_view(self):
         for slot in range(1, 5):
@@ -175,15 +227,30 @@ class Answers(unittest.TestCase):
         self.assertEqual(count_input(*given, input=4, start=1, length=1000000), Count(1000000, 0))
         self.assertEqual(count_output(*given, output=1, start=3, length=3), Count(2, -1))
 
+    def test_counts_by_output(self):
+        given = (4, 4, TABLE7, TABLE7_BY_OUTPUT)
+        # Any numbers: flow 1 at every port of two slots, and a number that is no flow at port 4 of slot 4.
+        crowded = (4, 4, TABLE7, [1] * 8 + [0] * 7 + [513])
+        self.assertEqual(count_input(*crowded, input=4, start=4, length=1), Count(1, 1))
+        self.assertEqual(count_output(*crowded, output=1, start=1, length=2), Count(8, 16))
+        for side in OUTPUTS:
+            self.assertEqual(count_flow(*given, flow=5, start=4, length=2, side=side), Count(2, 4))
+            self.assertEqual(count_input(*given, input=4, start=1, length=1000000, side=side), Count(1000000, 0))
+            self.assertEqual(count_output(*given, output=1, start=3, length=3, side=side), Count(2, -1))
+            self.assertEqual(count_flow(*crowded, flow=1, start=1, length=2, side=side), Count(8, 16))
+            self.assertEqual(count_input(*crowded, input=1, start=1, length=2, side=side), Count(8, 16))
+            self.assertEqual(count_input(*crowded, input=4, start=4, length=1, side=side), Count(0, 0))
+            self.assertEqual(count_output(*crowded, output=4, start=4, length=1, side=side), Count(1, 1))
+
     def test_refused_counts(self):
-        for call in (count_flow, count_input, count_output):
-            self.refuses_list(call, TABLE7_FRAME, 1, 1, 1)
-            self.refused(4, call, 4, 4, TABLE7, TABLE7_FRAME[1:], 1, 1, 1)
-            self.refused(11, call, 4, 4, TABLE7, TABLE7_FRAME, 1, 0, 1)
-            self.refused(11, call, 4, 4, TABLE7, TABLE7_FRAME, 1, 5, 1)
-            self.refused(12, call, 4, 4, TABLE7, TABLE7_FRAME, 0, 1, 1)
-            self.refused(12, call, 4, 4, TABLE7, TABLE7_FRAME, 6, 1, 1)
-            self.refused(13, call, 4, 4, TABLE7, TABLE7_FRAME, 1, 1, 1000001)
+        for call, side in itertools.product((count_flow, count_input, count_output), Side):
+            self.refuses_list(call, TABLE7_FRAME, 1, 1, 1, side)
+            self.refused(4, call, 4, 4, TABLE7, TABLE7_FRAME[1:], 1, 1, 1, side)
+            self.refused(11, call, 4, 4, TABLE7, TABLE7_FRAME, 1, 0, 1, side)
+            self.refused(11, call, 4, 4, TABLE7, TABLE7_FRAME, 1, 5, 1, side)
+            self.refused(12, call, 4, 4, TABLE7, TABLE7_FRAME, 0, 1, 1, side)
+            self.refused(12, call, 4, 4, TABLE7, TABLE7_FRAME, 6, 1, 1, side)
+            self.refused(13, call, 4, 4, TABLE7, TABLE7_FRAME, 1, 1, 1000001, side)
 
     def test_depths(self):
         flows = [Flow(1, 1, 512), Flow(2, 2, 100), Flow(2, 1, 241, link=4), Flow(3, 3, 0)]
@@ -274,6 +341,9 @@ class Arrays(unittest.TestCase):
         self.in_every_form(TABLE7_FRAME, lambda form: self.assertIsNone(inspect(4, 4, TABLE7, form)))
         self.in_every_form(TABLE7_FRAME, lambda form: self.assertEqual(count_flow(4, 4, TABLE7, form, 5, 4, 2), Count(2, 4)))
 
+    def test_frame_that_is_turned(self):
+        self.in_every_form(TABLE7_FRAME, lambda form: self.assertEqual(turn(4, 4, TABLE7, form).tolist(), TABLE7_BY_OUTPUT))
+
     def test_frame_that_is_viewed(self):
         for name, form in itertools.chain(buffers(TABLE7_FRAME), other_forms(TABLE7_FRAME)):
             with self.subTest(name):
@@ -286,21 +356,49 @@ class Arrays(unittest.TestCase):
                 self.assertIs(built.frame, form)
                 self.assertEqual(memoryview(form).tobytes(), array.array("H", TABLE7_FRAME).tobytes())
 
+    def test_second_buffer_that_is_written(self):
+        for name, form in buffers([7] * 16):
+            with self.subTest(name):
+                self.assertIs(turn(4, 4, TABLE7, TABLE7_FRAME, into=form), form)
+                self.assertEqual(memoryview(form).tobytes(), array.array("H", TABLE7_BY_OUTPUT).tobytes())
+
     def test_list_that_is_written(self):
         frame = [None] * 16
         self.assertIs(build(4, 4, TABLE7, frame=frame).frame, frame)
         self.assertEqual(frame, TABLE7_FRAME)
+        into = [None] * 16
+        self.assertIs(turn(4, 4, TABLE7, frame, into=into), into)
+        self.assertEqual((frame, into), (TABLE7_FRAME, TABLE7_BY_OUTPUT))
 
     def test_frame_that_cannot_be_written(self):
         for name, form in other_forms([0] * 16):
             if name != "list":
-                with self.subTest(name), self.assertRaisesRegex(TypeError, "frame has to be a list, or"):
+                with self.subTest(name), self.assertRaisesRegex(TypeError, "^frame has to be a list, or"):
                     build(4, 4, TABLE7, frame=form)
+        for name, form in other_forms([0] * 16):
+            if name != "list":
+                with self.subTest(name), self.assertRaisesRegex(TypeError, "^into has to be a list, or"):
+                    turn(4, 4, TABLE7, TABLE7_FRAME, into=form)
 
     def test_part_of_larger_memory(self):
         memory = array.array("H", [7] * 48)
         build(4, 4, TABLE7, frame=memoryview(memory)[16:32])
         self.assertEqual(memory.tolist(), [7] * 16 + TABLE7_FRAME + [7] * 16)
+        turn(4, 4, TABLE7, memoryview(memory)[16:32], into=memoryview(memory)[32:])
+        self.assertEqual(memory.tolist(), [7] * 16 + TABLE7_FRAME + TABLE7_BY_OUTPUT)
+
+    def test_frame_that_is_turned_in_place(self):
+        for frame in (list(TABLE7_FRAME), array.array("H", TABLE7_FRAME)):
+            self.assertIs(turn(4, 4, TABLE7, frame, into=frame), frame)
+            self.assertEqual(list(frame), TABLE7_BY_OUTPUT)
+            turn(4, 4, TABLE7, frame, Side.OUTPUT, frame)
+            self.assertEqual(list(frame), TABLE7_FRAME)
+        # A part of the frame, and the list of flows.
+        memory = memoryview(array.array("H", TABLE7_FRAME + [7] * 8))
+        turn(4, 4, TABLE7, memory[:16], into=memory[8:])
+        self.assertEqual(memory.tolist(), TABLE7_FRAME[:8] + TABLE7_BY_OUTPUT)
+        flows = array.array("H", [1, 1, 2, 1])
+        self.assertEqual(turn(1, 4, flows, [1, 0, 1, 0], into=flows).tolist(), [1, 0, 1, 0])
 
     def test_view_is_no_copy(self):
         for name, form in buffers(TABLE7_FRAME):
@@ -317,7 +415,7 @@ class Arrays(unittest.TestCase):
 
     def test_what_is_written_is_apart(self):
         memory = memoryview(array.array("H", range(12)))
-        frame = frame_builder._written(memory[4:8])
+        frame = frame_builder._written(memory[4:8], "frame")
         for begin, end, shared in ((0, 4, False), (1, 5, True), (4, 8, True), (5, 6, True), (7, 11, True), (8, 12, False)):
             numbers = frame_builder._read(memory[begin:end], "flows")
             apart = frame_builder._apart(numbers, frame)
@@ -327,6 +425,8 @@ class Arrays(unittest.TestCase):
         for call in (
             lambda flows, frame: build(4, 8, flows, frame=frame),
             lambda flows, frame: inspect(4, 8, flows, frame),
+            lambda flows, frame: turn(4, 8, flows, frame),
+            lambda flows, frame: turn(4, 8, flows, [0] * 16, into=frame),
             lambda flows, frame: slot_view(4, 8, frame, 1),
             lambda flows, frame: count_flow(4, 8, flows, frame, 1, 1, 1),
         ):
@@ -346,6 +446,8 @@ class Arrays(unittest.TestCase):
                 admit(4, 4, TABLE7, limits)
         with self.assertRaisesRegex(ValueError, "frame has 31 bytes, which are no whole number of 16-bit numbers"):
             inspect(4, 4, TABLE7, bytes(31))
+        with self.assertRaisesRegex(ValueError, "into has 31 bytes, which are no whole number of 16-bit numbers"):
+            turn(4, 4, TABLE7, TABLE7_FRAME, into=bytearray(31))
         with self.assertRaisesRegex(ValueError, "flows has 7 bytes"):
             admit(4, 4, bytearray(7))
 
@@ -374,6 +476,9 @@ class Numbers(unittest.TestCase):
             for call, name in ((depth_flow, "flow"), (depth_input, "input"), (depth_output, "output")):
                 with self.assertRaisesRegex(error, f"^{name} is "):
                     call(4, 4, TABLE7, bad)
+            for call, *rest in ((inspect,), (turn,), (count_flow, 1, 1, 1), (count_input, 1, 1, 1), (count_output, 1, 1, 1)):
+                with self.assertRaisesRegex(error, "^side is "):
+                    call(4, 4, TABLE7, TABLE7_FRAME, *rest, side=bad)
 
     def test_numbers_of_arrays(self):
         for bad, error in ((-1, ValueError), (65536, ValueError), (2**70, ValueError), *self.NOT_WHOLE):
@@ -385,6 +490,8 @@ class Numbers(unittest.TestCase):
                 admit(4, 4, TABLE7, [4] * 63 + [bad])
             with self.assertRaisesRegex(error, r"^frame\[15\] is "):
                 inspect(4, 4, TABLE7, TABLE7_FRAME[:15] + [bad])
+            with self.assertRaisesRegex(error, r"^frame\[15\] is "):
+                turn(4, 4, TABLE7, TABLE7_FRAME[:15] + [bad])
 
     def test_numbers_of_buffers(self):
         for typecode, bad in (("h", -1), ("I", 65536), ("q", -65535)):
@@ -401,6 +508,8 @@ class Numbers(unittest.TestCase):
                 admit(4, 4, nothing)
             with self.assertRaisesRegex(TypeError, "^frame is .*, and has to be a list, a tuple or a buffer"):
                 inspect(4, 4, TABLE7, nothing)
+            with self.assertRaisesRegex(TypeError, "^frame is .*, and has to be a list, a tuple or a buffer"):
+                turn(4, 4, TABLE7, nothing)
         for flow in ((1, 1), (1, 1, 1, 1, 1), "ab", {}, 3):
             with self.assertRaisesRegex(TypeError, "^flow 2 is .*, and has to be a Flow, or a tuple of its three or four numbers"):
                 admit(4, 4, [Flow(1, 1, 1), flow])
@@ -503,10 +612,25 @@ class Frames(unittest.TestCase):
                     outputs = [flows[entry - 1].output for entry in slot_view(ports, slots, frame, slot) if entry]
                     self.assertEqual(len(outputs), len(set(outputs)))
 
+    def test_random_turns(self):
+        for seed in range(300):
+            with self.subTest(seed=seed):
+                ports, slots, flows = random_case(seed)
+                frame = build(ports, slots, flows).frame
+                turned = turn(ports, slots, flows, frame)
+                for slot in range(1, slots + 1):
+                    taken = {flows[entry - 1].output: entry for entry in slot_view(ports, slots, frame, slot) if entry}
+                    self.assertEqual(
+                        slot_view(ports, slots, turned, slot).tolist(), [taken.get(port, 0) for port in range(1, ports + 1)]
+                    )
+                self.assertIsNone(inspect(ports, slots, flows, turned, Side.OUTPUT))
+                self.assertEqual(turn(ports, slots, flows, turned, Side.OUTPUT), frame)
+
     def test_random_counts(self):
         for seed in range(100):
             ports, slots, flows = random_case(seed)
             frame = build(ports, slots, flows).frame.tolist()
+            turned = turn(ports, slots, flows, frame)
             start, length = seed % slots + 1, seed * 7 % (3 * slots)
             run = [entry for slot in range(start - 1, start - 1 + length) for entry in frame[slot % slots * ports :][:ports]]
             found, whole = tally(ports, flows, run), tally(ports, flows, frame)
@@ -515,11 +639,13 @@ class Frames(unittest.TestCase):
                 return Count(found.get(each, 0), slots * found.get(each, 0) - length * whole.get(each, 0))
 
             with self.subTest(seed=seed):
-                for port in range(1, ports + 1):
-                    self.assertEqual(count_input(ports, slots, flows, frame, port, start, length), expected("input", port))
-                    self.assertEqual(count_output(ports, slots, flows, frame, port, start, length), expected("output", port))
+                for given, side in ((frame, Side.INPUT), (turned, Side.OUTPUT)):
+                    for port in range(1, ports + 1):
+                        self.assertEqual(count_input(ports, slots, flows, given, port, start, length, side), expected("input", port))
+                        self.assertEqual(count_output(ports, slots, flows, given, port, start, length, side), expected("output", port))
+                    for flow in range(1, len(flows) + 1, 7):
+                        self.assertEqual(count_flow(ports, slots, flows, given, flow, start, length, side), expected("flow", flow))
                 for flow in range(1, len(flows) + 1, 7):
-                    self.assertEqual(count_flow(ports, slots, flows, frame, flow, start, length), expected("flow", flow))
                     self.assertLessEqual(abs(expected("flow", flow).lead), depth_flow(ports, slots, flows, flow).parts)
 
     def test_threads(self):
@@ -621,8 +747,28 @@ class Library(unittest.TestCase):
     def test_an_older_version(self):
         calls = "".join(f"int frame_builder_{call}(void) {{ return 0; }}\n" for call in frame_builder._SIGNATURES)
         library = self.linked(calls, f"FRAME_BUILDER_{frame_builder.CALLS} {{ global: *; }};\n")
-        said = self.version(self.module_in("any"), FRAME_BUILDER_LIBRARY=library)
-        self.assertIn(f"{library} has no call depth_flow of version 5.2, which this module makes", said)
+        later = f"{frame_builder.CALLS}.77"
+        said = self.version(self.module_since("turn", later), FRAME_BUILDER_LIBRARY=library)
+        self.assertIn(f"{library} has no call turn of version {later}, which this module makes", said)
+
+    def test_a_later_version(self):
+        calls = "".join(f"int frame_builder_{call}(void) {{ return 0; }}\n" for call in frame_builder._SIGNATURES)
+        major, later = frame_builder.CALLS, f"{frame_builder.CALLS}.77"
+        versions = f"FRAME_BUILDER_{later} {{ global: frame_builder_turn; }};\nFRAME_BUILDER_{major} {{ global: *; }};\n"
+        library = self.linked(calls, versions)
+        self.assertEqual(self.version(self.module_since("turn", later), FRAME_BUILDER_LIBRARY=library), str(major))
+        said = self.version(self.module_in("other"), FRAME_BUILDER_LIBRARY=library)
+        self.assertIn(f"{library} has no call turn of version {major}, which this module makes", said)
+
+    def module_since(self, call, version):
+        """A folder with a module that says of a call that it came with a later version."""
+        folder = self.module_in("any")
+        lines = file_text("python", "frame_builder.py").splitlines(keepends=True)
+        (place,) = [place for place, line in enumerate(lines) if line.startswith("_SINCE = {")]
+        lines[place] = f"_SINCE = {{{call!r}: {version!r}}}\n"
+        with open(os.path.join(folder, "frame_builder.py"), "w", encoding="utf-8") as file:
+            file.writelines(lines)
+        return folder
 
 
 def load_tests(loader, tests, pattern):

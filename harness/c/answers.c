@@ -1,6 +1,6 @@
-/* Holds the calls to what the header says of them: the texts, every answer with what the lent numbers and the frame then hold, the counts
- * of links and of the total, slices of length 0, slices and limits beside memory that must not be touched, and two threads at once. The
- * last line is 'N passed, M failed'.
+/* Holds the calls to what the header says of them: the texts, every answer with what the lent numbers and the frames then hold, the sides
+ * of a frame, the counts of links and of the total, slices of length 0, slices and limits beside memory that must not be touched, and two
+ * threads at once. The last line is 'N passed, M failed'.
  */
 #define _GNU_SOURCE
 #include <errno.h>
@@ -53,16 +53,18 @@ static const size_t numbers[] = {
     FRAME_BUILDER_REFUSED_SLOT_NUMBER,
     FRAME_BUILDER_REFUSED_FLOW_OR_PORT,
     FRAME_BUILDER_REFUSED_RUN_LENGTH,
+    FRAME_BUILDER_REFUSED_ENTRIES,
+    FRAME_BUILDER_REFUSED_SECOND_LENGTH,
     FRAME_BUILDER_REFUSED_TOO_MANY_FLOWS,
     FRAME_BUILDER_REFUSED_FLOW_PORT,
     FRAME_BUILDER_REFUSED_FLOW_LINK,
     FRAME_BUILDER_REFUSED_LINK_LOAD,
     FRAME_BUILDER_FAULT_WRONG_ENTRY,
-    FRAME_BUILDER_FAULT_OUTPUT_TWICE,
+    FRAME_BUILDER_FAULT_PORT_TWICE,
     FRAME_BUILDER_FAULT_FLOW_COUNT,
     FRAME_BUILDER_FAULT_UNBALANCED_BLOCK,
     9, /* no answer, as those below */
-    14,
+    16,
     20,
     25,
     100,
@@ -88,6 +90,14 @@ static void check_texts(void)
     check(strcmp(frame_builder_inspect_text(FRAME_BUILDER_CLEAN), "clean") == 0, "the text of clean");
     check(strcmp(frame_builder_text(FRAME_BUILDER_ACCEPTED), "accepted") == 0, "the text of accepted");
 }
+
+/* Sides. */
+
+/* Numbers for the output side: every one but 0, whatever part of it is looked at. */
+static const size_t output_sides[] = {FRAME_BUILDER_OUTPUT_SIDE, 2, 256, 65536, (size_t)1 << 32, (size_t)1 << 63, SIZE_MAX};
+
+/* What Inspect, Turn and Service count are told. */
+static size_t side = FRAME_BUILDER_INPUT_SIDE;
 
 /* Answers. */
 
@@ -121,7 +131,7 @@ static size_t make_call(enum call call, const struct lent *l, struct numbers *n)
         return frame_builder_build(l->ports, l->slots, l->list, l->list_length, l->limits, l->frame, l->frame_length, first, second,
                                    third);
     case INSPECT:
-        return frame_builder_inspect(l->ports, l->slots, l->list, l->list_length, l->frame, l->frame_length, first, second);
+        return frame_builder_inspect(side, l->ports, l->slots, l->list, l->list_length, l->frame, l->frame_length, first, second);
     case SLOT_VIEW:
         return frame_builder_slot_view(l->ports, l->slots, l->frame, l->frame_length, l->slot, first, second);
     case DEPTH_FLOW:
@@ -131,13 +141,13 @@ static size_t make_call(enum call call, const struct lent *l, struct numbers *n)
     case DEPTH_OUTPUT:
         return frame_builder_depth_output(l->ports, l->slots, l->list, l->list_length, l->whose, first, second);
     case COUNT_FLOW:
-        return frame_builder_count_flow(l->ports, l->slots, l->list, l->list_length, l->frame, l->frame_length, l->whose, l->slot,
+        return frame_builder_count_flow(side, l->ports, l->slots, l->list, l->list_length, l->frame, l->frame_length, l->whose, l->slot,
                                         l->length, first, lead);
     case COUNT_INPUT:
-        return frame_builder_count_input(l->ports, l->slots, l->list, l->list_length, l->frame, l->frame_length, l->whose, l->slot,
+        return frame_builder_count_input(side, l->ports, l->slots, l->list, l->list_length, l->frame, l->frame_length, l->whose, l->slot,
                                          l->length, first, lead);
     default:
-        return frame_builder_count_output(l->ports, l->slots, l->list, l->list_length, l->frame, l->frame_length, l->whose, l->slot,
+        return frame_builder_count_output(side, l->ports, l->slots, l->list, l->list_length, l->frame, l->frame_length, l->whose, l->slot,
                                           l->length, first, lead);
     }
 }
@@ -206,14 +216,30 @@ static const uint16_t on_two[] = {1, 1, 1, 1, 2, 1, 1, 2, 3, 1, 1, 1, 4, 1, 1, 2
 static const uint16_t on_four[] = {1, 1, 1, 3, 2, 1, 1, 2, 3, 1, 1, 1, 4, 1, 1, 4};
 static uint16_t in_order[SLOTS * PORTS] = {1, 0, 0, 0, 0, 2, 0, 0, 0, 0, 3, 0, 0, 0, 0, 4};
 
+/* Two cells from each of ports 1 and 2, to four outputs. */
+static const uint16_t from_two[] = {1, 1, 1, 1, 1, 2, 1, 1, 2, 3, 1, 1, 2, 4, 1, 1};
+
+/* Frames of the output side: those of Table 7, above, by their outputs, and others. */
+static uint16_t out_built[SLOTS * PORTS] = {1, 0, 0, 5, 3, 2, 0, 0, 1, 4, 0, 0, 0, 2, 0, 5};
+static uint16_t out_above[SLOTS * PORTS] = {1, 0, 0, 5, 3, 6, 0, 0, 1, 65535, 0, 0, 0, 2, 0, 5};
+static uint16_t out_of_other[SLOTS * PORTS] = {1, 0, 0, 5, 3, 2, 0, 0, 1, 4, 5, 0, 6, 2, 0, 5};
+static uint16_t out_twice[SLOTS * PORTS] = {1, 0, 0, 5, 3, 2, 0, 0, 3, 4, 0, 0, 0, 2, 0, 5};
+static uint16_t out_miscounted[SLOTS * PORTS] = {1, 0, 0, 5, 3, 2, 0, 0, 1, 4, 0, 0, 0, 2, 0, 0};
+static uint16_t out_bunched[SLOTS * PORTS] = {1, 0, 0, 5, 1, 4, 0, 0, 3, 2, 0, 0, 0, 2, 0, 5};
+static uint16_t out_both_spread[SLOTS * PORTS] = {0, 1, 0, 0, 0, 2, 0, 0, 0, 1, 0, 0, 0, 2, 0, 0};
+static uint16_t out_both_apart[SLOTS * PORTS] = {0, 1, 0, 0, 0, 1, 0, 0, 0, 2, 0, 0, 0, 2, 0, 0};
+static uint16_t out_in_order[SLOTS * PORTS] = {1, 0, 0, 0, 2, 0, 0, 0, 3, 0, 0, 0, 4, 0, 0, 0};
+static uint16_t out_in_turn[SLOTS * PORTS] = {1, 0, 0, 0, 3, 0, 0, 0, 2, 0, 0, 0, 4, 0, 0, 0};
+
 /* Limits: none that a load can be above, and none that lets a cell pass. */
 #define FOUR(limit) limit, limit, limit, limit
 #define SIXTEEN(limit) FOUR(limit), FOUR(limit), FOUR(limit), FOUR(limit)
 static const uint16_t unlimited[LIMITS] = {SIXTEEN(65535), SIXTEEN(65535), SIXTEEN(65535), SIXTEEN(65535)};
 static const uint16_t closed[LIMITS] = {0};
 
-/* 513 flows without cells at ports 1 and links 1, but for the last, which is at input 0 and link 0. */
+/* 513 flows without cells at ports 1 and links 1, but for the last, which is at input 0 and link 0; the same with a number behind them. */
 static uint16_t too_many[(MOST_FLOWS + 1) * OF_FLOW];
+static uint16_t too_many_and_one[(MOST_FLOWS + 1) * OF_FLOW + 1];
 static uint16_t idle[SLOTS * PORTS];
 
 #define LIMITED(list, limits) list, COUNT_OF(list), limits
@@ -281,6 +307,7 @@ static const struct expected expectations[] = {
     {"inspect: entry above the flows", INSPECT, {4, 4, LIST(table7), FRAME(above), 0, 0, 0}, 101, 2, 4},
     {"inspect: entry of another input's flow", INSPECT, {4, 4, LIST(table7), FRAME(of_other), 0, 0, 0}, 101, 3, 3},
     {"inspect: output twice", INSPECT, {4, 4, LIST(table7), FRAME(twice), 0, 0, 0}, 102, 3, 1},
+    {"inspect: a frame of the output side", INSPECT, {4, 4, LIST(table7), FRAME(out_built), 0, 0, 0}, 101, 2, 1},
     {"inspect: flow count", INSPECT, {4, 4, LIST(table7), FRAME(miscounted), 0, 0, 0}, 103, 5, 0},
     {"inspect: unbalanced block", INSPECT, {4, 4, LIST(table7), FRAME(bunched), 0, 0, 0}, 104, 1, 4},
     {"inspect: clean, own numbers", INSPECT, {4, 4, LIST(own), FRAME(own_spread), 0, 0, 0}, 0, 0, 0},
@@ -422,12 +449,122 @@ static const struct expected expectations[] = {
     {"depth output: no flows, slots 0", DEPTH_OUTPUT, {4, 0, NO_LIST, NO_FRAME, 0, 0, 4}, 2, 0, 0},
 };
 
+/* The same of frames on the output side, but for refusals, which are the same on either side. */
+static const struct expected by_output[] = {
+    {"inspect by output: clean", INSPECT, {4, 4, LIST(table7), FRAME(out_built), 0, 0, 0}, 0, 0, 0},
+    {"inspect by output: entry above the flows", INSPECT, {4, 4, LIST(table7), FRAME(out_above), 0, 0, 0}, 101, 2, 2},
+    {"inspect by output: entry of another output's flow", INSPECT, {4, 4, LIST(table7), FRAME(out_of_other), 0, 0, 0}, 101, 3, 3},
+    {"inspect by output: a frame of the input side", INSPECT, {4, 4, LIST(table7), FRAME(built), 0, 0, 0}, 101, 2, 1},
+    {"inspect by output: input twice", INSPECT, {4, 4, LIST(table7), FRAME(out_twice), 0, 0, 0}, 102, 3, 4},
+    {"inspect by output: two inputs twice", INSPECT, {4, 4, LIST(from_two), FRAME(own_in_one), 0, 0, 0}, 102, 1, 1},
+    {"inspect by output: flow count", INSPECT, {4, 4, LIST(table7), FRAME(out_miscounted), 0, 0, 0}, 103, 5, 0},
+    {"inspect by output: unbalanced block", INSPECT, {4, 4, LIST(table7), FRAME(out_bunched), 0, 0, 0}, 104, 1, 4},
+    {"inspect by output: clean, own numbers", INSPECT, {4, 4, LIST(own), FRAME(own_spread), 0, 0, 0}, 0, 0, 0},
+    {"inspect by output: block unbalanced in all cells", INSPECT, {4, 4, LIST(own), FRAME(own_in_one), 0, 0, 0}, 104, 1, 4},
+    {"inspect by output: block of two unbalanced in all cells", INSPECT, {4, 4, LIST(own), FRAME(own_in_two), 0, 0, 0}, 104, 3, 2},
+    {"inspect by output: clean, two flows of a pair", INSPECT, {4, 4, LIST(both), FRAME(out_both_spread), 0, 0, 0}, 0, 0, 0},
+    {"inspect by output: block unbalanced in two flows", INSPECT, {4, 4, LIST(both), FRAME(out_both_apart), 0, 0, 0}, 104, 1, 4},
+    {"inspect by output: clean, two links", INSPECT, {4, 4, LIST(on_two), FRAME(out_in_order), 0, 0, 0}, 0, 0, 0},
+    {"inspect by output: block unbalanced in a link", INSPECT, {4, 4, LIST(on_two), FRAME(out_in_turn), 0, 0, 0}, 104, 1, 4},
+    {"inspect by output: the same frame on one link", INSPECT, {4, 4, LIST(on_one), FRAME(out_in_turn), 0, 0, 0}, 0, 0, 0},
+    {"inspect by output: clean, two inputs", INSPECT, {4, 4, LIST(from_two), FRAME(own_spread), 0, 0, 0}, 0, 0, 0},
+    {"inspect by output: block unbalanced in an input", INSPECT, {4, 4, LIST(from_two), FRAME(in_order), 0, 0, 0}, 104, 1, 4},
+    {"inspect by output: no flows, clean", INSPECT, {4, 4, NO_LIST, FRAME(idle), 0, 0, 0}, 0, 0, 0},
+    {"inspect by output: no flows, wrong entry", INSPECT, {4, 4, NO_LIST, FRAME(out_built), 0, 0, 0}, 101, 1, 1},
+
+    {"count flow by output: a cell ahead", COUNT_FLOW, {4, 4, LIST(table7), FRAME(out_built), 4, 2, 5}, 0, 2, 4},
+    {"count flow by output: a cell behind", COUNT_FLOW, {4, 4, LIST(table7), FRAME(out_built), 2, 2, 5}, 0, 0, -4},
+    {"count flow by output: many turns", COUNT_FLOW, {4, 4, LIST(table7), FRAME(out_built), 2, 999999, 5}, 0, 499999, -2},
+    {"count flow by output: at any output", COUNT_FLOW, {4, 4, LIST(table7), FRAME(crowded), 1, 2, 1}, 0, 8, 16},
+    {"count flow by output: without entries", COUNT_FLOW, {4, 4, LIST(table7), FRAME(crowded), 1, 2, 2}, 0, 0, 0},
+
+    {"count input by output: the longest run", COUNT_INPUT, {4, 4, LIST(table7), FRAME(out_built), 1, 1000000, 4}, 0, 1000000, 0},
+    {"count input by output: ahead", COUNT_INPUT, {4, 4, LIST(table7), FRAME(out_miscounted), 1, 3, 4}, 0, 3, 3},
+    {"count input by output: never used", COUNT_INPUT, {4, 4, LIST(table7), FRAME(out_built), 3, 3, 3}, 0, 0, 0},
+    {"count input by output: any entries, ahead", COUNT_INPUT, {4, 4, LIST(table7), FRAME(crowded), 1, 2, 1}, 0, 8, 16},
+    {"count input by output: any entries, behind", COUNT_INPUT, {4, 4, LIST(table7), FRAME(crowded), 3, 2, 1}, 0, 0, -16},
+    {"count input by output: entry that is no flow", COUNT_INPUT, {4, 4, LIST(table7), FRAME(crowded), 1, 4, 4}, 0, 0, 0},
+    {"count input by output: no flows", COUNT_INPUT, {4, 4, NO_LIST, FRAME(out_built), 1, 4, 4}, 0, 0, 0},
+
+    {"count output by output: behind", COUNT_OUTPUT, {4, 4, LIST(table7), FRAME(out_built), 3, 3, 1}, 0, 2, -1},
+    {"count output by output: ahead", COUNT_OUTPUT, {4, 4, LIST(table7), FRAME(out_built), 1, 3, 1}, 0, 3, 3},
+    {"count output by output: never used", COUNT_OUTPUT, {4, 4, LIST(table7), FRAME(out_built), 3, 3, 3}, 0, 0, 0},
+    {"count output by output: entry that is no flow", COUNT_OUTPUT, {4, 4, LIST(table7), FRAME(crowded), 4, 1, 4}, 0, 1, 1},
+    {"count output by output: any entries, behind", COUNT_OUTPUT, {4, 4, LIST(table7), FRAME(crowded), 3, 1, 4}, 0, 0, -3},
+    {"count output by output: no flows", COUNT_OUTPUT, {4, 4, NO_LIST, FRAME(out_built), 1, 4, 4}, 0, 2, 0},
+};
+
+/* What Turn is lent, its answer, and what an accepted call leaves in the second buffer. The limits and the run are not looked at. */
+struct turned {
+    const char *what;
+    struct lent lent;
+    size_t second_length, number;
+    const uint16_t *second;
+};
+
+/* The refusals, each with one that comes after it, and what is the same on either side. */
+static const struct turned turned_by_any[] = {
+    {"turn: own numbers", {4, 4, LIST(own), FRAME(own_spread), 0, 0, 0}, 16, 0, own_spread},
+    {"turn: own numbers, unbalanced", {4, 4, LIST(own), FRAME(own_in_one), 0, 0, 0}, 16, 0, own_in_one},
+    {"turn: idle", {4, 4, LIST(table7), FRAME(idle), 0, 0, 0}, 16, 0, idle},
+    {"turn: no flows", {4, 4, NO_LIST, FRAME(idle), 0, 0, 0}, 16, 0, idle},
+    {"turn: ports 0, and slots", {0, 3, LIST(table7), FRAME(idle), 0, 0, 0}, 16, 1, NULL},
+    {"turn: ports 17, and slots", {17, 3, LIST(table7), FRAME(idle), 0, 0, 0}, 16, 1, NULL},
+    {"turn: slots, and the list length", {4, 5, table7, 19, unlimited, FRAME(idle), 0, 0, 0}, 16, 2, NULL},
+    {"turn: list length, and 513 flows", {4, 4, LIST(too_many_and_one), FRAME(idle), 0, 0, 0}, 16, 3, NULL},
+    {"turn: 513 flows, and a flow's port", {4, 4, LIST(too_many), FRAME(idle), 0, 0, 0}, 16, 21, NULL},
+    {"turn: a flow's port, and its link", {4, 4, LIST(outside), FRAME(idle), 0, 0, 0}, 16, 22, NULL},
+    {"turn: a flow's link, and the frame length", {4, 4, LIST(link_0), idle, 15, 0, 0, 0}, 16, 23, NULL},
+    {"turn: frame length, and the second length", {4, 4, LIST(table7), idle, 15, 0, 0, 0}, 16, 4, NULL},
+    {"turn: frame length, and a wrong entry", {4, 4, LIST(table7), above, 15, 0, 0, 0}, 15, 4, NULL},
+    {"turn: second length, and a wrong entry", {4, 4, LIST(table7), FRAME(above), 0, 0, 0}, 15, 15, NULL},
+    {"turn: second length", {4, 4, LIST(table7), FRAME(idle), 0, 0, 0}, 17, 15, NULL},
+    {"turn: no second buffer", {4, 4, LIST(table7), FRAME(idle), 0, 0, 0}, 0, 15, NULL},
+    {"turn: no frame", {4, 4, LIST(table7), NO_FRAME, 0, 0, 0}, 16, 4, NULL},
+    {"turn: no frame, no second buffer", {4, 4, LIST(table7), NO_FRAME, 0, 0, 0}, 0, 4, NULL},
+    {"turn: nothing", {4, 4, NO_LIST, NO_FRAME, 0, 0, 0}, 0, 4, NULL},
+    {"turn: nothing, ports 0", {0, 4, NO_LIST, NO_FRAME, 0, 0, 0}, 0, 1, NULL},
+    {"turn: nothing, slots 0", {4, 0, NO_LIST, NO_FRAME, 0, 0, 0}, 0, 2, NULL},
+    {"turn: no flows, wrong entry", {4, 4, NO_LIST, FRAME(built), 0, 0, 0}, 16, 14, NULL},
+    {"turn: entry above the flows", {4, 4, LIST(own), FRAME(miscounted), 0, 0, 0}, 16, 14, NULL},
+    {"turn: any entries", {4, 4, LIST(table7), FRAME(crowded), 0, 0, 0}, 16, 14, NULL},
+};
+
+static const struct turned turned_by_input[] = {
+    {"turn by input", {4, 4, LIST(table7), FRAME(built), 0, 0, 0}, 16, 0, out_built},
+    {"turn by input: flow count", {4, 4, LIST(table7), FRAME(miscounted), 0, 0, 0}, 16, 0, out_miscounted},
+    {"turn by input: unbalanced block", {4, 4, LIST(table7), FRAME(bunched), 0, 0, 0}, 16, 0, out_bunched},
+    {"turn by input: two flows of a pair", {4, 4, LIST(both), FRAME(both_spread), 0, 0, 0}, 16, 0, out_both_spread},
+    {"turn by input: two flows apart", {4, 4, LIST(both), FRAME(both_apart), 0, 0, 0}, 16, 0, out_both_apart},
+    {"turn by input: one output", {4, 4, LIST(on_two), FRAME(in_order), 0, 0, 0}, 16, 0, out_in_order},
+    {"turn by input: one output, in turn", {4, 4, LIST(on_one), FRAME(own_spread), 0, 0, 0}, 16, 0, out_in_turn},
+    {"turn by input: entry above the flows", {4, 4, LIST(table7), FRAME(above), 0, 0, 0}, 16, 14, NULL},
+    {"turn by input: entry of another input's flow", {4, 4, LIST(table7), FRAME(of_other), 0, 0, 0}, 16, 14, NULL},
+    {"turn by input: output twice", {4, 4, LIST(table7), FRAME(twice), 0, 0, 0}, 16, 14, NULL},
+    {"turn by input: a frame of the output side", {4, 4, LIST(table7), FRAME(out_built), 0, 0, 0}, 16, 14, NULL},
+};
+
+static const struct turned turned_by_output[] = {
+    {"turn by output", {4, 4, LIST(table7), FRAME(out_built), 0, 0, 0}, 16, 0, built},
+    {"turn by output: flow count", {4, 4, LIST(table7), FRAME(out_miscounted), 0, 0, 0}, 16, 0, miscounted},
+    {"turn by output: unbalanced block", {4, 4, LIST(table7), FRAME(out_bunched), 0, 0, 0}, 16, 0, bunched},
+    {"turn by output: two flows of a pair", {4, 4, LIST(both), FRAME(out_both_spread), 0, 0, 0}, 16, 0, both_spread},
+    {"turn by output: two flows apart", {4, 4, LIST(both), FRAME(out_both_apart), 0, 0, 0}, 16, 0, both_apart},
+    {"turn by output: one output", {4, 4, LIST(on_two), FRAME(out_in_order), 0, 0, 0}, 16, 0, in_order},
+    {"turn by output: one output, in turn", {4, 4, LIST(on_one), FRAME(out_in_turn), 0, 0, 0}, 16, 0, own_spread},
+    {"turn by output: entry above the flows", {4, 4, LIST(table7), FRAME(out_above), 0, 0, 0}, 16, 14, NULL},
+    {"turn by output: entry of another output's flow", {4, 4, LIST(table7), FRAME(out_of_other), 0, 0, 0}, 16, 14, NULL},
+    {"turn by output: input twice", {4, 4, LIST(table7), FRAME(out_twice), 0, 0, 0}, 16, 14, NULL},
+    {"turn by output: a frame of the input side", {4, 4, LIST(table7), FRAME(built), 0, 0, 0}, 16, 14, NULL},
+};
+
 static void fill_too_many(void)
 {
     for (size_t flow = 0; flow <= MOST_FLOWS; flow++) {
         too_many[flow * OF_FLOW] = too_many[flow * OF_FLOW + 3] = flow < MOST_FLOWS;
         too_many[flow * OF_FLOW + 1] = 1;
     }
+    memcpy(too_many_and_one, too_many, sizeof too_many);
 }
 
 /* Build is lent entries that are in no frame: an accepted call leaves none of them, a refused one all. */
@@ -457,22 +594,94 @@ static struct fenced fence(void)
     return fenced;
 }
 
-/* Every answer of every call; a slice of length 0 has the null pointer and then one to memory that may not be used. */
+/* One answer; a slice of length 0 has the null pointer and then one to memory that may not be used. */
+static void check_answer(const struct expected *e, uint16_t *forbidden)
+{
+    struct lent lent = e->lent;
+    for (int turn = 0; turn < 2; turn++) {
+        check(e->call == BUILD ? builds(e, lent) : answers(e->call, &lent, e->number, e->first, e->second), e->what);
+        if (lent.list == NULL)
+            lent.list = forbidden;
+        if (lent.frame == NULL)
+            lent.frame = forbidden;
+    }
+}
+
+static int is_told_side(enum call call)
+{
+    return call == INSPECT || call >= COUNT_FLOW;
+}
+
+/* Every answer of every call but Turn, with every number for its side. */
 static void check_answers(void)
 {
     uint16_t *forbidden = fence().end;
     fill_too_many();
-    for (size_t place = 0; place < COUNT_OF(expectations); place++) {
-        const struct expected *e = expectations + place;
-        struct lent lent = e->lent;
-        for (int turn = 0; turn < 2; turn++) {
-            check(e->call == BUILD ? builds(e, lent) : answers(e->call, &lent, e->number, e->first, e->second), e->what);
-            if (lent.list == NULL)
-                lent.list = forbidden;
-            if (lent.frame == NULL)
-                lent.frame = forbidden;
+    for (size_t place = 0; place < COUNT_OF(expectations); place++)
+        check_answer(expectations + place, forbidden);
+    for (size_t number = 0; number < COUNT_OF(output_sides); number++) {
+        side = output_sides[number];
+        for (size_t place = 0; place < COUNT_OF(by_output); place++)
+            check_answer(by_output + place, forbidden);
+        for (size_t place = 0; place < COUNT_OF(expectations); place++) {
+            const struct expected *e = expectations + place;
+            if (is_told_side(e->call) && e->number > FRAME_BUILDER_ACCEPTED && e->number < FRAME_BUILDER_FAULT_WRONG_ENTRY)
+                check_answer(e, forbidden);
         }
     }
+    side = FRAME_BUILDER_INPUT_SIDE;
+}
+
+/* Turn. */
+
+static size_t make_turn(const struct lent *l, uint16_t *second, size_t second_length)
+{
+    return frame_builder_turn(side, l->ports, l->slots, l->list, l->list_length, l->frame, l->frame_length, second, second_length);
+}
+
+/* Turn is lent a second buffer of entries that are in no frame: an accepted call leaves none of them, a refused one all. Entries behind it
+ * stay, and so does the frame. */
+static int is_turned(const struct turned *t, const struct lent *lent, uint16_t *forbidden)
+{
+    uint16_t second[SLOTS * PORTS + 2], before[SLOTS * PORTS + 2], frame[SLOTS * PORTS];
+    size_t written = t->number == FRAME_BUILDER_ACCEPTED ? t->second_length : 0, bytes = lent->frame_length * sizeof *frame;
+    memset(before, 0xaa, sizeof before);
+    memcpy(second, before, sizeof second);
+    if (bytes > 0)
+        memcpy(frame, lent->frame, bytes);
+    errno = ERRNO;
+    size_t number = make_turn(lent, t->second_length > 0 ? second : forbidden, t->second_length);
+    return number == t->number && errno == ERRNO && (written == 0 || memcmp(second, t->second, written * sizeof *second) == 0)
+           && memcmp(second + written, before + written, sizeof second - written * sizeof *second) == 0
+           && (bytes == 0 || memcmp(frame, lent->frame, bytes) == 0);
+}
+
+/* A slice of length 0 has the null pointer and then one to memory that may not be used. */
+static void check_turned(const struct turned *table, size_t rows, uint16_t *forbidden)
+{
+    for (size_t place = 0; place < rows; place++) {
+        struct lent lent = table[place].lent;
+        check(is_turned(table + place, &lent, NULL), table[place].what);
+        if (lent.list == NULL)
+            lent.list = forbidden;
+        if (lent.frame == NULL)
+            lent.frame = forbidden;
+        check(is_turned(table + place, &lent, forbidden), table[place].what);
+    }
+}
+
+/* Every answer of Turn, with every number for the side. */
+static void check_turn(void)
+{
+    uint16_t *forbidden = fence().end;
+    check_turned(turned_by_any, COUNT_OF(turned_by_any), forbidden);
+    check_turned(turned_by_input, COUNT_OF(turned_by_input), forbidden);
+    for (size_t number = 0; number < COUNT_OF(output_sides); number++) {
+        side = output_sides[number];
+        check_turned(turned_by_any, COUNT_OF(turned_by_any), forbidden);
+        check_turned(turned_by_output, COUNT_OF(turned_by_output), forbidden);
+    }
+    side = FRAME_BUILDER_INPUT_SIDE;
 }
 
 /* Odd counts settled. */
@@ -576,19 +785,41 @@ static void check_settled(void)
 
 /* Slices beside memory that may not be used. */
 
-/* All calls are accepted, with the cells of a full load in whole turns, on this list, of so many flows at each input, with these limits
- * and this frame. */
-static int all_accept(size_t ports, size_t slots, size_t each, uint16_t *list, const uint16_t *limits, uint16_t *frame)
+/* Inspect and Service count find the frame of a full load clean, with all cells in whole turns. */
+static int is_full(const struct lent *lent, const struct lent *of_flow, size_t cells)
+{
+    return answers(INSPECT, lent, 0, 0, 0) && answers(COUNT_FLOW, of_flow, 0, cells, 0) && answers(COUNT_INPUT, lent, 0, lent->length, 0)
+           && answers(COUNT_OUTPUT, lent, 0, lent->length, 0);
+}
+
+/* Turn writes the frame by the other side to the second buffer, where it is as full, and turned back it is the frame again. */
+static int turns_twice(struct lent lent, struct lent of_flow, size_t cells, uint16_t *second)
+{
+    static uint16_t back[MOST_FRAME];
+    uint16_t *frame = lent.frame;
+    size_t length = lent.frame_length;
+    if (make_turn(&lent, second, length) != FRAME_BUILDER_ACCEPTED)
+        return 0;
+    lent.frame = of_flow.frame = second;
+    side = FRAME_BUILDER_OUTPUT_SIDE;
+    int same = is_full(&lent, &of_flow, cells) && make_turn(&lent, back, length) == FRAME_BUILDER_ACCEPTED
+               && memcmp(frame, back, length * sizeof *back) == 0;
+    side = FRAME_BUILDER_INPUT_SIDE;
+    return same;
+}
+
+/* All calls are accepted, with the cells of a full load in whole turns, on this list, of so many flows at each input, with these limits,
+ * this frame and this second buffer. */
+static int all_accept(size_t ports, size_t slots, size_t each, uint16_t *list, const uint16_t *limits, uint16_t *frame, uint16_t *second)
 {
     size_t turns = 1000, length = turns * slots <= 1000000 ? turns * slots : slots, flows = ports * each;
     struct lent lent = {ports, slots, list, flows * OF_FLOW, limits, frame, slots * ports, slots, length, ports};
     struct lent of_flow = lent;
     of_flow.whose = flows - each + 1;
     fill_load(list, ports, slots, each, 1 + slots / each);
-    return answers(ADMIT, &lent, 0, 0, 0) && answers(BUILD, &lent, 0, settled(slots, list, flows), 0) && answers(INSPECT, &lent, 0, 0, 0)
-           && answers(SLOT_VIEW, &lent, 0, (slots - 1) * ports, (int64_t)ports)
-           && answers(COUNT_FLOW, &of_flow, 0, length / slots * list[(flows - each) * OF_FLOW + 2], 0)
-           && answers(COUNT_INPUT, &lent, 0, length, 0) && answers(COUNT_OUTPUT, &lent, 0, length, 0)
+    size_t cells = length / slots * list[(flows - each) * OF_FLOW + 2];
+    return answers(ADMIT, &lent, 0, 0, 0) && answers(BUILD, &lent, 0, settled(slots, list, flows), 0) && is_full(&lent, &of_flow, cells)
+           && answers(SLOT_VIEW, &lent, 0, (slots - 1) * ports, (int64_t)ports) && turns_twice(lent, of_flow, cells, second)
            && answers(DEPTH_INPUT, &lent, 0, 0, 1) && answers(DEPTH_OUTPUT, &lent, 0, 0, 1);
 }
 
@@ -605,14 +836,16 @@ static struct fenced fence_limits(void)
 /* One flow for each pair, and as many as there may be. */
 static void check_bounds(void)
 {
-    struct fenced list = fence(), limits = fence_limits(), frame = fence();
+    struct fenced list = fence(), limits = fence_limits(), frame = fence(), second = fence();
     for (size_t ports = 1; ports <= MOST_PORTS; ports++)
         for (size_t slots = 1; slots <= MOST_SLOTS; slots *= 2)
             for (int most = 0; most < 2; most++) {
-                size_t each = most ? MOST_FLOWS / ports : ports;
-                uint16_t *last = list.end - ports * each * OF_FLOW, *end = frame.end - slots * ports;
-                check(all_accept(ports, slots, each, list.begin, limits.begin, frame.begin), "slices with forbidden memory before them");
-                check(all_accept(ports, slots, each, last, limits.end - LIMITS, end), "slices with forbidden memory after them");
+                size_t each = most ? MOST_FLOWS / ports : ports, entries = slots * ports;
+                uint16_t *last = list.end - ports * each * OF_FLOW;
+                check(all_accept(ports, slots, each, list.begin, limits.begin, frame.begin, second.begin),
+                      "slices with forbidden memory before them");
+                check(all_accept(ports, slots, each, last, limits.end - LIMITS, frame.end - entries, second.end - entries),
+                      "slices with forbidden memory after them");
             }
 }
 
@@ -665,6 +898,9 @@ static void check_overlap(void)
     struct lent lent = {1, 8, numbers, OF_FLOW, unlimited, numbers, 8, 1, 3, 1};
     check(answers(INSPECT, &lent, FRAME_BUILDER_FAULT_FLOW_COUNT, 1, 0), "a list that is the frame, inspected");
     check(answers(COUNT_FLOW, &lent, 0, 3, 12), "a list that is the frame, counted");
+    uint16_t second[8];
+    check(make_turn(&lent, second, 8) == FRAME_BUILDER_ACCEPTED && memcmp(second, numbers, sizeof second) == 0,
+          "a list that is the frame, turned");
 }
 
 /* Sixteen flows are as many numbers as the limits: one from each port to its own number, which is then the limit of the output's link 1. */
@@ -730,49 +966,114 @@ static int link_is_sum(const struct lent *lent, size_t output, size_t link)
     return is_counted(lent, &sum);
 }
 
+/* The sum of all ports of the other side. */
 static int total_is_sum(const struct lent *lent)
 {
     struct sum sum = {0};
-    for (size_t output = 1; output <= PORTS; output++)
-        add_count(COUNT_OUTPUT, *lent, output, &sum);
+    for (size_t port = 1; port <= PORTS; port++)
+        add_count(side == FRAME_BUILDER_INPUT_SIDE ? COUNT_OUTPUT : COUNT_INPUT, *lent, port, &sum);
     return is_counted(lent, &sum);
 }
 
-/* Entries of every kind: idle, flows at their own input and at others, and numbers above those of the flows. */
-static void check_sums(void)
+/* Entries of every kind: idle, flows at their own port and at others, and numbers above those of the flows. */
+static void check_sums_on(size_t told)
 {
     uint16_t frame[SLOTS * PORTS] = {1, 2, 3, 4, 5, 6, 7, 0, 2, 2, 513, 3, 0, 4, 1, 65535};
     struct lent lent = {PORTS, SLOTS, LIST(linked), FRAME(frame), 0, 0, 0};
+    side = told;
     for (lent.slot = 1; lent.slot <= SLOTS; lent.slot++)
         for (lent.length = 0; lent.length <= 2 * SLOTS + 1; lent.length++) {
             for (size_t place = 0; place < PORTS * FRAME_BUILDER_MAX_LINKS; place++)
                 check(link_is_sum(&lent, place / FRAME_BUILDER_MAX_LINKS + 1, place % FRAME_BUILDER_MAX_LINKS + 1),
                       "the count of a link is the sum of its flows'");
-            check(total_is_sum(&lent), "the count of the total is the sum of all outputs'");
+            check(total_is_sum(&lent), "the count of the total is the sum of all ports' of the other side");
         }
+    side = FRAME_BUILDER_INPUT_SIDE;
 }
 
-/* The furthest leads of any entries: all inputs have the last flow in the first half of the frame, and nothing in the second. */
-static void check_furthest(void)
+static void check_sums(void)
+{
+    check_sums_on(FRAME_BUILDER_INPUT_SIDE);
+    check_sums_on(FRAME_BUILDER_OUTPUT_SIDE);
+}
+
+/* The sides of a frame that turns. */
+
+/* Inspect and every count are told the side that their frame is on, and answer the same. */
+static int agrees(enum call call, const struct lent *by_input, const struct lent *by_output)
+{
+    struct numbers one = {0}, other = {0};
+    size_t number = make_call(call, by_input, &one);
+    side = FRAME_BUILDER_OUTPUT_SIDE;
+    int same = make_call(call, by_output, &other) == number && memcmp(&one, &other, sizeof one) == 0;
+    side = FRAME_BUILDER_INPUT_SIDE;
+    return same;
+}
+
+/* Every count of every run of up to two turns and a slot, of everyone that there is and of one that there is not. */
+static int counts_agree(struct lent by_input, struct lent by_output)
+{
+    size_t slots = by_input.slots, flows = by_input.list_length / OF_FLOW;
+    for (size_t start = 1; start <= slots; start++)
+        for (size_t length = 0; length <= 2 * slots + 1; length++)
+            for (size_t whose = 0; whose <= flows + 1; whose++) {
+                by_input.slot = by_output.slot = start;
+                by_input.length = by_output.length = length;
+                by_input.whose = by_output.whose = whose;
+                if (!agrees(COUNT_FLOW, &by_input, &by_output) || !agrees(COUNT_INPUT, &by_input, &by_output)
+                    || !agrees(COUNT_OUTPUT, &by_input, &by_output))
+                    return 0;
+            }
+    return 1;
+}
+
+/* Each frame of the input side above that turns. */
+static void check_sides(void)
+{
+    for (size_t place = 0; place < COUNT_OF(turned_by_input); place++) {
+        const struct turned *t = turned_by_input + place;
+        uint16_t second[SLOTS * PORTS];
+        struct lent by_output = t->lent;
+        by_output.frame = second;
+        if (t->number != FRAME_BUILDER_ACCEPTED)
+            continue;
+        check(make_turn(&t->lent, second, t->second_length) == FRAME_BUILDER_ACCEPTED, t->what);
+        check(agrees(INSPECT, &t->lent, &by_output), t->what);
+        check(counts_agree(t->lent, by_output), t->what);
+    }
+}
+
+/* The furthest leads of any entries: all ports have the last flow in the first half of the frame, and nothing in the second. The flows are
+ * those of one port of the frame's side; near are its counts, and far those of a port of the other side. */
+static void check_furthest_on(size_t told, enum call near, enum call far)
 {
     static uint16_t list[MOST_FLOWS * OF_FLOW], frame[MOST_FRAME];
     size_t half = MOST_SLOTS / 2, turns = 976;
     struct lent lent = {MOST_PORTS, MOST_SLOTS, LIST(list), frame, MOST_FRAME, 1, half, 16};
     struct lent of_flow = lent;
     for (size_t flow = 0; flow < MOST_FLOWS; flow++)
-        put_flow(list, flow, 0, flow % MOST_PORTS, 0);
+        put_flow(list, flow, told == FRAME_BUILDER_INPUT_SIDE ? 0 : flow % MOST_PORTS,
+                 told == FRAME_BUILDER_INPUT_SIDE ? flow % MOST_PORTS : 0, 0);
     for (size_t entry = 0; entry < MOST_FRAME / 2; entry++)
         frame[entry] = MOST_FLOWS;
     of_flow.whose = MOST_FLOWS;
-    check(answers(COUNT_OUTPUT, &lent, 0, 8192, 4194304), "the furthest ahead of outputs");
-    check(answers(COUNT_INPUT, &lent, 0, 512, 262144), "the furthest ahead of inputs");
+    side = told;
+    check(answers(far, &lent, 0, 8192, 4194304), "the furthest ahead of ports of the other side");
+    check(answers(near, &lent, 0, 512, 262144), "the furthest ahead of ports of the frame's side");
     check(answers(COUNT_FLOW, &of_flow, 0, 8192, 4194304), "the furthest ahead of flows");
     lent.length = of_flow.length = turns * MOST_SLOTS + half;
-    check(answers(COUNT_OUTPUT, &lent, 0, (turns + 1) * 8192, 4194304), "the furthest ahead of outputs, after whole turns");
+    check(answers(far, &lent, 0, (turns + 1) * 8192, 4194304), "the furthest ahead of ports of the other side, after whole turns");
     lent.slot = of_flow.slot = half + 1;
-    check(answers(COUNT_OUTPUT, &lent, 0, turns * 8192, -4194304), "the furthest behind of outputs, after whole turns");
-    check(answers(COUNT_INPUT, &lent, 0, turns * 512, -262144), "the furthest behind of inputs, after whole turns");
+    check(answers(far, &lent, 0, turns * 8192, -4194304), "the furthest behind of ports of the other side, after whole turns");
+    check(answers(near, &lent, 0, turns * 512, -262144), "the furthest behind of ports of the frame's side, after whole turns");
     check(answers(COUNT_FLOW, &of_flow, 0, turns * 8192, -4194304), "the furthest behind of flows, after whole turns");
+    side = FRAME_BUILDER_INPUT_SIDE;
+}
+
+static void check_furthest(void)
+{
+    check_furthest_on(FRAME_BUILDER_INPUT_SIDE, COUNT_INPUT, COUNT_OUTPUT);
+    check_furthest_on(FRAME_BUILDER_OUTPUT_SIDE, COUNT_OUTPUT, COUNT_INPUT);
 }
 
 int main(void)
@@ -780,6 +1081,8 @@ int main(void)
     setvbuf(stdout, NULL, _IOLBF, 0);
     check_texts();
     check_answers();
+    check_turn();
+    check_sides();
     check_limits();
     check_sums();
     check_furthest();

@@ -2,7 +2,8 @@
  *
  * Each call runs on a stack of its own that was painted before; how far down the paint is gone is what the call took, with its arguments,
  * its return address and a few words of make_call's own. Every number of ports and of slots is tried, with full loads of one flow for each
- * pair and of 512 flows and their frames, with frames of each fault and with each refusal. The last line is 'N passed, M failed'.
+ * pair and of 512 flows and their frames on either side, with frames of each fault and with each refusal. The last line is 'N passed, M
+ * failed'.
  */
 #define _GNU_SOURCE
 #include <stdint.h>
@@ -21,21 +22,35 @@
 #define NUMBERS (FRAME_BUILDER_FAULT_UNBALANCED_BLOCK + 1)
 #define KNOWN_BYTES 5000
 
-enum call { ADMIT, BUILD, INSPECT, SLOT_VIEW, COUNT_FLOW, COUNT_INPUT, COUNT_OUTPUT, DEPTH_FLOW, DEPTH_INPUT, DEPTH_OUTPUT, KNOWN, CALLS };
+enum call {
+    ADMIT,
+    BUILD,
+    INSPECT,
+    TURN,
+    SLOT_VIEW,
+    COUNT_FLOW,
+    COUNT_INPUT,
+    COUNT_OUTPUT,
+    DEPTH_FLOW,
+    DEPTH_INPUT,
+    DEPTH_OUTPUT,
+    KNOWN,
+    CALLS
+};
 
-static const char *const names[CALLS] = {"admit",        "build",      "inspect",     "slot_view",    "count_flow",   "count_input",
-                                         "count_output", "depth_flow", "depth_input", "depth_output", "(5,000 bytes)"};
+static const char *const names[CALLS] = {"admit",       "build",        "inspect",    "turn",        "slot_view",    "count_flow",
+                                         "count_input", "count_output", "depth_flow", "depth_input", "depth_output", "(5,000 bytes)"};
 
 /* How many different answers each call has. */
-static const size_t answers[CALLS] = {10, 11, 12, 5, 11, 11, 11, 10, 10, 10, 1};
+static const size_t answers[CALLS] = {10, 11, 12, 10, 5, 11, 11, 11, 10, 10, 10, 1};
 
 /* The call to make, what it is lent, and its answer. */
 static struct {
     enum call call;
-    size_t ports, slots, list_length, frame_length, slot, length, flow, port, answer;
+    size_t side, ports, slots, list_length, frame_length, second_length, slot, length, flow, port, answer;
     uint16_t list[(FLOWS + 1) * OF_FLOW];
     uint16_t limits[FRAME_BUILDER_LIMITS];
-    uint16_t frame[FRAME_ENTRIES];
+    uint16_t frame[FRAME_ENTRIES], second[FRAME_ENTRIES];
 } asked;
 
 static unsigned char room[ROOM] __attribute__((aligned(16)));
@@ -55,7 +70,7 @@ static __attribute__((noinline)) size_t take_known_bytes(void)
 
 static void make_call(void)
 {
-    size_t ports = asked.ports, slots = asked.slots, list_length = asked.list_length, frame_length = asked.frame_length;
+    size_t side = asked.side, ports = asked.ports, slots = asked.slots, list_length = asked.list_length, frame_length = asked.frame_length;
     size_t slot = asked.slot, length = asked.length, flow = asked.flow, port = asked.port, first, second;
     static int64_t lead; /* so that what is measured of the other calls does not grow with it, nor with the next one */
     static size_t third;
@@ -70,19 +85,25 @@ static void make_call(void)
         asked.answer = frame_builder_build(ports, slots, list, list_length, limits, frame, frame_length, &first, &second, &third);
         break;
     case INSPECT:
-        asked.answer = frame_builder_inspect(ports, slots, list, list_length, frame, frame_length, &first, &second);
+        asked.answer = frame_builder_inspect(side, ports, slots, list, list_length, frame, frame_length, &first, &second);
+        break;
+    case TURN:
+        asked.answer = frame_builder_turn(side, ports, slots, list, list_length, frame, frame_length, asked.second, asked.second_length);
         break;
     case SLOT_VIEW:
         asked.answer = frame_builder_slot_view(ports, slots, frame, frame_length, slot, &first, &second);
         break;
     case COUNT_FLOW:
-        asked.answer = frame_builder_count_flow(ports, slots, list, list_length, frame, frame_length, flow, slot, length, &first, &lead);
+        asked.answer = frame_builder_count_flow(side, ports, slots, list, list_length, frame, frame_length, flow, slot, length, &first,
+                                                &lead);
         break;
     case COUNT_INPUT:
-        asked.answer = frame_builder_count_input(ports, slots, list, list_length, frame, frame_length, port, slot, length, &first, &lead);
+        asked.answer = frame_builder_count_input(side, ports, slots, list, list_length, frame, frame_length, port, slot, length, &first,
+                                                 &lead);
         break;
     case COUNT_OUTPUT:
-        asked.answer = frame_builder_count_output(ports, slots, list, list_length, frame, frame_length, port, slot, length, &first, &lead);
+        asked.answer = frame_builder_count_output(side, ports, slots, list, list_length, frame, frame_length, port, slot, length, &first,
+                                                  &lead);
         break;
     case DEPTH_FLOW:
         asked.answer = frame_builder_depth_flow(ports, slots, list, list_length, flow, &first, &second);
@@ -154,17 +175,18 @@ static void ask_full(size_t ports, size_t slots, size_t each)
     }
     for (size_t place = 0; place < FRAME_BUILDER_LIMITS; place++)
         asked.limits[place] = (uint16_t)slots;
+    asked.side = FRAME_BUILDER_INPUT_SIDE;
     asked.ports = ports;
     asked.slots = slots;
     asked.list_length = ports * each * OF_FLOW;
-    asked.frame_length = slots * ports;
+    asked.frame_length = asked.second_length = slots * ports;
     asked.slot = slots;
     asked.length = FRAME_BUILDER_MAX_RUN_SLOTS;
     asked.flow = ports * each;
     asked.port = ports;
 }
 
-/* Sorts the slots of the frame by what input 1 sends: the frame stays legal, and its halves differ. */
+/* Sorts the slots of the frame by what stands at port 1: the frame stays legal, and its halves differ. */
 static void bunch(void)
 {
     static uint16_t sorted[FRAME_ENTRIES];
@@ -176,30 +198,50 @@ static void bunch(void)
     memcpy(asked.frame, sorted, asked.frame_length * sizeof(uint16_t));
 }
 
-/* A flow of the last input to the output that input 1 sends to in the last slot, or 0 where it sends nothing. */
+/* A flow of the last port of the frame's side, with the same port of the other side as the flow at port 1 in the last slot, or 0 where there
+ * is none. */
 static uint16_t doubling(void)
 {
     const uint16_t *slot = asked.frame + asked.frame_length - asked.ports;
+    size_t own = asked.side == FRAME_BUILDER_INPUT_SIDE ? 0 : 1; /* the place of a flow's port among its numbers */
     for (size_t flow = 1; slot[0] > 0 && flow <= asked.flow; flow++) {
         const uint16_t *numbers = asked.list + (flow - 1) * OF_FLOW;
-        if (numbers[0] == asked.ports && numbers[1] == asked.list[(slot[0] - 1) * OF_FLOW + 1])
+        if (numbers[own] == asked.ports && numbers[1 - own] == asked.list[(slot[0] - 1) * OF_FLOW + 1 - own])
             return (uint16_t)flow;
     }
     return 0;
 }
 
-static void inspect_faults(void)
+/* What is looked at for faults. */
+static void measure_frame(void)
+{
+    measure(INSPECT);
+    measure(TURN);
+}
+
+static void measure_faults(void)
 {
     uint16_t *end = asked.frame + asked.frame_length - 1, last = *end;
     *end = (uint16_t)(asked.flow + 1);
-    measure(INSPECT);
+    measure_frame();
     *end = 0;
-    measure(INSPECT);
+    measure_frame();
     *end = doubling();
-    measure(INSPECT);
+    measure_frame();
     *end = last;
     bunch();
-    measure(INSPECT);
+    measure_frame();
+}
+
+/* The frame by the other side, which Turn has written, for the calls that are told the side. */
+static void measure_other_side(void)
+{
+    memcpy(asked.frame, asked.second, asked.frame_length * sizeof(uint16_t));
+    asked.side = FRAME_BUILDER_OUTPUT_SIDE;
+    for (int call = INSPECT; call <= COUNT_OUTPUT; call++)
+        measure((enum call)call);
+    measure_faults();
+    asked.side = FRAME_BUILDER_INPUT_SIDE;
 }
 
 /* Each refusal, from the last to the first in the order in which they are tried. */
@@ -221,6 +263,8 @@ static void measure_refusals(void)
         measure_all();
         last[2 - OF_FLOW]++;
     }
+    measure_all();
+    asked.second_length--;
     measure_all();
     asked.frame_length--;
     measure_all();
@@ -256,7 +300,11 @@ int main(void)
             for (int every = 0; every < 2; every++) {
                 ask_full(ports, slots, every ? FLOWS / ports : ports);
                 measure_all();
-                inspect_faults();
+                measure_faults();
+                measure(BUILD);
+                measure(TURN);
+                measure_other_side();
+                measure(BUILD);
                 measure_refusals();
             }
     measure(KNOWN);

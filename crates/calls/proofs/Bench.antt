@@ -9,11 +9,11 @@ use lib.ListN.{replicate}
 use Rattle.rules.specs.Words.{sumTo}
 use Rattle.rules.specs.Flows.{Side, input, output, portOf, countsOf, loadIn}
 use Rattle.rules.specs.Frames.{cellsOn, runOf, repeated}
-use Rattle.calls.specs.Refusals.{slotsEach, admitted}
+use Rattle.calls.specs.Refusals.{report, accepted, slotsEach, admitted}
 use Rattle.rules.specs.Schedule.{walk, settleAt, favours, slotOf, frameOf}
 use Rattle.calls.specs.Work.{work}
 use Rattle.calls.specs.Build.{buildChecks, built, frameAfter}
-use Rattle.calls.specs.Inspect.{isWrong, twiceIn, usedTwice, wrongCount, unbalanced, unbalancedNumber, unbalancedAt, inspected}
+use Rattle.calls.specs.Inspect.{isWrong, twiceIn, usedTwice, wrongCount, unbalanced, unbalancedNumber, unbalancedAt, bad-entries, inspected}
 use Rattle.calls.specs.Service.{viewChecks, viewNumber, viewStart, viewSize, viewed, leadOn, Reply, bad-length, countChecks, service}
 use Rattle.strays.specs.Stray.{earliest, largest, stray}
 use Rattle.calls.specs.Depth.{depthChecks, depth}
@@ -156,6 +156,10 @@ inspects entries says = record { gives = inspected input 2 2 (1 ∷ 1 ∷ 1 ∷ 
 inspectsOutputs : List ℕ → List ℕ → Case
 inspectsOutputs entries says = record { gives = inspected output 2 2 (1 ∷ 2 ∷ 1 ∷ 1 ∷ 2 ∷ 1 ∷ 1 ∷ 1 ∷ []) entries; says = says }
 
+-- What stands in a frame of two slots, as refusal 14, for one cell from each of two inputs to output 1.
+refuses : List ℕ → List ℕ → Case
+refuses entries says = record { gives = report (bad-entries 14 input 2 2 (1 ∷ 1 ∷ 1 ∷ 1 ∷ 2 ∷ 1 ∷ 1 ∷ 1 ∷ []) entries) accepted; says = says }
+
 pub others : List Case
 others =
     -- slot 3 of a frame, and slots outside it
@@ -219,6 +223,10 @@ others =
     ∷ inspectsOutputs (2 ∷ 1 ∷ 0 ∷ 0 ∷ []) (104 ∷ 1 ∷ 2 ∷ [])
     -- an input twice in a slot, of the output side
     ∷ record { gives = inspected output 2 2 (1 ∷ 1 ∷ 1 ∷ 1 ∷ 1 ∷ 2 ∷ 1 ∷ 1 ∷ []) (1 ∷ 0 ∷ 1 ∷ 2 ∷ []); says = 102 ∷ 2 ∷ 1 ∷ [] }
+    -- as a refusal: a wrong entry, an output twice in a slot, and neither
+    ∷ refuses (1 ∷ 0 ∷ 0 ∷ 3 ∷ []) (14 ∷ [])
+    ∷ refuses (1 ∷ 2 ∷ 0 ∷ 0 ∷ []) (14 ∷ [])
+    ∷ refuses (1 ∷ 0 ∷ 0 ∷ 2 ∷ []) (0 ∷ [])
     -- an output twice in a slot; and a list that is not of whole flows, with a frame of another length
     ∷ record { gives = inspected input 2 2 (1 ∷ 1 ∷ 1 ∷ 1 ∷ 2 ∷ 1 ∷ 1 ∷ 1 ∷ []) (1 ∷ 2 ∷ 0 ∷ 0 ∷ []); says = 102 ∷ 1 ∷ 1 ∷ [] }
     ∷ record { gives = inspected input 2 2 (1 ∷ 1 ∷ 1 ∷ []) (0 ∷ []); says = 3 ∷ [] }
@@ -230,7 +238,7 @@ others =
     ∷ []
 
 pub others-answered : map (λ c. c .gives) others ≡ map (λ c. c .says) others
-unfolding others views frame turnedAwayBy turnedAway counting counts countsAny inspects inspectsOutputs inspected isWrong twiceIn usedTwice wrongCount unbalanced unbalancedNumber unbalancedAt sumTo portOf countsOf loadIn cellsOn runOf work admitted buildChecks countChecks service repeated leadOn viewChecks walk settleAt favours slotOf frameOf
+unfolding others views frame turnedAwayBy turnedAway counting counts countsAny inspects inspectsOutputs refuses inspected isWrong twiceIn usedTwice wrongCount unbalanced unbalancedNumber unbalancedAt sumTo portOf countsOf loadIn cellsOn runOf work admitted buildChecks countChecks service repeated leadOn viewChecks walk settleAt favours slotOf frameOf
 others-answered = refl
 
 -- the longest run has 1,000,000 slots

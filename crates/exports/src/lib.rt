@@ -7,7 +7,9 @@ ghost use Rattle.calls.specs.Inspect.{inspected};
 ghost use Rattle.calls.specs.Service.{viewNumber, viewStart, viewSize, service};
 ghost use Rattle.calls.specs.Depth.{depth};
 ghost use Rattle.numbers.specs.Numbers.{Values2, Values3, Replied};
+ghost use Rattle.numbers.specs.Sides.{sideNumbered};
 use calls::Who;
+use numbers::side_of;
 
 // Admit.
 #[no_mangle]
@@ -30,9 +32,10 @@ pub extern "C" fn frame_builder_admit(
     answer.number
 }
 
-// Inspect.
+// Inspect a frame of a side.
 #[no_mangle]
 pub extern "C" fn frame_builder_inspect(
+    side: usize,
     ports: usize,
     slots: usize,
     list: &[u16],
@@ -40,9 +43,9 @@ pub extern "C" fn frame_builder_inspect(
     first: &mut usize,
     second: &mut usize,
 ) -> usize
-    ensures { λ r. ⌜ Values2 (inspected ports slots (now (list .entry)) (now (frame .entry))) r (now (first .exit)) (now (second .exit)) ⌝ }
+    ensures { λ r. ⌜ Values2 (inspected (sideNumbered side) ports slots (now (list .entry)) (now (frame .entry))) r (now (first .exit)) (now (second .exit)) ⌝ }
 {
-    let n = numbers::of_inspection(inspection::inspect(ports, slots, list, frame));
+    let n = numbers::of_inspection(inspection::inspect(side_of(side), ports, slots, list, frame));
     *first = n.first;
     *second = n.second;
     n.number
@@ -71,8 +74,9 @@ pub extern "C" fn frame_builder_build(
     n.number
 }
 
-// Service count; the cells and the lead are 0 where it is refused.
+// Service count in a frame of a side; the cells and the lead are 0 where it is refused.
 fn count(
+    side: usize,
     ports: usize,
     slots: usize,
     list: &[u16],
@@ -83,9 +87,9 @@ fn count(
     cells: &mut usize,
     lead: &mut i64,
 ) -> usize
-    ensures { λ r. ⌜ Replied (service ports slots (now (list .entry)) (now (frame .entry)) who start len) r (now (cells .exit)) (now (lead .exit)) ⌝ }
+    ensures { λ r. ⌜ Replied (service (sideNumbered side) ports slots (now (list .entry)) (now (frame .entry)) who start len) r (now (cells .exit)) (now (lead .exit)) ⌝ }
 {
-    let n = numbers::of_service(service::service_count(ports, slots, list, frame, who, start, len));
+    let n = numbers::of_service(service::service_count(side_of(side), ports, slots, list, frame, who, start, len));
     *cells = n.cells;
     let signed = n.lead;
     *lead = signed;
@@ -95,6 +99,7 @@ fn count(
 // Service count for a flow.
 #[no_mangle]
 pub extern "C" fn frame_builder_count_flow(
+    side: usize,
     ports: usize,
     slots: usize,
     list: &[u16],
@@ -105,15 +110,16 @@ pub extern "C" fn frame_builder_count_flow(
     cells: &mut usize,
     lead: &mut i64,
 ) -> usize
-    ensures { λ r. ⌜ Replied (service ports slots (now (list .entry)) (now (frame .entry)) (Who.Flow flow) start len) r (now (cells .exit)) (now (lead .exit)) ⌝ }
+    ensures { λ r. ⌜ Replied (service (sideNumbered side) ports slots (now (list .entry)) (now (frame .entry)) (Who.Flow flow) start len) r (now (cells .exit)) (now (lead .exit)) ⌝ }
 {
     let who = Who::Flow(flow);
-    count(ports, slots, list, frame, who, start, len, cells, lead)
+    count(side, ports, slots, list, frame, who, start, len, cells, lead)
 }
 
 // Service count for an input.
 #[no_mangle]
 pub extern "C" fn frame_builder_count_input(
+    side: usize,
     ports: usize,
     slots: usize,
     list: &[u16],
@@ -124,15 +130,16 @@ pub extern "C" fn frame_builder_count_input(
     cells: &mut usize,
     lead: &mut i64,
 ) -> usize
-    ensures { λ r. ⌜ Replied (service ports slots (now (list .entry)) (now (frame .entry)) (Who.Input input) start len) r (now (cells .exit)) (now (lead .exit)) ⌝ }
+    ensures { λ r. ⌜ Replied (service (sideNumbered side) ports slots (now (list .entry)) (now (frame .entry)) (Who.Input input) start len) r (now (cells .exit)) (now (lead .exit)) ⌝ }
 {
     let from = Who::Input(input);
-    count(ports, slots, list, frame, from, start, len, cells, lead)
+    count(side, ports, slots, list, frame, from, start, len, cells, lead)
 }
 
 // Service count for an output.
 #[no_mangle]
 pub extern "C" fn frame_builder_count_output(
+    side: usize,
     ports: usize,
     slots: usize,
     list: &[u16],
@@ -143,10 +150,10 @@ pub extern "C" fn frame_builder_count_output(
     cells: &mut usize,
     lead: &mut i64,
 ) -> usize
-    ensures { λ r. ⌜ Replied (service ports slots (now (list .entry)) (now (frame .entry)) (Who.Output output) start len) r (now (cells .exit)) (now (lead .exit)) ⌝ }
+    ensures { λ r. ⌜ Replied (service (sideNumbered side) ports slots (now (list .entry)) (now (frame .entry)) (Who.Output output) start len) r (now (cells .exit)) (now (lead .exit)) ⌝ }
 {
     let to = Who::Output(output);
-    count(ports, slots, list, frame, to, start, len, cells, lead)
+    count(side, ports, slots, list, frame, to, start, len, cells, lead)
 }
 
 // Slot view: where in the frame the part begins, and how many entries it has, stand in for the part itself.

@@ -6,7 +6,7 @@ use mathlib.Core.Bool.{true, false}
 use native.Mathlib.Omega.{arith}
 use Rattle.rules.specs.Words.{sumTo}
 use Rattle.rules.specs.Flows.{flow, portOn, input, output, link, total, portOf, countsOf, loadIn, load}
-use Rattle.rules.specs.Frames.{right, cells, cellsOn, runOf, Legal, whole, Balanced}
+use Rattle.rules.specs.Frames.{right, rightOn, cells, cellsOn, runOf, Legal, whole, Balanced}
 use Rattle.rules.specs.Schedule.{walk, settleAt, favours}
 
 -- ---- loads and entries
@@ -18,6 +18,11 @@ crossed = 1 ∷ 2 ∷ 1 ∷ 1 ∷ 2 ∷ 1 ∷ 1 ∷ 1 ∷ []
 pub entries-right : (right crossed 0 2 ≡ false) × (right crossed 1 2 ≡ true) × (right crossed 1 9 ≡ false)
 unfolding portOf
 entries-right = (refl, refl, refl)
+
+-- on the output side it is right at output 1, and wrong at output 2
+pub outputs-right : (rightOn output crossed 0 2 ≡ true) × (rightOn output crossed 1 2 ≡ false) × (rightOn output crossed 0 9 ≡ false)
+unfolding portOf
+outputs-right = (refl, refl, refl)
 
 -- a number past the list has no load
 pub none-past : load (flow 2) crossed ≡ 0
@@ -34,6 +39,12 @@ OnlyAtItsInput entries =
 pub no-flow-counts : OnlyAtItsInput (2 ∷ 9 ∷ 1 ∷ 0 ∷ [])
 unfolding cellsOn sumTo portOf
 no-flow-counts = (refl, refl, refl, refl, refl)
+
+-- On the output side it counts for its output only, and one that is a flow counts for its own input: the same entries, of outputs.
+pub only-at-its-output : (cellsOn output 2 crossed (portOn output 1) (2 ∷ 9 ∷ 1 ∷ 0 ∷ []) ≡ 1) × (cellsOn output 2 crossed (portOn input 1) (2 ∷ 9 ∷ 1 ∷ 0 ∷ []) ≡ 1)
+    × (cellsOn output 2 crossed (portOn input 0) (2 ∷ 9 ∷ 1 ∷ 0 ∷ []) ≡ 1) × (cellsOn output 2 crossed (portOn output 0) (2 ∷ 9 ∷ 1 ∷ 0 ∷ []) ≡ 2)
+unfolding cellsOn sumTo portOf
+only-at-its-output = (refl, refl, refl, refl)
 
 -- ---- frames that are not legal, or not balanced
 -- two flows to one output, of a cell and of two

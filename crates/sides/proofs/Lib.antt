@@ -2,3 +2,4 @@
 pub mod Slots
 pub mod Turned
 pub mod Agreed
+pub mod Bench

@@ -9,17 +9,18 @@
 ///
 /// For a frame that [`build`](crate::build) made, counted with the same ports, slots and list, 3 × |lead| is at most (2k + 1) ×
 /// slots, where slots are 2^k: no run is farther from its share than (2k + 1)/3 cells. Nor is |lead| above what
-/// [`depth`](crate::depth) answers for the same flow, input or output. Both are proved.
+/// [`depth`](crate::depth) answers for the same flow, input or output. Both are proved, and hold of such a frame [turned](crate::turn) too,
+/// since its counts are the same.
 ///
 /// ```
-/// use frame_builder::{build, service_count, slots_each, Count, Flow, Refusal, Who};
+/// use frame_builder::{build, service_count, slots_each, Count, Flow, Refusal, Side, Who};
 ///
 /// // Three cells in four slots, the last of which is idle.
 /// let list = [Flow::new(1, 1, 3)];
 /// let mut frame = [0; 4];
 /// build(1, 4, &list, slots_each(4), &mut frame)?;
 /// assert_eq!(frame, [1, 1, 1, 0]);
-/// let count = |start, length| service_count(1, 4, &list, &frame, Who::Flow(1), start, length);
+/// let count = |start, length| service_count(Side::Input, 1, 4, &list, &frame, Who::Flow(1), start, length);
 /// // The share of two slots is one cell and a half; the run has half a cell more, or half a cell less.
 /// assert_eq!(count(1, 2)?, Count { cells: 2, lead: 2 });
 /// assert_eq!(count(4, 2)?, Count { cells: 1, lead: -2 });

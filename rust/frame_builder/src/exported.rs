@@ -3,13 +3,14 @@
 use std::mem::size_of;
 
 use crate::numbers::Numbers;
-use crate::{Flow, Limits, Who};
+use crate::{Flow, Limits, Side, Who};
 
 /// The numbers of a list that a flow is.
 const FLOW_NUMBERS: usize = size_of::<Flow>() / size_of::<u16>();
 
 /// A call of Service count.
 type CountCall = unsafe extern "C" fn(
+    side: usize,
     ports: usize,
     slots: usize,
     list: *const u16,
@@ -58,6 +59,7 @@ extern "C" {
         third: &mut usize,
     ) -> usize;
     fn frame_builder_inspect(
+        side: usize,
         ports: usize,
         slots: usize,
         list: *const u16,
@@ -66,6 +68,17 @@ extern "C" {
         frame_length: usize,
         first: &mut usize,
         second: &mut usize,
+    ) -> usize;
+    fn frame_builder_turn(
+        side: usize,
+        ports: usize,
+        slots: usize,
+        list: *const u16,
+        list_length: usize,
+        frame: *const u16,
+        frame_length: usize,
+        second: *mut u16,
+        second_length: usize,
     ) -> usize;
     fn frame_builder_slot_view(
         ports: usize,
@@ -77,6 +90,7 @@ extern "C" {
         size: &mut usize,
     ) -> usize;
     fn frame_builder_count_flow(
+        side: usize,
         ports: usize,
         slots: usize,
         list: *const u16,
@@ -90,6 +104,7 @@ extern "C" {
         lead: &mut i64,
     ) -> usize;
     fn frame_builder_count_input(
+        side: usize,
         ports: usize,
         slots: usize,
         list: *const u16,
@@ -103,6 +118,7 @@ extern "C" {
         lead: &mut i64,
     ) -> usize;
     fn frame_builder_count_output(
+        side: usize,
         ports: usize,
         slots: usize,
         list: *const u16,
@@ -179,15 +195,41 @@ pub fn build(
     given
 }
 
-pub fn inspect(ports: usize, slots: usize, list: &[Flow], frame: &[u16]) -> Numbers {
+pub fn inspect(side: Side, ports: usize, slots: usize, list: &[Flow], frame: &[u16]) -> Numbers {
     let (data, length) = numbers_of(list);
-    let (entries, size) = (frame.as_ptr(), frame.len());
+    let (side, entries, size) = (side.number(), frame.as_ptr(), frame.len());
     let mut given = Numbers::default();
     let (first, second) = (&mut given.first, &mut given.second);
     // SAFETY: both slices are readable for their lengths.
-    given.number =
-        unsafe { frame_builder_inspect(ports, slots, data, length, entries, size, first, second) };
+    given.number = unsafe {
+        frame_builder_inspect(
+            side, ports, slots, data, length, entries, size, first, second,
+        )
+    };
     given
+}
+
+pub fn turn(
+    side: Side,
+    ports: usize,
+    slots: usize,
+    list: &[Flow],
+    frame: &[u16],
+    second: &mut [u16],
+) -> Numbers {
+    let (data, length) = numbers_of(list);
+    let (side, entries, size) = (side.number(), frame.as_ptr(), frame.len());
+    let (turned, room) = (second.as_mut_ptr(), second.len());
+    // SAFETY: all slices are readable for their lengths, and the second buffer is writable and nobody else's.
+    let number = unsafe {
+        frame_builder_turn(
+            side, ports, slots, data, length, entries, size, turned, room,
+        )
+    };
+    Numbers {
+        number,
+        ..Numbers::default()
+    }
 }
 
 /// Where the slot's part of the frame begins, and its size.
@@ -201,15 +243,15 @@ pub fn slot_view(ports: usize, slots: usize, frame: &[u16], slot: usize) -> Numb
     given
 }
 
-/// The cells are the first value.
+/// The cells are the first value. A run is its start and its length.
 pub fn service_count(
+    side: Side,
     ports: usize,
     slots: usize,
     list: &[Flow],
     frame: &[u16],
     who: Who,
-    start: usize,
-    length: usize,
+    (start, length): (usize, usize),
 ) -> Numbers {
     let (call, which): (CountCall, usize) = match who {
         Who::Flow(flow) => (frame_builder_count_flow, flow),
@@ -217,13 +259,13 @@ pub fn service_count(
         Who::Output(port) => (frame_builder_count_output, port),
     };
     let (data, numbers) = numbers_of(list);
-    let (entries, size) = (frame.as_ptr(), frame.len());
+    let (side, entries, size) = (side.number(), frame.as_ptr(), frame.len());
     let mut given = Numbers::default();
     let (cells, lead) = (&mut given.first, &mut given.lead);
     // SAFETY: both slices are readable for their lengths.
     given.number = unsafe {
         call(
-            ports, slots, data, numbers, entries, size, which, start, length, cells, lead,
+            side, ports, slots, data, numbers, entries, size, which, start, length, cells, lead,
         )
     };
     given

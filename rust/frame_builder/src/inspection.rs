@@ -28,10 +28,10 @@ impl Inspection {
     /// The fault as an error, for callers that go on with a clean frame only.
     ///
     /// ```
-    /// use frame_builder::{inspect, Flow};
+    /// use frame_builder::{inspect, Flow, Side};
     ///
     /// fn put_on_the_wire(list: &[Flow], frame: &[u16]) -> Result<(), Box<dyn std::error::Error>> {
-    ///     inspect(2, 2, list, frame)?.clean()?;
+    ///     inspect(Side::Input, 2, 2, list, frame)?.clean()?;
     ///     // ..
     ///     Ok(())
     /// }
@@ -40,7 +40,7 @@ impl Inspection {
     /// let list = [Flow::new(1, 2, 1), Flow::new(2, 2, 1)];
     /// assert!(put_on_the_wire(&list, &[1, 0, 0, 2]).is_ok());
     /// let error = put_on_the_wire(&list, &[1, 2, 0, 0]).unwrap_err();
-    /// assert_eq!(error.to_string(), "in slot 1 output 2 is used twice");
+    /// assert_eq!(error.to_string(), "in slot 1 port 2 of the other side is used twice");
     /// ```
     ///
     /// # Errors
@@ -65,7 +65,8 @@ impl fmt::Display for Inspection {
 
 /// What is wrong with a frame.
 ///
-/// Faults are looked for in the order of these cases; within a case the earliest is given. As text it is a sentence:
+/// Faults are looked for in the order of these cases; within a case the earliest is given. Which ports they name goes by the
+/// [side](crate::Side) of the frame. As text a fault is a sentence:
 ///
 /// ```
 /// let fault = frame_builder::Fault::FlowCount { flow: 5 };
@@ -73,19 +74,20 @@ impl fmt::Display for Inspection {
 /// ```
 #[derive(Clone, Copy, Debug, PartialEq, Eq, Hash)]
 pub enum Fault {
-    /// 101: an entry is wrong: above the number of flows, or the number of a flow of another input. The lowest slot, then input.
+    /// 101: an entry is wrong: above the number of flows, or the number of a flow of another port of the frame's side than the one at whose
+    /// place it stands. The lowest slot, then port.
     WrongEntry {
         /// The slot that the entry is in.
         slot: usize,
-        /// The input that the entry is of.
-        input: usize,
+        /// The port of the frame's side at whose place the entry stands: an input on the input side, an output on the output side.
+        port: usize,
     },
-    /// 102: an output is sent to by two inputs in the same slot. The lowest slot, then output.
-    OutputTwice {
+    /// 102: two or more entries of a slot are flows of the same port of the other side. The lowest slot, then port.
+    PortTwice {
         /// The slot.
         slot: usize,
-        /// The output.
-        output: usize,
+        /// The port of the other side: an output on the input side, an input on the output side.
+        port: usize,
     },
     /// 103: a flow is in more slots or in fewer than it has cells. The first flow in the list.
     FlowCount {
@@ -106,13 +108,13 @@ impl Fault {
     /// The number that the fault goes by in every interface of the frame builder.
     ///
     /// ```
-    /// let fault = frame_builder::Fault::OutputTwice { slot: 3, output: 1 };
+    /// let fault = frame_builder::Fault::PortTwice { slot: 3, port: 1 };
     /// assert_eq!(fault.number(), 102);
     /// ```
     pub const fn number(self) -> usize {
         match self {
             Fault::WrongEntry { .. } => 101,
-            Fault::OutputTwice { .. } => 102,
+            Fault::PortTwice { .. } => 102,
             Fault::FlowCount { .. } => 103,
             Fault::UnbalancedBlock { .. } => 104,
         }
@@ -122,14 +124,17 @@ impl Fault {
 impl fmt::Display for Fault {
     fn fmt(&self, to: &mut fmt::Formatter<'_>) -> fmt::Result {
         match self {
-            Fault::WrongEntry { slot, input } => {
+            Fault::WrongEntry { slot, port } => {
                 write!(
                     to,
-                    "in slot {slot} the entry of input {input} is no flow of that input"
+                    "in slot {slot} the entry of port {port} is no flow of that port"
                 )
             }
-            Fault::OutputTwice { slot, output } => {
-                write!(to, "in slot {slot} output {output} is used twice")
+            Fault::PortTwice { slot, port } => {
+                write!(
+                    to,
+                    "in slot {slot} port {port} of the other side is used twice"
+                )
             }
             Fault::FlowCount { flow } => {
                 write!(to, "flow {flow} is in the wrong number of slots")

@@ -20,7 +20,10 @@
 //! that fits can be built.
 //!
 //! A **frame** says what the switch does in 1, 2, 4, .. or 1,024 slots, after which it begins again. It is slots × ports entries, slot
-//! 1 first; within a slot there is one entry per input: the number of the flow that the input sends a cell of, or 0 where it is idle.
+//! 1 first. A frame has a [**side**](Side). On the input side a slot has one entry per input: the number of the flow that the input sends a
+//! cell of, or 0 where it is idle. On the output side a slot has one entry per output: the number of the flow that the output takes a cell
+//! of, or 0 where it is idle. [`build`] makes frames on the input side, and [`turn`] writes a frame by the other side. The ports that a
+//! slot has entries of are those of the frame's side; the others are the ports of the other side.
 //!
 //! A frame is **balanced** if the cells of every flow, input, output and link, and all cells together, are spread evenly: a frame of two
 //! or more slots has two halves, which differ by at most one cell, each half is split again, and so on down to the slots. The frame, its
@@ -36,14 +39,15 @@
 //! |---|---|---|
 //! | [`admit`] | says whether a list would be built | 1, 2, 21, 22, 23, 5, 6, 24 |
 //! | [`build`] | fills a frame, and says how much work that was | 1, 2, 21, 22, 23, 4, 5, 6, 24 |
-//! | [`inspect`] | looks over a frame that came from anywhere | 1, 2, 21, 22, 23, 4 |
+//! | [`inspect`] | looks over a frame that came from anywhere, on either side | 1, 2, 21, 22, 23, 4 |
+//! | [`turn`] | writes a frame by the other side | 1, 2, 21, 22, 23, 4, 15, 14 |
 //! | [`slot_view`] | shows a slot's part of a frame | 1, 2, 4, 11 |
 //! | [`service_count`] | counts the cells of a flow, an input or an output in a run, with their lead | 1, 2, 21, 22, 23, 4, 11, 12, 13 |
 //! | [`depth`] | says how far from its share a flow, an input or an output can get, and how deep a buffer to order | 1, 2, 21, 22, 23, 5, 6, 12 |
 //!
 //! Every call takes any numbers and slices of any length, and none panics. One that cannot be answered is turned away with a
 //! [`Refusal`], the first in the table's order that holds. **A refusal leaves everything as it was**: above all, a refused [`build`]
-//! leaves every entry of the frame, so that the switch can go on with it.
+//! leaves every entry of the frame, so that the switch can go on with it, and a refused [`turn`] every entry of the second buffer.
 //!
 //! | size | |
 //! |---|---|
@@ -60,7 +64,8 @@
 //! Four ports and four slots. Input 1 sends two cells to output 1 and two to output 2, input 4 one each to 1 and 2 and two to 4.
 //!
 //! ```
-//! use frame_builder::{build, inspect, service_count, slot_view, slots_each, Count, Flow, Inspection, Refusal, Who};
+//! use frame_builder::{build, inspect, service_count, slot_view, slots_each, turn};
+//! use frame_builder::{Count, Flow, Inspection, Refusal, Side, Who};
 //!
 //! # fn main() -> Result<(), Refusal> {
 //! let (ports, slots) = (4, 4);
@@ -85,15 +90,31 @@
 //!         2, 0, 0, 5, //
 //!     ]
 //! );
-//! assert_eq!(inspect(ports, slots, &list, &frame)?, Inspection::Clean);
+//! assert_eq!(inspect(Side::Input, ports, slots, &list, &frame)?, Inspection::Clean);
 //!
 //! // In slot 2 input 1 sends a cell of flow 2, to output 2, and input 4 one of flow 3, to output 1.
 //! assert_eq!(slot_view(ports, slots, &frame, 2)?, [2, 0, 0, 3]);
 //!
 //! // Two slots from slot 4 on are slot 4 and, as the frame repeats, slot 1. Both have a cell of flow 5, and the share is one: the
 //! // flow is a cell ahead, four quarters.
-//! let count = service_count(ports, slots, &list, &frame, Who::Flow(5), 4, 2)?;
+//! let count = service_count(Side::Input, ports, slots, &list, &frame, Who::Flow(5), 4, 2)?;
 //! assert_eq!(count, Count { cells: 2, lead: 4 });
+//!
+//! // The same frame by its outputs: in slot 2 output 1 takes a cell of flow 3, and output 2 one of flow 2.
+//! let mut by_output = [0; 16];
+//! turn(Side::Input, ports, slots, &list, &frame, &mut by_output)?;
+//! assert_eq!(
+//!     by_output,
+//!     [
+//!         1, 0, 0, 5, //
+//!         3, 2, 0, 0, //
+//!         1, 4, 0, 0, //
+//!         0, 2, 0, 5, //
+//!     ]
+//! );
+//! // It is as clean as the other, and has the same counts.
+//! assert_eq!(inspect(Side::Output, ports, slots, &list, &by_output)?, Inspection::Clean);
+//! assert_eq!(service_count(Side::Output, ports, slots, &list, &by_output, Who::Flow(5), 4, 2)?, count);
 //!
 //! // Five cells from input 3 do not fit four slots, and the frame stays as it is.
 //! let before = frame;
@@ -119,8 +140,9 @@
 //! 3. `rt staticlib exports`, which proves it and writes it, in the checkout that `FRAME_BUILDER_SOURCE` names, or in the one that
 //!    the crate stands in. It needs the Rattle kit.
 //!
-//! A variable that is set and leads to no library is an error, as is an installed one that is not whole, and one that is not of version 5.2
-//! or a later 5.x, whose calls are fewer or other ones: nothing else is taken in its place. An empty variable is as one that is not set. Where no way leads to a library, the error says why each of them did not.
+//! A variable that is set and leads to no library is an error, as is an installed one that is not whole, and one that is not of version 6.0
+//! or a later 6.x, whose calls are other ones: nothing else is taken in its place. An empty variable is as one that is not set. Where no
+//! way leads to a library, the error says why each of them did not.
 //!
 //! A crate that depends on this one directly has in its own build script `DEP_FRAME_BUILDER_ARCHIVE`, the archive,
 //! `DEP_FRAME_BUILDER_INCLUDE`, the folder of the C header, and `DEP_FRAME_BUILDER_VERSION`.
@@ -137,6 +159,7 @@ mod inspection;
 mod limits;
 mod numbers;
 mod refusal;
+mod side;
 mod who;
 
 pub use count::Count;
@@ -145,6 +168,7 @@ pub use flow::{in_matrix_order, Flow};
 pub use inspection::{Fault, Inspection};
 pub use limits::{slots_each, Limits};
 pub use refusal::Refusal;
+pub use side::Side;
 pub use who::Who;
 
 /// The version of the library that is linked, as its header or pkg-config has it.
@@ -199,7 +223,7 @@ pub fn admit(ports: usize, slots: usize, list: &[Flow], limits: Limits) -> Resul
     exported::admit(ports, slots, list, &limits).answer()
 }
 
-/// Fills the frame with the one schedule of the list, and says how many odd counts were settled for it.
+/// Fills the frame with the one schedule of the list, on the [input side](Side::Input), and says how many odd counts were settled for it.
 ///
 /// Those are, over all blocks of two or more slots, the flows with an odd number of cells in that block of the frame: the halves of
 /// the block cannot have as many cells each, so that it has to be found which gets one more. They say how much work the build was:
@@ -233,7 +257,7 @@ pub fn build(
     exported::build(ports, slots, list, &limits, frame).settled()
 }
 
-/// Looks over a frame from anywhere: whether it carries the flows of the list, and evenly.
+/// Looks over a frame from anywhere, on the side that is told: whether it carries the flows of the list, and evenly.
 ///
 /// # Errors
 ///
@@ -241,29 +265,93 @@ pub fn build(
 /// limits of links are not asked for.
 ///
 /// ```
-/// use frame_builder::{inspect, Fault, Flow, Inspection};
+/// use frame_builder::{inspect, Fault, Flow, Inspection, Side};
 ///
 /// let list = [Flow::new(1, 2, 1), Flow::new(2, 2, 1)];
-/// assert_eq!(inspect(2, 2, &list, &[1, 0, 0, 2]), Ok(Inspection::Clean));
-/// let fault = Fault::WrongEntry { slot: 2, input: 2 };
-/// assert_eq!(inspect(2, 2, &list, &[1, 0, 0, 1]), Ok(Inspection::Faulty(fault)));
-/// let fault = Fault::OutputTwice { slot: 1, output: 2 };
-/// assert_eq!(inspect(2, 2, &list, &[1, 2, 0, 0]), Ok(Inspection::Faulty(fault)));
+/// let by_input = |frame: &[u16]| inspect(Side::Input, 2, 2, &list, frame);
+/// assert_eq!(by_input(&[1, 0, 0, 2]), Ok(Inspection::Clean));
+/// // The entry of input 2 in slot 2 is a flow of input 1.
+/// let fault = Fault::WrongEntry { slot: 2, port: 2 };
+/// assert_eq!(by_input(&[1, 0, 0, 1]), Ok(Inspection::Faulty(fault)));
+/// // Both inputs send to output 2.
+/// let fault = Fault::PortTwice { slot: 1, port: 2 };
+/// assert_eq!(by_input(&[1, 2, 0, 0]), Ok(Inspection::Faulty(fault)));
+///
+/// let by_output = |frame: &[u16]| inspect(Side::Output, 2, 2, &list, frame);
+/// assert_eq!(by_output(&[0, 1, 0, 2]), Ok(Inspection::Clean));
+/// // The entry of output 1 in slot 1 is a flow to output 2.
+/// let fault = Fault::WrongEntry { slot: 1, port: 1 };
+/// assert_eq!(by_output(&[1, 0, 0, 2]), Ok(Inspection::Faulty(fault)));
 /// ```
 pub fn inspect(
+    side: Side,
     ports: usize,
     slots: usize,
     list: &[Flow],
     frame: &[u16],
 ) -> Result<Inspection, Refusal> {
-    let given = exported::inspect(ports, slots, list, frame);
+    let given = exported::inspect(side, ports, slots, list, frame);
     match given.fault() {
         Some(fault) => Ok(Inspection::Faulty(fault)),
         None => given.answer().map(|()| Inspection::Clean),
     }
 }
 
-/// The slot's part of the frame, one entry per input: the entries themselves, not a copy.
+/// Writes the frame by the other side to the second buffer, every entry of it.
+///
+/// The side that is told is the frame's own. So whoever turns a frame back tells the other side. Each flow stands in the same slots as
+/// before, now at its port of the other side, and every place without a flow is 0.
+///
+/// A frame that has a [wrong entry](Fault::WrongEntry), or a [port of the other side twice](Fault::PortTwice) in a slot, cannot be turned.
+/// Any other frame is, also one that has a flow in the wrong number of slots or an unbalanced block. Turned back, it has its first entries
+/// again.
+///
+/// Where a frame turns, the sides agree: [`inspect`] and [`service_count`], told the other side, answer of the turned frame what they
+/// answer of the frame. All this is proved.
+///
+/// # Errors
+///
+/// Refusals 1, 2, 21, 22, 23, 4, 15 and 14, the first of them that holds; the second buffer then keeps every entry.
+///
+/// ```
+/// use frame_builder::{build, inspect, slots_each, turn, Flow, Inspection, Refusal, Side};
+///
+/// let list = [Flow::new(1, 2, 2), Flow::new(2, 1, 1), Flow::new(2, 2, 1)];
+/// let mut frame = [0; 8];
+/// build(2, 4, &list, slots_each(4), &mut frame)?;
+/// // Input 1 sends flow 1 in slots 1 and 3, input 2 flow 2 in slot 2 and flow 3 in slot 4.
+/// assert_eq!(frame, [1, 0, 0, 2, 1, 0, 0, 3]);
+/// let mut second = [9; 8];
+/// turn(Side::Input, 2, 4, &list, &frame, &mut second)?;
+/// // Output 1 takes flow 2 in slot 2, output 2 flow 1 in slots 1 and 3 and flow 3 in slot 4.
+/// assert_eq!(second, [0, 1, 2, 0, 0, 1, 0, 3]);
+/// assert_eq!(inspect(Side::Output, 2, 4, &list, &second)?, Inspection::Clean);
+///
+/// // Turned back, it is the first frame again.
+/// let mut back = [9; 8];
+/// turn(Side::Output, 2, 4, &list, &second, &mut back)?;
+/// assert_eq!(back, frame);
+///
+/// // Where both inputs send to output 2 it cannot be turned, and the second buffer stays as it is.
+/// let twice = [1, 3, 0, 0, 0, 0, 0, 0];
+/// assert_eq!(turn(Side::Input, 2, 4, &list, &twice, &mut back), Err(Refusal::Entries));
+/// assert_eq!(turn(Side::Input, 2, 4, &list, &frame, &mut back[1..]), Err(Refusal::SecondLength));
+/// assert_eq!(back, frame);
+/// # Ok::<(), Refusal>(())
+/// ```
+pub fn turn(
+    side: Side,
+    ports: usize,
+    slots: usize,
+    list: &[Flow],
+    frame: &[u16],
+    second: &mut [u16],
+) -> Result<(), Refusal> {
+    exported::turn(side, ports, slots, list, frame, second).answer()
+}
+
+/// The slot's part of the frame, one entry per port of the frame's side: the entries themselves, not a copy. It is the same part on either
+/// side.
 ///
 /// # Errors
 ///
@@ -294,31 +382,39 @@ pub fn slot_view(
 /// Counts the cells of a flow, an input or an output in a run of the repeating frame, `length` slots from slot `start` on, and says
 /// how far they are ahead of the run's share, or behind: its [lead](Count).
 ///
-/// The frame may have any entries: for a flow, those that are its number are counted, at whatever input they stand, for an input, its
-/// entries that are not 0, for an output, those that are the number of a flow to it, at whatever input they stand. So an entry above the
-/// number of flows counts for its input only. After the last slot comes slot 1 again.
+/// The frame is on the side that is told, and may have any entries. For a flow, those that are its number are counted, at whatever port
+/// they stand. For a port of the frame's side, its entries that are not 0 are counted. For a port of the other side, those that are the
+/// number of one of its flows are counted, at whatever port they stand. So an entry above the number of flows counts for its input only on
+/// the input side, and for its output only on the output side. After the last slot comes slot 1 again.
 ///
 /// # Errors
 ///
 /// Refusals 1, 2, 21, 22, 23, 4, 11, 12 and 13, the first of them that holds.
 ///
 /// ```
-/// use frame_builder::{service_count, Count, Flow, Refusal, Who};
+/// use frame_builder::{service_count, Count, Flow, Refusal, Side, Who};
 ///
 /// let list = [Flow::new(1, 1, 1), Flow::new(2, 2, 1), Flow::new(2, 1, 1)];
 /// // In slot 1 input 1 sends to output 1 and input 2 to output 2, in slot 2 input 2 to output 1.
 /// let frame = [1, 2, 0, 3];
 /// // Slots 2, 1, 2.
-/// let count = |who| service_count(2, 2, &list, &frame, who, 2, 3);
+/// let count = |who| service_count(Side::Input, 2, 2, &list, &frame, who, 2, 3);
 /// // One cell a frame: a cell and a half is the share of three slots.
 /// assert_eq!(count(Who::Flow(3)), Ok(Count { cells: 2, lead: 1 }));
 /// assert_eq!(count(Who::Input(1)), Ok(Count { cells: 1, lead: -1 }));
 /// // A cell in every slot.
 /// assert_eq!(count(Who::Output(1)), Ok(Count { cells: 3, lead: 0 }));
 /// assert_eq!(count(Who::Flow(4)), Err(Refusal::FlowOrPort));
-/// assert_eq!(service_count(2, 2, &list, &frame, Who::Flow(3), 1, 1_000_001), Err(Refusal::RunLength));
+/// let too_long = service_count(Side::Input, 2, 2, &list, &frame, Who::Flow(3), 1, 1_000_001);
+/// assert_eq!(too_long, Err(Refusal::RunLength));
+/// // The same frame by its outputs.
+/// let turned = [1, 2, 3, 0];
+/// let counted = service_count(Side::Output, 2, 2, &list, &turned, Who::Output(1), 2, 3);
+/// assert_eq!(counted, Ok(Count { cells: 3, lead: 0 }));
 /// ```
+#[allow(clippy::too_many_arguments)]
 pub fn service_count(
+    side: Side,
     ports: usize,
     slots: usize,
     list: &[Flow],
@@ -327,7 +423,7 @@ pub fn service_count(
     start: usize,
     length: usize,
 ) -> Result<Count, Refusal> {
-    exported::service_count(ports, slots, list, frame, who, start, length).count()
+    exported::service_count(side, ports, slots, list, frame, who, (start, length)).count()
 }
 
 /// Says how far from its share a flow, an input or an output can get on the wire, and how many cells a buffer for it has to hold: its

@@ -46,6 +46,8 @@ impl Numbers {
             11 => Refusal::SlotNumber,
             12 => Refusal::FlowOrPort,
             13 => Refusal::RunLength,
+            14 => Refusal::Entries,
+            15 => Refusal::SecondLength,
             21 => Refusal::TooManyFlows,
             22 => Refusal::FlowPort,
             23 => Refusal::FlowLink,
@@ -60,8 +62,8 @@ impl Numbers {
 
     pub fn fault(&self) -> Option<Fault> {
         match (self.number, self.first, self.second) {
-            (101, slot, input) => Some(Fault::WrongEntry { slot, input }),
-            (102, slot, output) => Some(Fault::OutputTwice { slot, output }),
+            (101, slot, port) => Some(Fault::WrongEntry { slot, port }),
+            (102, slot, port) => Some(Fault::PortTwice { slot, port }),
             (103, flow, _) => Some(Fault::FlowCount { flow }),
             (104, slot, size) => Some(Fault::UnbalancedBlock { slot, size }),
             _ => None,

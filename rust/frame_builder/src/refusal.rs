@@ -40,6 +40,11 @@ pub enum Refusal {
     FlowOrPort,
     /// 13, caused by whoever asks about a frame: a run is longer than [`MAX_RUN_SLOTS`](crate::MAX_RUN_SLOTS) slots.
     RunLength,
+    /// 14, caused by whoever made the frame: it cannot be turned, since an entry is wrong or a port of the other side is used twice in a
+    /// slot. [`inspect`](crate::inspect) says which.
+    Entries,
+    /// 15, caused by the calling program: the second buffer does not have as many entries as the frame.
+    SecondLength,
     /// 21, caused by the house that reserves: the list has more than [`MAX_FLOWS`](crate::MAX_FLOWS) flows.
     TooManyFlows,
     /// 22, caused by the house that reserves: a flow's input or output is not 1 to ports.
@@ -74,6 +79,8 @@ impl Refusal {
             Refusal::SlotNumber => 11,
             Refusal::FlowOrPort => 12,
             Refusal::RunLength => 13,
+            Refusal::Entries => 14,
+            Refusal::SecondLength => 15,
             Refusal::TooManyFlows => 21,
             Refusal::FlowPort => 22,
             Refusal::FlowLink => 23,
@@ -98,6 +105,8 @@ impl fmt::Display for Refusal {
             Refusal::SlotNumber => "the slot or start is outside 1 to slots",
             Refusal::FlowOrPort => "the flow is not in the list, or the port is outside 1 to ports",
             Refusal::RunLength => "the run is longer than 1,000,000 slots",
+            Refusal::Entries => "an entry of the frame is wrong, or a port is used twice in a slot",
+            Refusal::SecondLength => "the second buffer's length differs from the frame's",
             Refusal::TooManyFlows => "there are more than 512 flows",
             Refusal::FlowPort => "a flow's input or output is outside 1 to ports",
             Refusal::FlowLink => "a flow's link is outside 1 to 4",

@@ -3,8 +3,9 @@
 use std::error::Error;
 
 use frame_builder::{admit, build, depth, in_matrix_order, inspect};
-use frame_builder::{service_count, slot_view, slots_each};
-use frame_builder::{Count, Depth, Fault, Flow, Inspection, Limits, Refusal, Who, MAX_LINKS};
+use frame_builder::{service_count, slot_view, slots_each, turn};
+use frame_builder::{Count, Depth, Fault, Flow, Inspection, Limits, Refusal, Side, Who};
+use frame_builder::{MAX_LINKS, MAX_PORTS};
 
 /// The flows of source document 000's Table 7.
 const TABLE7: [Flow; 5] = [
@@ -19,12 +20,16 @@ const TABLE7: [Flow; 5] = [
 const OWN: [Flow; 2] = [Flow::new(1, 1, 1), Flow::new(2, 2, 1)];
 
 /// Every refusal, by rising number, from a call that is refused so.
-fn refusals() -> [Refusal; 12] {
+fn refusals() -> [Refusal; 14] {
     let refused = |refusal: Result<(), Refusal>| refusal.expect_err("the call is refused");
     let admitted = |ports, slots, list: &[Flow]| refused(admit(ports, slots, list, slots_each(4)));
     let counted = |who, length| {
-        let count = service_count(2, 2, &OWN, &[0; 4], who, 1, length);
+        let count = service_count(Side::Input, 2, 2, &OWN, &[0; 4], who, 1, length);
         refused(count.map(|_| ()))
+    };
+    let turned = |frame: &[u16], length| {
+        let mut second = vec![0; length];
+        refused(turn(Side::Input, 2, 2, &OWN, frame, &mut second))
     };
     [
         admitted(17, 2, &[]),
@@ -35,6 +40,8 @@ fn refusals() -> [Refusal; 12] {
         refused(slot_view(2, 2, &[0; 4], 3).map(|_| ())),
         counted(Who::Output(3), 1),
         counted(Who::Input(1), 1_000_001),
+        turned(&[2, 0, 0, 0], 4),
+        turned(&[0; 4], 5),
         admitted(2, 2, &[Flow::new(1, 1, 0); 513]),
         admitted(2, 2, &[Flow::new(1, 3, 0)]),
         admitted(2, 2, &[Flow::new(1, 2, 0).on_link(5)]),
@@ -42,7 +49,7 @@ fn refusals() -> [Refusal; 12] {
     ]
 }
 
-const SENTENCES: [(usize, &str); 12] = [
+const SENTENCES: [(usize, &str); 14] = [
     (1, "the number of ports is not 1 to 16"),
     (
         2,
@@ -63,6 +70,11 @@ const SENTENCES: [(usize, &str); 12] = [
         "the flow is not in the list, or the port is outside 1 to ports",
     ),
     (13, "the run is longer than 1,000,000 slots"),
+    (
+        14,
+        "an entry of the frame is wrong, or a port is used twice in a slot",
+    ),
+    (15, "the second buffer's length differs from the frame's"),
     (21, "there are more than 512 flows"),
     (22, "a flow's input or output is outside 1 to ports"),
     (23, "a flow's link is outside 1 to 4"),
@@ -119,7 +131,7 @@ fn refusals_come_in_the_order_of_the_call() {
 #[test]
 fn flows_that_are_not_in_the_list() {
     let count = |list: &[Flow], flow| {
-        let count = service_count(2, 1, list, &[1, 2], Who::Flow(flow), 1, 1);
+        let count = service_count(Side::Input, 2, 1, list, &[1, 2], Who::Flow(flow), 1, 1);
         count.map(|count| count.cells)
     };
     assert_eq!(count(&OWN, 1), Ok(1));
@@ -136,29 +148,35 @@ fn a_list_without_flows_has_an_idle_frame() {
     assert_eq!(admit(4, 2, &[], [0; 64]), Ok(()));
     assert_eq!(build(4, 2, &[], [0; 64], &mut frame), Ok(0));
     assert_eq!(frame, [0; 8]);
-    assert_eq!(inspect(4, 2, &[], &frame), Ok(Inspection::Clean));
+    assert_eq!(
+        inspect(Side::Input, 4, 2, &[], &frame),
+        Ok(Inspection::Clean)
+    );
 }
 
 /// What is found in a frame of two ports with a list of one cell from each port to its own number.
 fn found(slots: usize, frame: &[u16]) -> Inspection {
-    inspect(2, slots, &OWN, frame).expect("the sizes are right")
+    inspect(Side::Input, 2, slots, &OWN, frame).expect("the sizes are right")
 }
 
 #[test]
 fn faults_read_as_sentences() {
     let sentence = |slots, frame: &[u16]| found(slots, frame).to_string();
     assert_eq!(sentence(2, &[1, 0, 0, 2]), "the frame is clean");
-    let wrong = "in slot 2 the entry of input 2 is no flow of that input";
+    let wrong = "in slot 2 the entry of port 2 is no flow of that port";
     assert_eq!(sentence(2, &[1, 2, 0, 3]), wrong, "above the flows");
     assert_eq!(sentence(2, &[1, 2, 0, 1]), wrong, "of another input");
     let twice = [Flow::new(1, 1, 1), Flow::new(2, 1, 1)];
-    let twice = inspect(2, 2, &twice, &[0, 0, 1, 2]).expect("the sizes are right");
-    assert_eq!(twice.to_string(), "in slot 2 output 1 is used twice");
+    let twice = inspect(Side::Input, 2, 2, &twice, &[0, 0, 1, 2]).expect("the sizes are right");
+    assert_eq!(
+        twice.to_string(),
+        "in slot 2 port 1 of the other side is used twice"
+    );
     assert_eq!(
         sentence(2, &[1, 0, 0, 0]),
         "flow 2 is in the wrong number of slots"
     );
-    let bunched = inspect(1, 4, &[Flow::new(1, 1, 2)], &[1, 1, 0, 0]);
+    let bunched = inspect(Side::Input, 1, 4, &[Flow::new(1, 1, 2)], &[1, 1, 0, 0]);
     assert_eq!(
         bunched.expect("the sizes are right").to_string(),
         "the block of 4 slots from slot 1 on is unbalanced"
@@ -173,7 +191,7 @@ fn faults_read_as_sentences() {
 fn flows_of_one_pair_are_told_apart() {
     // The pair has three cells in four slots whichever of its flows they are of, but each flow has its own.
     let list = [Flow::new(1, 1, 2), Flow::new(1, 1, 1)];
-    let found = |frame: &[u16]| inspect(1, 4, &list, frame);
+    let found = |frame: &[u16]| inspect(Side::Input, 1, 4, &list, frame);
     assert_eq!(found(&[1, 2, 1, 0]), Ok(Inspection::Clean));
     let swapped = Fault::FlowCount { flow: 1 };
     assert_eq!(found(&[2, 1, 2, 0]), Ok(Inspection::Faulty(swapped)));
@@ -205,7 +223,10 @@ fn links_are_partnered_for_themselves() {
         assert_eq!(build(4, 4, &list, slots_each(4), &mut frame), Ok(8));
         let flows = frame.iter().filter(|&&entry| entry > 0);
         assert!(flows.eq(&slots), "{links:?}: {frame:?}");
-        assert_eq!(inspect(4, 4, &list, &frame), Ok(Inspection::Clean));
+        assert_eq!(
+            inspect(Side::Input, 4, 4, &list, &frame),
+            Ok(Inspection::Clean)
+        );
     }
 }
 
@@ -213,7 +234,7 @@ fn links_are_partnered_for_themselves() {
 fn links_are_balanced() {
     // Flows 1 and 3 in the first half, flows 2 and 4 in the second.
     let frame = [1, 0, 0, 0, 0, 0, 3, 0, 0, 2, 0, 0, 0, 0, 0, 4];
-    let found = |links| inspect(4, 4, &to_one_output(links), &frame);
+    let found = |links| inspect(Side::Input, 4, 4, &to_one_output(links), &frame);
     assert_eq!(found([1, 1, 1, 1]), Ok(Inspection::Clean));
     assert_eq!(found([4, 4, 2, 2]), Ok(Inspection::Clean));
     let apart = Fault::UnbalancedBlock { slot: 1, size: 4 };
@@ -274,7 +295,7 @@ fn limits_are_held() {
 #[test]
 fn refusals_and_faults_are_errors() {
     fn whole(frame: &[u16]) -> Result<(), Box<dyn Error + Send + Sync>> {
-        inspect(2, 2, &OWN, frame)?.clean()?;
+        inspect(Side::Input, 2, 2, &OWN, frame)?.clean()?;
         Ok(())
     }
     assert!(whole(&[1, 0, 0, 2]).is_ok());
@@ -368,7 +389,7 @@ fn counts_have_a_lead() {
         (Who::Output(1), 4, 1_000_000, 750_000, 0),
         (Who::Output(1), 4, 999_997, 749_997, -3),
     ] {
-        let count = service_count(4, 4, &TABLE7, &frame, who, start, length);
+        let count = service_count(Side::Input, 4, 4, &TABLE7, &frame, who, start, length);
         assert_eq!(count, Ok(Count { cells, lead }), "{who}, {start}, {length}");
     }
 }
@@ -427,27 +448,175 @@ fn a_depth_is_refused_in_its_order() {
 fn entries_count_by_flow_and_not_by_place() {
     // Flow 1, of input 1, stands at input 2 as well, and 9 is no flow.
     let frame = [1, 1, 9, 0];
-    let cells = |who| service_count(2, 2, &OWN, &frame, who, 1, 2).map(|count| count.cells);
-    assert_eq!(cells(Who::Flow(1)), Ok(2));
-    assert_eq!(cells(Who::Output(1)), Ok(2));
-    assert_eq!(cells(Who::Output(2)), Ok(0));
-    assert_eq!(cells(Who::Input(1)), Ok(2));
-    assert_eq!(cells(Who::Input(2)), Ok(1));
+    let cells = |side, who| {
+        let count = service_count(side, 2, 2, &OWN, &frame, who, 1, 2);
+        count.map(|count| count.cells)
+    };
+    for side in [Side::Input, Side::Output] {
+        assert_eq!(cells(side, Who::Flow(1)), Ok(2));
+        assert_eq!(cells(side, Who::Flow(2)), Ok(0));
+    }
+    for (side, who, counted) in [
+        (Side::Input, Who::Output(1), 2),
+        (Side::Input, Who::Output(2), 0),
+        (Side::Input, Who::Input(1), 2),
+        (Side::Input, Who::Input(2), 1),
+        (Side::Output, Who::Input(1), 2),
+        (Side::Output, Who::Input(2), 0),
+        (Side::Output, Who::Output(1), 2),
+        (Side::Output, Who::Output(2), 1),
+    ] {
+        assert_eq!(cells(side, who), Ok(counted), "{who}, {side}");
+    }
 }
 
 #[test]
 fn the_farthest_leads_of_any_entries() {
-    // All inputs have the flow in the first half of the frame, and nothing in the second.
+    // All ports have the flow in the first half of the frame, and nothing in the second.
     let list = [Flow::new(16, 16, 0)];
     let frame = [[1; 8_192], [0; 8_192]].concat();
-    let count = |who, start| {
-        let count = service_count(16, 1_024, &list, &frame, who, start, 512);
-        count.map(|count| count.lead)
-    };
-    for who in [Who::Flow(1), Who::Output(16)] {
-        assert_eq!(count(who, 1), Ok(4_194_304));
-        assert_eq!(count(who, 513), Ok(-4_194_304));
+    for (side, near, far) in [
+        (Side::Input, Who::Input(16), Who::Output(16)),
+        (Side::Output, Who::Output(16), Who::Input(16)),
+    ] {
+        let count = |who, start| {
+            let count = service_count(side, 16, 1_024, &list, &frame, who, start, 512);
+            count.map(|count| count.lead)
+        };
+        for who in [Who::Flow(1), far] {
+            assert_eq!(count(who, 1), Ok(4_194_304), "{who}, {side}");
+            assert_eq!(count(who, 513), Ok(-4_194_304), "{who}, {side}");
+        }
+        assert_eq!(count(near, 1), Ok(262_144), "{near}, {side}");
+        assert_eq!(count(near, 513), Ok(-262_144), "{near}, {side}");
     }
-    assert_eq!(count(Who::Input(16), 1), Ok(262_144));
-    assert_eq!(count(Who::Input(16), 513), Ok(-262_144));
+}
+
+/// The frame of Table 7 by its inputs and by its outputs.
+const BY_INPUT: [u16; 16] = [1, 0, 0, 5, 2, 0, 0, 3, 1, 0, 0, 4, 2, 0, 0, 5];
+const BY_OUTPUT: [u16; 16] = [1, 0, 0, 5, 3, 2, 0, 0, 1, 4, 0, 0, 0, 2, 0, 5];
+
+#[test]
+fn a_frame_is_turned_to_either_side() {
+    for (side, frame, turned) in [
+        (Side::Input, BY_INPUT, BY_OUTPUT),
+        (Side::Output, BY_OUTPUT, BY_INPUT),
+    ] {
+        let mut second = [9; 16];
+        assert_eq!(turn(side, 4, 4, &TABLE7, &frame, &mut second), Ok(()));
+        assert_eq!(second, turned, "{side}");
+        // A frame of the other side has wrong entries.
+        let mut second = [9; 16];
+        let answer = turn(side.other(), 4, 4, &TABLE7, &frame, &mut second);
+        assert_eq!(answer, Err(Refusal::Entries), "{side}");
+        assert_eq!(second, [9; 16], "{side}");
+    }
+}
+
+#[test]
+fn turns_are_refused_in_their_order() {
+    // All that can be wrong with a turn, and then one thing after the other put right.
+    let wrong = [Flow::new(17, 1, 0).on_link(0); 513];
+    let in_link = [Flow::new(1, 1, 0).on_link(5)];
+    for (ports, slots, list, length, second_length, refusal) in [
+        (0, 3, &wrong[..], 7, 5, Refusal::Ports),
+        (2, 3, &wrong, 7, 5, Refusal::Slots),
+        (2, 4, &wrong, 7, 5, Refusal::TooManyFlows),
+        (2, 4, &wrong[..512], 7, 5, Refusal::FlowPort),
+        (2, 4, &in_link, 7, 5, Refusal::FlowLink),
+        (2, 4, &OWN, 7, 5, Refusal::FrameLength),
+        (2, 4, &OWN, 7, 7, Refusal::FrameLength),
+        (2, 4, &OWN, 8, 5, Refusal::SecondLength),
+        (2, 4, &OWN, 8, 9, Refusal::SecondLength),
+        (2, 4, &OWN, 8, 0, Refusal::SecondLength),
+        (2, 4, &OWN, 8, 8, Refusal::Entries),
+    ] {
+        for side in [Side::Input, Side::Output] {
+            let (frame, mut second) = (vec![9; length], vec![7; second_length]);
+            let answer = turn(side, ports, slots, list, &frame, &mut second);
+            assert_eq!(answer, Err(refusal), "{side}");
+            assert!(second.iter().all(|&entry| entry == 7));
+        }
+    }
+}
+
+/// What Inspect finds in a frame that Turn refuses, and in one that it turns.
+#[test]
+fn inspect_says_what_cannot_be_turned() {
+    // Two flows from input 1, and two to output 2.
+    let list = [Flow::new(1, 1, 1), Flow::new(1, 2, 1), Flow::new(2, 2, 1)];
+    let wrong = |slot, port| Some(Fault::WrongEntry { slot, port });
+    let twice = |slot, port| Some(Fault::PortTwice { slot, port });
+    for (side, frame, fault) in [
+        (Side::Input, [1, 4, 2, 3], wrong(1, 2)),
+        (Side::Input, [1, 3, 2, 2], wrong(2, 2)),
+        (Side::Input, [1, 3, 2, 3], twice(2, 2)),
+        (Side::Input, [1, 3, 2, 0], None),
+        (Side::Output, [1, 3, 4, 2], wrong(2, 1)),
+        (Side::Output, [1, 3, 3, 2], wrong(2, 1)),
+        (Side::Output, [1, 3, 1, 2], twice(2, 1)),
+        (Side::Output, [1, 3, 0, 2], None),
+    ] {
+        let mut second = [9; 4];
+        let found = inspect(side, 2, 2, &list, &frame);
+        let answer = turn(side, 2, 2, &list, &frame, &mut second);
+        match fault {
+            None => assert_eq!((found, answer), (Ok(Inspection::Clean), Ok(()))),
+            Some(fault) => {
+                assert_eq!(found, Ok(Inspection::Faulty(fault)), "{side}");
+                assert_eq!((answer, second), (Err(Refusal::Entries), [9; 4]), "{side}");
+            }
+        }
+    }
+}
+
+/// Frames that turn, clean ones and others: the sides answer the same.
+#[test]
+fn the_sides_agree() {
+    let miscounted = [1, 0, 0, 5, 2, 0, 0, 3, 1, 0, 0, 4, 2, 0, 0, 0];
+    let bunched = [1, 0, 0, 5, 1, 0, 0, 4, 2, 0, 0, 3, 2, 0, 0, 5];
+    for (frame, number) in [(BY_INPUT, 0), (miscounted, 103), (bunched, 104)] {
+        let mut turned = [9; 16];
+        turn(Side::Input, 4, 4, &TABLE7, &frame, &mut turned).expect("the entries are right");
+        let found = inspect(Side::Input, 4, 4, &TABLE7, &frame);
+        assert_eq!(found.expect("the sizes are right").number(), number);
+        assert_eq!(inspect(Side::Output, 4, 4, &TABLE7, &turned), found);
+        let flows = (0..=6).map(Who::Flow);
+        let ports = (0..=5).flat_map(|port| [Who::Input(port), Who::Output(port)]);
+        for who in flows.chain(ports) {
+            for (start, length) in (1..=4).flat_map(|start| (0..10).map(move |n| (start, n))) {
+                let count = |side, frame: &[u16]| {
+                    service_count(side, 4, 4, &TABLE7, frame, who, start, length)
+                };
+                assert_eq!(count(Side::Output, &turned), count(Side::Input, &frame));
+            }
+        }
+        let mut back = [9; 16];
+        turn(Side::Output, 4, 4, &TABLE7, &turned, &mut back).expect("a turned frame turns");
+        assert_eq!(back, frame);
+    }
+}
+
+#[test]
+fn built_frames_of_every_size_are_clean_on_both_sides() {
+    for ports in 1..=MAX_PORTS {
+        for slots in (0..=10).map(|k| 1 << k) {
+            // A full load where the slots divide by the ports, and one with room otherwise.
+            let list = even(ports, (slots / ports) as u16);
+            let mut frames = [(); 3].map(|()| vec![9; ports * slots]);
+            let [frame, turned, back] = &mut frames;
+            build(ports, slots, &list, slots_each(slots), frame).expect("the list fits");
+            assert_eq!(
+                turn(Side::Input, ports, slots, &list, frame, turned),
+                Ok(())
+            );
+            let found = inspect(Side::Output, ports, slots, &list, turned);
+            assert_eq!(found, Ok(Inspection::Clean), "{ports} x {slots}");
+            assert_eq!(
+                turn(Side::Output, ports, slots, &list, turned, back),
+                Ok(())
+            );
+            assert!(frame == back, "{ports} x {slots}");
+        }
+    }
 }

@@ -1,6 +1,6 @@
 //! The crate and the C header of the library that it is linked with name the same numbers.
 
-use frame_builder::{Fault, Flow, Inspection, Limits, Refusal};
+use frame_builder::{Fault, Flow, Inspection, Limits, Refusal, Side};
 
 const HEADER: &str = include_str!(env!("FRAME_BUILDER_HEADER"));
 
@@ -57,6 +57,12 @@ fn number_of_limits() {
 }
 
 #[test]
+fn sides() {
+    assert_eq!(number("INPUT_SIDE"), Some(Side::Input.number()));
+    assert_eq!(number("OUTPUT_SIDE"), Some(Side::Output.number()));
+}
+
+#[test]
 fn refusals() {
     let (port, output, link, cells) = (1, 2, 3, 4);
     let refusals = [
@@ -68,6 +74,8 @@ fn refusals() {
         ("SLOT_NUMBER", Refusal::SlotNumber),
         ("FLOW_OR_PORT", Refusal::FlowOrPort),
         ("RUN_LENGTH", Refusal::RunLength),
+        ("ENTRIES", Refusal::Entries),
+        ("SECOND_LENGTH", Refusal::SecondLength),
         ("TOO_MANY_FLOWS", Refusal::TooManyFlows),
         ("FLOW_PORT", Refusal::FlowPort),
         ("FLOW_LINK", Refusal::FlowLink),
@@ -94,15 +102,15 @@ fn refusals_that_the_crate_does_not_have() {
     assert_eq!(number("REFUSED_LINE_PORT"), Some(8));
     assert_eq!(number("REFUSED_SHEET_LENGTH"), Some(10));
     let names = HEADER.matches("#define FRAME_BUILDER_REFUSED_").count();
-    assert_eq!(names, 4 + 12);
+    assert_eq!(names, 4 + 14);
 }
 
 #[test]
 fn faults() {
-    let (slot, size, input, output, flow) = (1, 2, 3, 4, 5);
+    let (slot, size, port, flow) = (1, 2, 3, 4);
     let faults = [
-        ("WRONG_ENTRY", Fault::WrongEntry { slot, input }),
-        ("OUTPUT_TWICE", Fault::OutputTwice { slot, output }),
+        ("WRONG_ENTRY", Fault::WrongEntry { slot, port }),
+        ("PORT_TWICE", Fault::PortTwice { slot, port }),
         ("FLOW_COUNT", Fault::FlowCount { flow }),
         ("UNBALANCED_BLOCK", Fault::UnbalancedBlock { slot, size }),
     ];

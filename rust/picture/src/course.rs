@@ -34,11 +34,11 @@ pub struct Course {
 impl Course {
     pub fn of(frame: &Frame, who: Who) -> Result<Course, String> {
         let name = name_of(frame, who)?;
-        let (ports, slots) = (frame.ports(), frame.slots());
+        let (side, ports, slots) = (frame.side(), frame.ports(), frame.slots());
         let (list, entries) = (frame.list(), frame.entries());
         let refused = |refusal: Refusal| format!("{who}: {refusal}; {ADVICE}");
         let count = |start, length| {
-            service_count(ports, slots, list, entries, who, start, length).map_err(refused)
+            service_count(side, ports, slots, list, entries, who, start, length).map_err(refused)
         };
         let bound = depth(ports, slots, list, who).map_err(refused)?.parts as i64;
         let heights = (0..=slots).map(|length| count(1, length).map(|first| first.lead));
@@ -249,11 +249,11 @@ pub mod tests {
 
     /// The first run whose lead, times a sign, is greatest, with the call asked for every one.
     fn farthest_asked(frame: &Frame, who: Who, sign: i64) -> Run {
-        let (ports, slots) = (frame.ports(), frame.slots());
+        let (side, ports, slots) = (frame.side(), frame.ports(), frame.slots());
         let starts = (1..=slots).flat_map(|start| (1..slots).map(move |length| (start, length)));
         starts.fold(NONE, |best, (start, length)| {
             let (list, entries) = (frame.list(), frame.entries());
-            let count = service_count(ports, slots, list, entries, who, start, length);
+            let count = service_count(side, ports, slots, list, entries, who, start, length);
             let lead = count.unwrap().lead;
             if sign * lead > sign * best.lead {
                 return Run {

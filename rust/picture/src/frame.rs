@@ -1,19 +1,28 @@
 //! The frame of a sheet.
 
-use frame_builder::{admit, build, slots_each, Flow, Refusal};
+use frame_builder::{admit, build, slots_each, turn, Flow, Refusal, Side};
 
 use crate::sheet::Sheet;
 
-/// The entries of a frame: slot by slot, for each input the number of the flow that it sends a cell of, 0 for idle; and the sheet that
-/// says what these flows are.
+/// The entries of a frame: slot by slot, for each input the number of the flow that it sends a cell of, or on the output side for each
+/// output the number of the flow that it takes a cell of, 0 for idle; and the sheet that says what these flows are.
 #[derive(Debug, PartialEq, Eq)]
 pub struct Frame {
     sheet: Sheet,
+    side: Side,
     entries: Vec<u16>,
 }
 
+/// What a port of a side is called.
+pub fn port_of(side: Side) -> &'static str {
+    match side {
+        Side::Input => "input",
+        Side::Output => "output",
+    }
+}
+
 impl Frame {
-    /// The frame that Build makes of a sheet.
+    /// The frame that Build makes of a sheet, which is on the input side.
     pub fn build(sheet: Sheet) -> Result<Frame, Refusal> {
         let Sheet { ports, slots, list } = &sheet;
         let limits = slots_each(*slots);
@@ -21,17 +30,44 @@ impl Frame {
         admit(*ports, *slots, list, limits)?;
         let mut entries = vec![0; ports * slots];
         build(*ports, *slots, list, limits, &mut entries)?;
-        Ok(Frame { sheet, entries })
+        let side = Side::Input;
+        Ok(Frame {
+            sheet,
+            side,
+            entries,
+        })
     }
 
-    /// A frame from anywhere for a sheet that Build takes, with as many entries as its own, each of them 0 or one of its flows.
+    /// The frame by the other side, as Turn writes it.
+    pub fn turned(self) -> Result<Frame, Refusal> {
+        let Sheet { ports, slots, list } = &self.sheet;
+        let mut entries = vec![0; self.entries.len()];
+        turn(self.side, *ports, *slots, list, &self.entries, &mut entries)?;
+        Ok(Frame {
+            side: self.side.other(),
+            entries,
+            ..self
+        })
+    }
+
+    /// A frame from anywhere on the input side, for a sheet that Build takes, with as many entries as its own, each of them 0 or one of its
+    /// flows.
     pub fn of_entries(sheet: Sheet, entries: Vec<u16>) -> Option<Frame> {
         let limits = slots_each(sheet.slots);
         admit(sheet.ports, sheet.slots, &sheet.list, limits).ok()?;
         let flows = sheet.list.len();
         let whole = entries.len() == sheet.ports * sheet.slots;
         let known = entries.iter().all(|&entry| usize::from(entry) <= flows);
-        (whole && known).then_some(Frame { sheet, entries })
+        let side = Side::Input;
+        (whole && known).then_some(Frame {
+            sheet,
+            side,
+            entries,
+        })
+    }
+
+    pub fn side(&self) -> Side {
+        self.side
     }
 
     pub fn ports(&self) -> usize {
@@ -55,10 +91,10 @@ impl Frame {
         self.entries.chunks(self.ports())
     }
 
-    /// The output that an entry sends to, 0 for idle.
-    pub fn output_of(&self, entry: u16) -> usize {
-        let flow = usize::from(entry).checked_sub(1);
-        flow.map_or(0, |place| usize::from(self.list()[place].output))
+    /// The flow that an entry is the number of, none for idle.
+    pub fn flow_of(&self, entry: u16) -> Option<Flow> {
+        let place = usize::from(entry).checked_sub(1);
+        place.map(|place| self.list()[place])
     }
 }
 
@@ -89,8 +125,30 @@ pub mod tests {
             rows,
             [[1, 0, 0, 5], [2, 0, 0, 3], [1, 0, 0, 4], [2, 0, 0, 5]]
         );
-        let outputs = rows[1].iter().map(|&entry| frame.output_of(entry));
+        let outputs = rows[1].iter().map(|&entry| frame.flow_of(entry));
+        let outputs = outputs.map(|flow| flow.map_or(0, |flow| flow.output));
         assert_eq!(outputs.collect::<Vec<_>>(), [2, 0, 0, 1]);
+        assert_eq!(frame.side(), Side::Input);
+    }
+
+    #[test]
+    fn table_7_turned() {
+        let turned = table7().turned().unwrap();
+        assert_eq!((turned.ports(), turned.slots()), (4, 4));
+        assert_eq!(turned.side(), Side::Output);
+        let rows: Vec<&[u16]> = turned.rows().collect();
+        assert_eq!(
+            rows,
+            [[1, 0, 0, 5], [3, 2, 0, 0], [1, 4, 0, 0], [0, 2, 0, 5]]
+        );
+        assert_eq!(turned.turned().unwrap(), table7());
+    }
+
+    #[test]
+    fn what_is_sent_to_an_output_twice_is_not_turned() {
+        let list = [Flow::new(1, 2, 1), Flow::new(2, 2, 1)];
+        let frame = Frame::of_entries(sheet(2, 2, &list), vec![1, 2, 0, 0]).unwrap();
+        assert_eq!(frame.turned(), Err(Refusal::Entries));
     }
 
     #[test]

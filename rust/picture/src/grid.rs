@@ -1,7 +1,9 @@
-//! The picture of a frame: slots across, inputs down, a colour for each output.
+//! The picture of a frame: slots across, the ports of its side down, a colour for each port of the other side.
 
-use crate::frame::Frame;
-use crate::legend::{draw_outputs, width_of_outputs, Flows};
+use frame_builder::Side;
+
+use crate::frame::{port_of, Frame};
+use crate::legend::{draw_ports, width_of_ports, Flows};
 use crate::look::{looks_of, Look};
 use crate::svg::{count, Page};
 use crate::tiles::{Tile, Tiles};
@@ -25,7 +27,7 @@ const GAP: f64 = 1.0;
 /// The width of a digit that is one high.
 const DIGIT: f64 = 0.56;
 
-/// Where the cells are. Slots are laid in bands, one below the other. Slots and inputs count from 0 here.
+/// Where the cells are. Slots are laid in bands, one below the other. Slots and ports count from 0 here.
 struct Layout {
     ports: usize,
     slots: usize,
@@ -61,7 +63,7 @@ impl Layout {
     }
 
     fn width(&self) -> f64 {
-        let legend = width_of_outputs(self.ports);
+        let legend = width_of_ports(self.ports);
         let cells = LEFT + self.band as f64 * self.wide + MARGIN;
         cells.max(legend).max(540.0)
     }
@@ -75,15 +77,15 @@ impl Layout {
     }
 
     /// The upper left corner of a cell.
-    fn corner(&self, slot: usize, input: usize) -> (f64, f64) {
+    fn corner(&self, slot: usize, port: usize) -> (f64, f64) {
         let x = LEFT + (slot % self.band) as f64 * self.wide;
         let top = TOP + (slot / self.band) as f64 * self.band_height() + AXIS;
-        (x, top + input as f64 * self.high)
+        (x, top + port as f64 * self.high)
     }
 
     /// The middle of a cell.
-    fn middle(&self, slot: usize, input: usize) -> (f64, f64) {
-        let (x, y) = self.corner(slot, input);
+    fn middle(&self, slot: usize, port: usize) -> (f64, f64) {
+        let (x, y) = self.corner(slot, port);
         (x + (self.wide - GAP) / 2.0, y + (self.high - GAP) / 2.0)
     }
 
@@ -121,26 +123,35 @@ impl Layout {
 pub fn draw_frame(frame: &Frame) -> String {
     let layout = Layout::of(frame);
     let below = layout.height();
-    let looks = looks_of(frame.list());
+    let looks = looks_of(frame.list(), frame.side());
+    let coloured = port_of(frame.side().other());
     let flows = Flows::of(
         frame.list(),
-        &looks,
+        (&looks, coloured),
         (MARGIN, below),
         layout.width() - 2.0 * MARGIN,
     );
-    let ports = count(layout.ports, "port");
-    let title = format!("Frame of {ports} and {}", count(layout.slots, "slot"));
+    let title = title(frame);
     let width = layout.width().max(flows.width() + 2.0 * MARGIN);
     let mut page = Page::new((width, below + flows.height()), &title);
     let cells = cells_of(frame, &layout, &looks);
     page.heading(MARGIN, &title, &subtitle(frame, &cells));
-    draw_outputs(&mut page, (MARGIN, 64.0), layout.ports);
+    draw_ports(&mut page, (MARGIN, 64.0), coloured, layout.ports);
     cells.draw(&mut page);
     write_slots(&mut page, &layout);
-    write_inputs(&mut page, &layout);
-    name_axes(&mut page, &layout);
+    write_ports(&mut page, &layout);
+    name_axes(&mut page, &layout, port_of(frame.side()));
     flows.draw(&mut page);
     page.finish()
+}
+
+fn title(frame: &Frame) -> String {
+    let (ports, slots) = (count(frame.ports(), "port"), count(frame.slots(), "slot"));
+    let side = match frame.side() {
+        Side::Input => "",
+        Side::Output => ", by output",
+    };
+    format!("Frame of {ports} and {slots}{side}")
 }
 
 fn subtitle(frame: &Frame, cells: &Tiles) -> String {
@@ -152,7 +163,11 @@ fn subtitle(frame: &Frame, cells: &Tiles) -> String {
         Some(_) => "",
         None => ". They are too small for numbers: a browser shows the flow at the pointer",
     };
-    format!("The flow that each input sends a cell of in each slot: {sent}, {idle} idle{small}")
+    let does = match frame.side() {
+        Side::Input => "input sends",
+        Side::Output => "output takes",
+    };
+    format!("The flow that each {does} a cell of in each slot: {sent}, {idle} idle{small}")
 }
 
 /// The cells of a frame, and its idle places.
@@ -160,11 +175,11 @@ fn cells_of(frame: &Frame, layout: &Layout, looks: &[Look]) -> Tiles {
     let rows = frame.rows().enumerate();
     let tiles = rows.flat_map(|(slot, row)| {
         let entries = row.iter().enumerate();
-        entries.map(move |(input, &entry)| Tile {
+        entries.map(move |(port, &entry)| Tile {
             flow: entry.into(),
             look: looks[usize::from(entry)],
-            corner: layout.corner(slot, input),
-            title: Some(title_of(frame, entry, slot, input)),
+            corner: layout.corner(slot, port),
+            title: Some(title_of(frame, entry, slot, port)),
         })
     });
     Tiles {
@@ -175,12 +190,17 @@ fn cells_of(frame: &Frame, layout: &Layout, looks: &[Look]) -> Tiles {
 }
 
 /// What a browser shows of a cell.
-fn title_of(frame: &Frame, entry: u16, slot: usize, input: usize) -> String {
-    let (input, slot) = (input + 1, slot + 1);
-    match frame.output_of(entry) {
-        0 => format!("idle, input {input}, slot {slot}"),
-        output => format!("flow {entry}, input {input}, output {output}, slot {slot}"),
-    }
+fn title_of(frame: &Frame, entry: u16, slot: usize, port: usize) -> String {
+    let (port, slot) = (port + 1, slot + 1);
+    let Some(flow) = frame.flow_of(entry) else {
+        return format!("idle, {} {port}, slot {slot}", port_of(frame.side()));
+    };
+    // The port at whose place the cell stands, and the flow's port of the other side.
+    let (input, output) = match frame.side() {
+        Side::Input => (port, flow.output.into()),
+        Side::Output => (flow.input.into(), port),
+    };
+    format!("flow {entry}, input {input}, output {output}, slot {slot}")
 }
 
 /// The slots' numbers above each band.
@@ -193,27 +213,27 @@ fn write_slots(page: &mut Page, layout: &Layout) {
     page.put("</g>");
 }
 
-/// The inputs' numbers at the left of each band.
-fn write_inputs(page: &mut Page, layout: &Layout) {
+/// The ports' numbers at the left of each band.
+fn write_ports(page: &mut Page, layout: &Layout) {
     let size = layout.high.min(12.0) - 1.0;
     page.put(&format!("<g font-size=\"{size}\" text-anchor=\"end\">"));
-    let inputs = |slot| (0..layout.ports).map(move |input| (slot, input));
-    for (slot, input) in layout.firsts().flat_map(inputs) {
-        let y = layout.middle(slot, input).1 + size * 0.36;
-        page.text((LEFT - 8.0, y), "", &(input + 1).to_string());
+    let ports = |slot| (0..layout.ports).map(move |port| (slot, port));
+    for (slot, port) in layout.firsts().flat_map(ports) {
+        let y = layout.middle(slot, port).1 + size * 0.36;
+        page.text((LEFT - 8.0, y), "", &(port + 1).to_string());
     }
     page.put("</g>");
 }
 
 /// The words beside the numbers of each band.
-fn name_axes(page: &mut Page, layout: &Layout) {
+fn name_axes(page: &mut Page, layout: &Layout, port: &str) {
     let column = 18.0;
     page.put("<g fill=\"#666\">");
     for slot in layout.firsts() {
         let top = layout.corner(slot, 0).1;
         page.text((LEFT - 14.0, top - 5.0), "text-anchor=\"end\"", "slot");
         let middle = top + layout.ports as f64 * layout.high / 2.0;
-        page.upright((column, middle), "", "input");
+        page.upright((column, middle), "", port);
     }
     page.put("</g>");
 }
@@ -278,6 +298,28 @@ mod tests {
         assert!(drawn.contains(">4 \u{2192} 2, 1 cell</text>"));
     }
 
+    /// The cells of inputs 1 and 4 are in the colours of those inputs, and each output has a row.
+    #[test]
+    fn table_7_by_output_has_a_dash_for_each_cell() {
+        let drawn = draw_frame(&table7().turned().unwrap());
+        let of_input_1 = "<g stroke=\"#d7263d\">\n\
+                   <path d=\"M64 143.5h43\"><title>flow 1, input 1, output 1, slot 1</title></path>\n\
+                   <path d=\"M108 187.5h43\"><title>flow 2, input 1, output 2, slot 2</title></path>\n\
+                   <path d=\"M152 143.5h43\"><title>flow 1, input 1, output 1, slot 3</title></path>\n\
+                   <path d=\"M196 187.5h43\"><title>flow 2, input 1, output 2, slot 4</title></path>\n</g>";
+        assert!(drawn.contains(of_input_1), "{drawn}");
+        assert!(drawn.contains("<title>Frame of 4 ports and 4 slots, by output</title>"));
+        assert!(drawn.contains(
+            "The flow that each output takes a cell of in each slot: 8 cells, 8 places idle<"
+        ));
+        assert!(drawn.contains("flow: its number in the colour of its input, "));
+        // The name of the rows, and that of the colours.
+        assert_eq!(drawn.matches(">output</text>").count(), 1);
+        assert_eq!(drawn.matches(">input</text>").count(), 1);
+        assert_eq!(drawn.matches("<title>idle, output ").count(), 8);
+        assert_eq!(drawn.matches("<title>idle, input ").count(), 0);
+    }
+
     /// The titles of a frame, but for the page's own.
     fn titles(frame: &Frame) -> Vec<String> {
         let drawn = draw_frame(frame);
@@ -313,11 +355,52 @@ mod tests {
         }
     }
 
+    /// A frame and the same frame turned have a cell of the same flow, input, output and slot for each title.
+    #[test]
+    fn a_turned_frame_has_the_same_cells() {
+        for text in [
+            include_str!("../../../examples/table7.sheet"),
+            include_str!("../../../examples/sound-and-picture.sheet"),
+            include_str!("../../../examples/largest.sheet"),
+        ] {
+            let sent = |frame: &Frame| {
+                let mut titles = titles(frame);
+                titles.retain(|title| title.starts_with("flow "));
+                titles.sort();
+                titles
+            };
+            let frame = frame_of(text);
+            let cells = sent(&frame);
+            assert!(!cells.is_empty());
+            assert!(sent(&frame.turned().unwrap()) == cells);
+        }
+    }
+
+    /// Each cell stands in the row of its output and in the column of its slot.
+    #[test]
+    fn each_cell_by_output_stands_at_its_output() {
+        let frame = frame_of(include_str!("../../../examples/studio.sheet"));
+        let turned = frame.turned().unwrap();
+        let layout = Layout::of(&turned);
+        let looks = looks_of(turned.list(), turned.side());
+        let cells = cells_of(&turned, &layout, &looks);
+        let taken = || cells.tiles.iter().filter(|tile| tile.flow > 0);
+        assert_eq!(taken().count(), 18);
+        for tile in taken() {
+            let flow = turned.list()[tile.flow - 1];
+            let (input, output) = (usize::from(flow.input), usize::from(flow.output));
+            let title = tile.title.as_deref().unwrap();
+            let slot = title.rsplit_once(' ').unwrap().1.parse::<usize>().unwrap();
+            assert_eq!(tile.corner, layout.corner(slot - 1, output - 1), "{title}");
+            assert_eq!(tile.look.port, input, "{title}");
+        }
+    }
+
     /// Flow 2 has the same ports as flow 1, and flow 4 as flow 3.
     #[test]
     fn sound_looks_other_than_picture() {
         let frame = frame_of(include_str!("../../../examples/sound-and-picture.sheet"));
-        let looks = looks_of(frame.list());
+        let looks = looks_of(frame.list(), Side::Input);
         let cells = cells_of(&frame, &Layout::of(&frame), &looks);
         for tile in &cells.tiles {
             assert_eq!(tile.look.field().is_some(), [2, 4].contains(&tile.flow));
@@ -362,10 +445,10 @@ mod tests {
         for (ports, slots) in [(1, 1), (4, 4), (16, 16), (16, 64), (2, 1_024), (16, 1_024)] {
             for flows in [1, 5, 60, 256, 512] {
                 let list = vec![Flow::new(1, 1, 0); flows];
-                let looks = looks_of(&list);
+                let looks = looks_of(&list, Side::Input);
                 let layout = Layout::of(&idle(ports, slots));
                 let (top, width) = (layout.height(), layout.width() - 2.0 * MARGIN);
-                let legend = Flows::of(&list, &looks, (MARGIN, top), width);
+                let legend = Flows::of(&list, (&looks, "output"), (MARGIN, top), width);
                 assert!(legend.height() <= top, "{ports} {slots} {flows}");
                 let drawn = draw_frame(&Frame::build(sheet(ports, slots, &list)).unwrap());
                 let wide = layout.width().max(legend.width() + 2.0 * MARGIN);

@@ -1,4 +1,4 @@
-//! The legend of a frame: a colour for each output, and each flow with its number, its ports and its cells.
+//! The legend of a frame: a colour for each port of the other side, and each flow with its number, its ports and its cells.
 
 use frame_builder::Flow;
 
@@ -7,7 +7,7 @@ use crate::palette::PALETTE;
 use crate::svg::{count, width_of, Page, Path};
 use crate::tiles::{Tile, Tiles};
 
-/// The colour of an output, and what it takes with the white beside it.
+/// The colour of a port, and what it takes with the white beside it.
 const SWATCH: (f64, f64) = (26.0, 18.0);
 const SWATCH_STEP: f64 = 28.0;
 /// The sizes that the flows' words can have, the smallest last.
@@ -16,16 +16,16 @@ const SIZES: [f64; 3] = [12.0, 11.0, 10.0];
 const LINE: f64 = 16.0;
 const WHITE: f64 = 10.0;
 
-/// The width that the colours of so many outputs take.
-pub fn width_of_outputs(ports: usize) -> f64 {
+/// The width that the colours of so many ports take.
+pub fn width_of_ports(ports: usize) -> f64 {
     160.0 + ports as f64 * SWATCH_STEP
 }
 
-/// The colours of the outputs with their numbers, and that of idle.
-pub fn draw_outputs(page: &mut Page, (left, top): (f64, f64), ports: usize) {
+/// The colours of the ports of this name with their numbers, and that of idle.
+pub fn draw_ports(page: &mut Page, (left, top): (f64, f64), name: &str, ports: usize) {
     let base = top + 13.0;
     let first = left + 46.0;
-    page.text((left, base), "", "output");
+    page.text((left, base), "", name);
     for (place, colour) in PALETTE[1..=ports].iter().enumerate() {
         let x = first + place as f64 * SWATCH_STEP;
         draw_swatch(page, (x, top), colour.fill);
@@ -51,6 +51,8 @@ pub struct Flows<'a> {
     list: &'a [Flow],
     /// That of idle first.
     looks: &'a [Look],
+    /// What the ports are called whose colours they have.
+    name: &'static str,
     left: f64,
     top: f64,
     /// The size of their words.
@@ -62,11 +64,17 @@ pub struct Flows<'a> {
 impl<'a> Flows<'a> {
     /// As many columns as the width has room for, at the largest size at which they are not higher than the picture above them, which
     /// is as high as their top. Where there is none, columns as high as the picture, of the smallest size, and wider than the width.
-    pub fn of(list: &'a [Flow], looks: &'a [Look], corner: (f64, f64), width: f64) -> Flows<'a> {
+    pub fn of(
+        list: &'a [Flow],
+        (looks, name): (&'a [Look], &'static str),
+        corner: (f64, f64),
+        width: f64,
+    ) -> Flows<'a> {
         let (left, top) = corner;
         let laid = |size: f64, rows: usize| Flows {
             list,
             looks,
+            name,
             left,
             top,
             size,
@@ -116,12 +124,15 @@ impl<'a> Flows<'a> {
     }
 
     /// The lines above the flows.
-    fn lines(&self) -> Vec<&'static str> {
-        let all = "flow: its number in the colour of its output, input \u{2192} output, cells in the frame";
+    fn lines(&self) -> Vec<String> {
+        let all = format!(
+            "flow: its number in the colour of its {}, input \u{2192} output, cells in the frame",
+            self.name
+        );
         let fields = "a lighter or darker field: a further flow of the same input and output";
         let several = self.looks.iter().any(|look| look.field().is_some());
         if several {
-            vec![all, fields]
+            vec![all, fields.to_string()]
         } else {
             vec![all]
         }
@@ -147,7 +158,7 @@ impl<'a> Flows<'a> {
         }
         for (place, words) in self.lines().into_iter().enumerate() {
             let base = self.top + 13.0 + place as f64 * LINE;
-            page.text((self.left, base), "", words);
+            page.text((self.left, base), "", &words);
         }
         self.tiles().draw(page);
         let (wide, high) = self.swatch();
@@ -185,14 +196,21 @@ fn words_of(flow: &Flow) -> String {
 
 #[cfg(test)]
 mod tests {
+    use frame_builder::Side;
+
     use super::*;
     use crate::look::looks_of;
+
+    /// The looks of a list's flows in a frame on the input side.
+    fn looks_on_input_side(list: &[Flow]) -> Vec<Look> {
+        looks_of(list, Side::Input)
+    }
 
     #[test]
     fn flows_are_laid_in_columns() {
         let list = [Flow::new(1, 2, 3); 9];
-        let looks = looks_of(&list);
-        let flows = Flows::of(&list, &looks, (20.0, 200.0), 500.0);
+        let looks = looks_on_input_side(&list);
+        let flows = Flows::of(&list, (&looks, "output"), (20.0, 200.0), 500.0);
         let column = flows.column();
         let corners: Vec<_> = flows.corners().collect();
         let first = 200.0 + 2.0 * LINE + WHITE;
@@ -209,8 +227,8 @@ mod tests {
     fn a_longer_list_is_written_smaller_and_then_wider() {
         let laid = |flows: usize| {
             let list = vec![Flow::new(1, 2, 3); flows];
-            let looks = looks_of(&list);
-            let flows = Flows::of(&list, &looks, (20.0, 200.0), 500.0);
+            let looks = looks_on_input_side(&list);
+            let flows = Flows::of(&list, (&looks, "output"), (20.0, 200.0), 500.0);
             assert!(flows.height() <= 200.0);
             (flows.size, flows.rows, flows.width() <= 500.0)
         };
@@ -224,9 +242,9 @@ mod tests {
     #[test]
     fn flows_do_not_overlap() {
         let list = vec![Flow::new(16, 16, 1_024); 512];
-        let looks = looks_of(&list);
+        let looks = looks_on_input_side(&list);
         for width in [500.0, 1_196.0] {
-            let flows = Flows::of(&list, &looks, (20.0, 428.0), width);
+            let flows = Flows::of(&list, (&looks, "output"), (20.0, 428.0), width);
             let (wide, high) = flows.swatch();
             let words = width_of(&words_of(&list[0])) * flows.size;
             let corners: Vec<_> = flows.corners().collect();
@@ -237,10 +255,20 @@ mod tests {
 
     #[test]
     fn no_flows_take_no_room() {
-        assert_eq!(
-            Flows::of(&[], &looks_of(&[]), (20.0, 200.0), 500.0).height(),
-            0.0
-        );
+        let looks = looks_on_input_side(&[]);
+        let flows = Flows::of(&[], (&looks, "output"), (20.0, 200.0), 500.0);
+        assert_eq!(flows.height(), 0.0);
+    }
+
+    #[test]
+    fn the_lines_name_the_ports_of_the_colours() {
+        let list = [Flow::new(1, 2, 3)];
+        let looks = looks_on_input_side(&list);
+        for name in ["input", "output"] {
+            let flows = Flows::of(&list, (&looks, name), (20.0, 200.0), 500.0);
+            let words = format!("flow: its number in the colour of its {name}, input \u{2192} output, cells in the frame");
+            assert_eq!(flows.lines(), [words]);
+        }
     }
 
     #[test]

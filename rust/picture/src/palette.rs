@@ -1,4 +1,4 @@
-//! Colours of the outputs.
+//! Colours of the ports of a side.
 
 /// A colour to fill with, and one to write on it.
 pub struct Colour {
@@ -14,7 +14,7 @@ const fn dark(fill: &'static str) -> Colour {
     Colour { fill, ink: "#fff" }
 }
 
-/// Idle first, then outputs 1 to 16.
+/// Idle first, then ports 1 to 16.
 pub const PALETTE: [Colour; 17] = [
     light("#eeeeee"),
     dark("#d7263d"),

@@ -1,6 +1,6 @@
 //! The words of the command line.
 
-use frame_builder::Who;
+use frame_builder::{Side, Who};
 
 use crate::sheet::number;
 
@@ -8,11 +8,12 @@ use crate::sheet::number;
 pub const HELP: &str = "\
 picture: draws the frame of a reservation sheet, as an SVG file on standard output
 
-  ./picture frame [SHEET]           slots across, inputs down, a colour for each output, a number for each flow where it has room
-  ./picture flow F [SHEET]          flow F ahead of its share, or behind, along the frame, and how deep a buffer to order for it
-  ./picture input I [SHEET]         all cells of input I ahead of their share, or behind
-  ./picture output O [SHEET]        the same of all cells of output O
-  ./picture --help                  prints this
+  ./picture frame [SHEET]                slots across, inputs down, a colour for each output, a number for each flow where it has room
+  ./picture frame --by-output [SHEET]    the same frame turned: slots across, outputs down, a colour for each input
+  ./picture flow F [SHEET]               flow F ahead of its share, or behind, along the frame, and how deep a buffer to order for it
+  ./picture input I [SHEET]              all cells of input I ahead of their share, or behind
+  ./picture output O [SHEET]             the same of all cells of output O
+  ./picture --help                       prints this
 
 SHEET is a file; for - and without a name the sheet is read from standard input. ./frame --help says what a sheet looks like. Its
 first pair line is flow 1, the next one flow 2, and so on. The frame is the one that ./frame prints.
@@ -24,6 +25,9 @@ flow, input, output and slot.
 The colour of a cell is that of its output, whatever its input. Flows with the same input and the same output are told apart by a
 lighter or darker field on that colour: the first such flow has none, and each of the next six has another one. The eighth looks
 like the first again. Idle places are grey.
+
+With --by-output a row has the cells that an output takes, slot by slot: the frame as the call Turn writes it. All cells of a row
+then have the same output, so that the colour of a cell is that of its input, whatever its output.
 
 The legend has a line for each flow: input, output, and cells in the frame. It is folded into columns, so that it is not higher
 than the picture above it. Where the columns need more room than the picture is wide, the page is wider.
@@ -48,6 +52,7 @@ sources and says what these numbers rest on.
 Examples:
 
   ./picture frame examples/table7.sheet > docs/table7-frame.svg
+  ./picture frame --by-output examples/table7.sheet > table7-by-output.svg
   ./picture flow 5 examples/table7.sheet > docs/table7-flow.svg
 
 It is built by cargo when it is first run, with the library that has the calls: an installed one, which FRAME_BUILDER_PREFIX or
@@ -63,7 +68,8 @@ pub const ADVICE: &str = "./picture --help says more";
 /// A picture that can be drawn.
 #[derive(Debug, Clone, Copy, PartialEq, Eq)]
 pub enum Picture {
-    Frame,
+    /// The frame by this side.
+    Frame(Side),
     Course(Who),
 }
 
@@ -79,7 +85,8 @@ impl Request {
     pub fn read(words: &[String]) -> Result<Request, String> {
         let words: Vec<&str> = words.iter().map(String::as_str).collect();
         let (picture, file) = match words[..] {
-            ["frame", ref rest @ ..] => (Picture::Frame, rest),
+            ["frame", "--by-output", ref rest @ ..] => (Picture::Frame(Side::Output), rest),
+            ["frame", ref rest @ ..] => (Picture::Frame(Side::Input), rest),
             ["flow", flow, ref rest @ ..] => (course(Who::Flow, "flow", flow)?, rest),
             ["input", port, ref rest @ ..] => (course(Who::Input, "port", port)?, rest),
             ["output", port, ref rest @ ..] => (course(Who::Output, "port", port)?, rest),
@@ -121,9 +128,10 @@ mod tests {
     }
 
     #[test]
-    fn the_four_pictures() {
+    fn the_five_pictures() {
         for (line, picture) in [
-            ("frame", Picture::Frame),
+            ("frame", Picture::Frame(Side::Input)),
+            ("frame --by-output", Picture::Frame(Side::Output)),
             ("flow 5", Picture::Course(Who::Flow(5))),
             ("input 16", Picture::Course(Who::Input(16))),
             ("output 2", Picture::Course(Who::Output(2))),
@@ -144,6 +152,9 @@ mod tests {
             ("a.sheet", "\"a.sheet\" is no picture; "),
             ("--help frame", "\"--help\" is no picture; "),
             ("frame a.sheet b.sheet", "one sheet at a time;"),
+            ("frame --by-output a.sheet b.sheet", "one sheet at a time;"),
+            ("frame a.sheet --by-output", "one sheet at a time;"),
+            ("--by-output a.sheet", "\"--by-output\" is no picture; "),
             ("flow", "a flow is missing: ./picture flow F [SHEET];"),
             ("flow 1 2 a.sheet", "one sheet at a time;"),
             ("flow a.sheet", "\"a.sheet\" is no flow; flows are 1, 2,"),

@@ -6,7 +6,7 @@ use crate::look::{Edges, Field, Look};
 use crate::palette::PALETTE;
 use crate::svg::{number, Page, Path};
 
-/// The parts of a cell's width and height that a field leaves to the output's colour: on either side, and above the field or below
+/// The parts of a cell's width and height that a field leaves to the port's colour: on either side, and above the field or below
 /// it. A field that a number is written on leaves less.
 const FRAME: (f64, f64) = (0.25, 0.2);
 const FRAME_OF_NUMBER: (f64, f64) = (0.06, 0.15);
@@ -34,8 +34,8 @@ impl Tiles {
     pub fn draw(&self, page: &mut Page) {
         let (high, crisp) = (number(self.size.1), "shape-rendering=\"crispEdges\"");
         page.put(&format!("<g stroke-width=\"{high}\" {crisp}>"));
-        for (output, colour) in PALETTE.iter().enumerate() {
-            self.draw_output(page, output, colour.fill);
+        for (port, colour) in PALETTE.iter().enumerate() {
+            self.draw_port(page, port, colour.fill);
         }
         self.draw_fields(page);
         page.put("</g>");
@@ -44,10 +44,10 @@ impl Tiles {
         }
     }
 
-    /// The cells of an output, a thick dash for each of them.
-    fn draw_output(&self, page: &mut Page, output: usize, fill: &str) {
-        let of_output = |tile: &&Tile| tile.look.output == output;
-        let mut tiles = self.tiles.iter().filter(of_output).peekable();
+    /// The cells that have the colour of a port, a thick dash for each of them.
+    fn draw_port(&self, page: &mut Page, port: usize, fill: &str) {
+        let of_port = |tile: &&Tile| tile.look.port == port;
+        let mut tiles = self.tiles.iter().filter(of_port).peekable();
         if tiles.peek().is_none() {
             return;
         }
@@ -121,11 +121,11 @@ impl Tiles {
 mod tests {
     use super::*;
 
-    /// A cell of flow 3, to output 2.
+    /// A cell of flow 3, in the colour of port 2.
     fn drawn(turn: usize, digits: Option<f64>) -> String {
         let tile = Tile {
             flow: 3,
-            look: Look { output: 2, turn },
+            look: Look { port: 2, turn },
             corner: (10.0, 20.0),
             title: Some("flow 3".to_string()),
         };
@@ -143,7 +143,7 @@ mod tests {
         "<g stroke=\"#2f5fd0\">\n<path d=\"M10 35h40\"><title>flow 3</title></path>\n</g>";
 
     #[test]
-    fn the_first_flow_of_a_pair_has_its_output_colour_alone() {
+    fn the_first_flow_of_a_pair_has_its_port_colour_alone() {
         let drawn = drawn(0, Some(10.0));
         assert!(drawn.contains(BELOW), "{drawn}");
         assert_eq!(drawn.matches("<path ").count(), 1);
@@ -167,7 +167,7 @@ mod tests {
     }
 
     #[test]
-    fn without_a_number_a_field_has_more_of_the_output_colour_beside_it() {
+    fn without_a_number_a_field_has_more_of_the_port_colour_beside_it() {
         let drawn = drawn(1, None);
         assert!(drawn.contains("M20 35h20\" stroke=\"#d1dcf5\" stroke-width=\"18\""));
         assert!(!drawn.contains(">3</text>"));

@@ -47,7 +47,13 @@ fn refuses(line: &str, input: &[u8], part: &str) {
 
 #[test]
 fn pictures_go_to_standard_output() {
-    for line in ["frame", "flow 5", "input 1", "output 4"] {
+    for line in [
+        "frame",
+        "frame --by-output",
+        "flow 5",
+        "input 1",
+        "output 4",
+    ] {
         let output = run(line, TABLE7.as_bytes());
         assert_eq!(output.status.code(), Some(0), "{line}");
         assert!(output.stderr.is_empty(), "{line}");
@@ -64,7 +70,13 @@ fn pictures_go_to_standard_output() {
 /// Each takes about a twentieth of that on a machine with nothing else to do.
 #[test]
 fn the_largest_pictures_take_less_than_a_second() {
-    for line in ["frame", "flow 512", "input 16", "output 16"] {
+    for line in [
+        "frame",
+        "frame --by-output",
+        "flow 512",
+        "input 16",
+        "output 16",
+    ] {
         let begun = Instant::now();
         let output = run(line, LARGEST.as_bytes());
         let taken = begun.elapsed();
@@ -79,6 +91,7 @@ fn help_goes_to_standard_output() {
     assert_eq!(output.status.code(), Some(0));
     let text = String::from_utf8(output.stdout).unwrap();
     assert!(text.contains("./picture flow F [SHEET]"));
+    assert!(text.contains("./picture frame --by-output [SHEET]"));
 }
 
 #[test]
@@ -95,6 +108,28 @@ fn wrong_words_go_to_standard_error() {
     refuses("frame src", b"", "src: ");
     let named = format!("{TABLE7_FILE} {TABLE7_FILE}");
     refuses(&format!("frame {named}"), b"", "one sheet at a time");
+    let after = format!("frame {TABLE7_FILE} --by-output");
+    refuses(&after, b"", "one sheet at a time");
+}
+
+/// The same cells by input and by output, and the output down the side.
+#[test]
+fn a_frame_by_output_is_the_frame_turned() {
+    let drawn = |line: &str| String::from_utf8(run(line, TABLE7.as_bytes()).stdout).unwrap();
+    let cells = |text: &str| {
+        let titles = text
+            .split("<title>")
+            .filter(|part| part.starts_with("flow "));
+        let titles = titles.map(|part| part.split_once("</title>").unwrap().0.to_string());
+        let mut titles: Vec<String> = titles.collect();
+        titles.sort();
+        titles
+    };
+    let (by_input, by_output) = (drawn("frame"), drawn("frame --by-output"));
+    assert_ne!(by_input, by_output);
+    assert_eq!(cells(&by_input).len(), 8);
+    assert_eq!(cells(&by_input), cells(&by_output));
+    assert!(by_output.contains("<title>Frame of 4 ports and 4 slots, by output</title>"));
 }
 
 /// The refusals of sheets, as the sheet program prints them.
@@ -118,11 +153,9 @@ fn refusals() -> Vec<(Vec<u8>, &'static str)> {
 #[test]
 fn wrong_sheets_are_refused() {
     for (sheet, refusal) in refusals() {
-        refuses(
-            "frame",
-            &sheet,
-            &format!("the sheet is refused: {refusal};"),
-        );
+        for line in ["frame", "frame --by-output"] {
+            refuses(line, &sheet, &format!("the sheet is refused: {refusal};"));
+        }
     }
 }
 

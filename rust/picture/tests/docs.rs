@@ -3,6 +3,7 @@
 use std::fs;
 use std::path::PathBuf;
 
+use frame_builder::Side;
 use picture::{draw, draw_frame, Frame, Picture, Request, Sheet};
 
 fn from_top(path: &str) -> PathBuf {
@@ -57,9 +58,11 @@ fn one_cell_flows() {
 /// As many ports, slots, flows and cells as there can be; half of the flows have the same ports as the others.
 #[test]
 fn the_largest_is_of_moderate_size() {
-    let drawn = draw(Picture::Frame, &sheet_of("largest")).unwrap();
-    assert_eq!(drawn.matches("<title>flow ").count(), 16 * 1_024);
-    assert!(drawn.len() < 3_000_000, "{} bytes", drawn.len());
+    for side in [Side::Input, Side::Output] {
+        let drawn = draw(Picture::Frame(side), &sheet_of("largest")).unwrap();
+        assert_eq!(drawn.matches("<title>flow ").count(), 16 * 1_024);
+        assert!(drawn.len() < 3_000_000, "{} bytes", drawn.len());
+    }
 }
 
 #[test]
