@@ -9,10 +9,13 @@ use Rattle.exports.proofs.count.Tie as tie
 
 returns : tie.Need-returns
 returns c =
+    let counted = c .before .before in
+    let side = counted .before .side-of in
+    let a = counted .before .before .before .before .args in
     let lead = c .before .of-service .result .lead in
     let kept : toZ w64 (ofZ w64 lead) ≡ lead = search needs in
-    let is = c .before .before .service-count .ensures ∙ ap (λ s. service s _ _ _ _ _ _ _) (c .before .before .before .side-of .ensures) in
-    search (needs, replied-of, kept, is)
+    let on = ap (λ s. service s (a .ports) (a .slots) (a .list .now) (a .frame .now) (a .who) (a .start) (a .len)) (side .ensures) in
+    search (replied-of (c .before .of-service .ensures) (counted .service-count .ensures ∙ on) kept)
 
 pub count-spec : {M : Type 1} → statement M
 count-spec = tie.close (tie.spec (λ c κs. search needs) (λ c κs. search needs) (λ c κs. search needs) returns)

@@ -1,15 +1,16 @@
-use Rattle.numbers.proofs.Told.{three-of}
+use mathlib.Core.Path.{_≡_, ap}
 use borrow.Author.Needs.{needs}
-use mathlib.Core.Path.{ap, _∙_}
 use Rattle.calls.specs.Inspect.{inspected}
+use Rattle.numbers.proofs.Told.{three-of}
 use Rattle.exports.proofs.frame_builder_inspect.Statement.{statement}
 use Rattle.exports.proofs.frame_builder_inspect.Tie as tie
 
 returns : tie.Need-returns
 returns c =
-    let side = c .before .before .side-of .ensures in
-    let is = c .before .inspect .ensures ∙ ap (λ s. inspected s _ _ _ _) side in
-    search (needs, three-of, is)
+    let side = c .before .before .side-of in
+    let a = c .before .before .before .before .before .args in
+    let on = ap (λ s. inspected s (a .ports) (a .slots) (a .list .now) (a .frame .now)) (side .ensures) in
+    search (needs, three-of, on)
 
 pub frame-builder-inspect-spec : {M : Type 1} → statement M
 frame-builder-inspect-spec =

@@ -46,7 +46,7 @@ returns-5 c =
     let listed = frame .before in
     done _ _ _ _ _ _ _ _
     (twice-done _ _ _ (listed .before .before .check-list .ensures) (listed .enum-told .given .1) (frame .bad-length .ensures) (second .before .if1 .left) (second .if2 .left)
-    _ (right .before .first-wrong .ensures) (right .if3 .left) _ (c .before .first-twice .ensures) (c .if4 .taken))
+    _ (right .before .first-wrong .ensures) (right .if3 .left) _ (c .before .first-twice .ensures) (search needs))
 
 turn-frame-requires : tie.Need-turn-frame-requires
 turn-frame-requires c κs =
@@ -58,7 +58,7 @@ turn-frame-requires c κs =
     let list = listed .before .before .check-list .ensures in
     let accepted = listed .enum-told .given .1 in (
       turnable _ (list-well list accepted) (frame-fits list accepted (frame .bad-length .ensures) (second .before .if1 .left))
-      (right .before .first-wrong .ensures) (right .if3 .left) (once .before .first-twice .ensures) (once .if4 .left),
+      (right .before .first-wrong .ensures) (right .if3 .left) (once .before .first-twice .ensures) (search needs),
       second .if2 .left,
     )
 
@@ -88,4 +88,4 @@ turn-spec =
     let listed = frame .before in
     done _ _ _ _ _ _ _ _
     (turns _ _ _ (listed .before .before .check-list .ensures) (listed .enum-told .given .1) (frame .bad-length .ensures) (second .before .if1 .left) (second .if2 .left)
-    _ (right .before .first-wrong .ensures) (right .if3 .left) _ (once .before .first-twice .ensures) (once .if4 .left) (turned .turn-frame .ensures))))
+    _ (right .before .first-wrong .ensures) (right .if3 .left) _ (once .before .first-twice .ensures) (search needs) (turned .turn-frame .ensures))))
