@@ -6,6 +6,7 @@ ghost use Rattle.calls.specs.Build.{built, frameAfter};
 ghost use Rattle.calls.specs.Inspect.{inspected};
 ghost use Rattle.calls.specs.Service.{viewNumber, viewStart, viewSize, service};
 ghost use Rattle.calls.specs.Depth.{depth};
+ghost use Rattle.sides.specs.Turn.{turnNumber, secondAfter};
 ghost use Rattle.numbers.specs.Numbers.{Values2, Values3, Replied};
 ghost use Rattle.numbers.specs.Sides.{sideNumbered};
 use calls::Who;
@@ -71,6 +72,23 @@ pub extern "C" fn frame_builder_build(
     *first = n.first;
     *second = n.second;
     *third = n.third;
+    n.number
+}
+
+// Turn a frame of a side; no answer of it has a value.
+#[no_mangle]
+pub extern "C" fn frame_builder_turn(
+    side: usize,
+    ports: usize,
+    slots: usize,
+    list: &[u16],
+    frame: &[u16],
+    second: &mut [u16],
+) -> usize
+    ensures { λ r. ⌜ r ≡ turnNumber (sideNumbered side) ports slots (now (list .entry)) (now (frame .entry)) (now (second .entry)) ⌝ }
+    ensures { λ _. ⌜ now (second .exit) ≡ secondAfter (sideNumbered side) ports slots (now (list .entry)) (now (frame .entry)) (now (second .entry)) ⌝ }
+{
+    let n = numbers::of_answer(turning::turn(side_of(side), ports, slots, list, frame, second));
     n.number
 }
 

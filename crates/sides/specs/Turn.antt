@@ -57,6 +57,10 @@ turnAccepts side ports slots list entries second = none-holds (turnChecks side p
 abbrev pub turnAnswer : Side → ℕ → ℕ → List ℕ → List ℕ → List ℕ → List ℕ
 turnAnswer side ports slots list entries second = report (turnChecks side ports slots list entries second) accepted
 
+-- Its number alone: no answer of Turn has a value.
+abbrev pub turnNumber : Side → ℕ → ℕ → List ℕ → List ℕ → List ℕ → ℕ
+turnNumber side ports slots list entries second = getD (turnAnswer side ports slots list entries second) 0 0
+
 -- The entries that Turn leaves in the second buffer: the frame by the other side where it accepts, and those that it was lent where it
 -- refuses.
 abbrev pub secondAfter : Side → ℕ → ℕ → List ℕ → List ℕ → List ℕ → List ℕ
