@@ -13,10 +13,9 @@ returns c =
     let told = turned .before .before in
     let a = told .before .before .before .before .args in
     let answer = ap (λ s. turnAnswer s (a .ports) (a .slots) (a .list .now) (a .frame .now) (a .second .now)) (told .side-of .ensures) in
-    let left = ap (λ s. secondAfter s (a .ports) (a .slots) (a .list .now) (a .frame .now) (a .second .now)) (told .side-of .ensures) in (
-      c .of-answer .ensures .three .number-is ∙ ap (λ (l : List ℕ). getD l 0 0) (turned .turn .ensures .0 ∙ answer),
-      turned .turn .ensures .1 ∙ left,
-    )
+    let numbered = c .of-answer .ensures .three .number-is ∙ ap (λ (l : List ℕ). getD l 0 0) (turned .turn .ensures .0 ∙ answer) in
+    let left = turned .turn .ensures .1 ∙ ap (λ s. secondAfter s (a .ports) (a .slots) (a .list .now) (a .frame .now) (a .second .now)) (told .side-of .ensures) in
+    (search (needs, numbered), search (needs, left))
 
 pub frame-builder-turn-spec : {M : Type 1} → statement M
 frame-builder-turn-spec =
