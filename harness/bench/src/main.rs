@@ -9,7 +9,7 @@ use std::process::ExitCode;
 use std::time::Instant;
 
 use bench::{loads_of, Flows, Load};
-use frame_builder::{Inspection, Who};
+use frame_builder::{Inspection, Side, Who};
 use loads::Shape;
 
 use crate::budget::print_budget;
@@ -21,6 +21,9 @@ const SAMPLE_TIME: f64 = 200_000.0;
 
 /// The most that Inspect may take of the time of the Build that made the frame.
 const INSPECT_LIMIT: Option<f64> = Some(2.0);
+
+/// The most that Turn may take of the time of the Build that made the frame.
+const TURN_LIMIT: Option<f64> = Some(0.15);
 
 /// The most that Depth may take of the time of a Build of the same list.
 const DEPTH_LIMIT: Option<f64> = Some(0.10);
@@ -215,13 +218,49 @@ fn inspect_row(size: Size, repetitions: usize) -> Row {
     let left = || {
         let (load, frame) = next_left();
         let Shape { ports, slots } = load.shape;
-        let inspection = frame_builder::inspect(ports, slots, &load.list, frame);
+        let inspection = frame_builder::inspect(Side::Input, ports, slots, &load.list, frame);
         assert_eq!(black_box(inspection), Ok(Inspection::Clean));
     };
     let right = || {
         build_once(next_right(), &mut frame);
     };
     compare(size.name(), INSPECT_LIMIT, repetitions, left, right)
+}
+
+/// Times Turn of built frames of one side against the builds that made them.
+fn turn_row(side: Side, size: Size, repetitions: usize) -> Row {
+    let loads = loads_of(size.shape, size.cells, size.flows);
+    let mut frames = frames_of(&loads);
+    if side == Side::Output {
+        for (load, frame) in &mut frames {
+            let by_inputs = frame.clone();
+            turn_once(Side::Input, load, &by_inputs, frame);
+        }
+    }
+    let mut frame = vec![0; size.shape.frame_length()];
+    let mut second = frame.clone();
+    let (mut next_left, mut next_right) = (in_turn(&frames), in_turn(&loads));
+    let left = || {
+        let (load, frame) = next_left();
+        turn_once(side, load, frame, &mut second);
+    };
+    let right = || {
+        build_once(next_right(), &mut frame);
+    };
+    let by = match side {
+        Side::Input => "by inputs",
+        Side::Output => "by outputs",
+    };
+    let name = format!("{}, {by}", size.name());
+    compare(name, TURN_LIMIT, repetitions, left, right)
+}
+
+/// One Turn of a frame of a side.
+fn turn_once(side: Side, load: &Load, frame: &[u16], second: &mut [u16]) {
+    let Shape { ports, slots } = load.shape;
+    let answer = frame_builder::turn(side, ports, slots, &load.list, frame, second);
+    black_box(second);
+    assert_eq!(black_box(answer), Ok(()));
 }
 
 /// Times Depth of a flow, an input and an output in turn against builds of the same loads.
@@ -251,9 +290,10 @@ fn count_rows((start, length): (usize, usize), repetitions: usize) -> [Row; 2] {
     let loads = loads_of(size.shape, size.cells, size.flows);
     let frames = frames_of(&loads);
     let count_once = |who, (load, frame): &(&Load, Vec<u16>)| {
-        let Shape { ports, slots } = load.shape;
+        let (Shape { ports, slots }, list) = (load.shape, &load.list);
+        let side = Side::Input;
         let count =
-            frame_builder::service_count(ports, slots, &load.list, frame, who, start, length);
+            frame_builder::service_count(side, ports, slots, list, frame, who, start, length);
         assert!(black_box(count).is_ok());
     };
     COUNTED.map(|(name, who)| {
@@ -306,6 +346,10 @@ fn main() -> ExitCode {
     let headings = ["inspect, clean", "inspect median ns", "build median ns"];
     print_table(headings, NANOSECONDS, &inspections);
     println!();
+    let turns = [Side::Input, Side::Output].map(|side| turn_row(side, SIZES[0], repetitions));
+    let headings = ["turn", "turn median ns", "build median ns"];
+    print_table(headings, NANOSECONDS, &turns);
+    println!();
     let depths = [SIZES[0], SIZES[1]].map(|size| depth_row(size, repetitions));
     let headings = ["depth", "depth median ns", "build median ns"];
     print_table(headings, NANOSECONDS, &depths);
@@ -319,6 +363,7 @@ fn main() -> ExitCode {
     print_table(headings, MICROSECONDS, counts.as_flattened());
     println!();
     print_budget(repetitions);
-    let mut limited = builds.iter().chain(&inspections).chain(&depths);
+    let others = inspections.iter().chain(&turns).chain(&depths);
+    let mut limited = builds.iter().chain(others);
     ExitCode::from(u8::from(limited.any(Row::is_above)))
 }

@@ -5,8 +5,8 @@ use std::process::{Child, ChildStdin, ChildStdout, Command, Stdio};
 use std::sync::Mutex;
 
 use crate::{
-    program, Answer, Bounded, Built, Calls, Class, Count, Depth, Inspection, Limits, Refusal,
-    Service, SheetProgram,
+    program, Answer, Bounded, Built, Calls, Class, Count, Depth, Inspection, Limits, Question,
+    Refusal, Service, SheetProgram,
 };
 
 /// The calls as `harness/c/calls.c` numbers them.
@@ -23,18 +23,23 @@ enum Call {
     DepthFlow,
     DepthInput,
     DepthOutput,
+    Turn,
 }
 
 /// A call as the C program reads it.
 #[derive(Default)]
 struct Record<'r> {
     call: Call,
+    /// Of a call that is told it.
+    side: u64,
     ports: u64,
     slots: u64,
     /// Those of a call that takes limits, none for the others.
     limits: &'r [u16],
     list: &'r [u16],
     frame: &'r [u16],
+    /// Turn's second buffer.
+    second: &'r [u16],
     /// Service count: the start.
     slot: u64,
     length: u64,
@@ -46,23 +51,26 @@ impl Record<'_> {
     fn bytes(&self) -> Vec<u8> {
         let numbers = [
             self.call as u64,
+            self.side,
             self.ports,
             self.slots,
             self.list.len() as u64,
             self.frame.len() as u64,
+            self.second.len() as u64,
             self.slot,
             self.length,
             self.whose,
         ];
         let mut bytes: Vec<u8> = numbers.into_iter().flat_map(u64::to_ne_bytes).collect();
-        let numbers = self.limits.iter().chain(self.list).chain(self.frame);
-        bytes.extend(numbers.copied().flat_map(u16::to_ne_bytes));
+        let slices = [self.limits, self.list, self.frame, self.second];
+        let numbers = slices.into_iter().flatten().copied();
+        bytes.extend(numbers.flat_map(u16::to_ne_bytes));
         bytes
     }
 }
 
 /// What a call wrote to and must not have, as `harness/c/calls.c` numbers it.
-const HARMS: [&str; 7] = [
+const HARMS: [&str; 9] = [
     "nothing",
     "the limits",
     "bytes around the limits",
@@ -70,6 +78,8 @@ const HARMS: [&str; 7] = [
     "bytes around the list",
     "the frame",
     "bytes around the frame",
+    "the second buffer",
+    "bytes around the second buffer",
 ];
 
 /// The proved frame builder, called by a C program.
@@ -100,8 +110,8 @@ impl InC {
         }
     }
 
-    /// The answer's number and its three values, a count's cells and lead, a depth's parts and cells; a frame lent for writing is
-    /// written.
+    /// The answer's number and its three values, a count's cells and lead, a depth's parts and cells; a frame or a second buffer lent for
+    /// writing is written.
     fn make(&self, record: &[u8], written: &mut [u16]) -> [u64; 4] {
         let idle = self.idle.lock().expect("no thread panics here").pop();
         let mut process = idle.unwrap_or_else(|| Process::start(&self.program));
@@ -176,6 +186,8 @@ fn refusal_of(numbers: [u64; 4]) -> Refusal {
         [11, 0, 0, 0] => Refusal::SlotNumber,
         [12, 0, 0, 0] => Refusal::FlowOrPort,
         [13, 0, 0, 0] => Refusal::RunLength,
+        [14, 0, 0, 0] => Refusal::Entries,
+        [15, 0, 0, 0] => Refusal::SecondLength,
         [21, 0, 0, 0] => Refusal::TooManyFlows,
         [22, 0, 0, 0] => Refusal::FlowPort,
         [23, 0, 0, 0] => Refusal::FlowLink,
@@ -227,9 +239,17 @@ impl Calls for InC {
         }
     }
 
-    fn inspect(&self, ports: u64, slots: u64, list: &[u16], frame: &[u16]) -> Inspection {
+    fn inspect(
+        &self,
+        side: u64,
+        ports: u64,
+        slots: u64,
+        list: &[u16],
+        frame: &[u16],
+    ) -> Inspection {
         let record = Record {
             call: Call::Inspect,
+            side,
             ports,
             slots,
             list,
@@ -238,11 +258,36 @@ impl Calls for InC {
         };
         match self.make(&record.bytes(), &mut []) {
             [0, 0, 0, 0] => Inspection::Clean,
-            [101, slot, input, 0] => Inspection::WrongEntry { slot, input },
-            [102, slot, output, 0] => Inspection::OutputTwice { slot, output },
+            [101, slot, port, 0] => Inspection::WrongEntry { slot, port },
+            [102, slot, port, 0] => Inspection::PortTwice { slot, port },
             [103, flow, 0, 0] => Inspection::FlowCount { flow },
             [104, slot, size, 0] => Inspection::UnbalancedBlock { slot, size },
             refused => Inspection::Refused(refusal_of(refused)),
+        }
+    }
+
+    fn turn(
+        &self,
+        side: u64,
+        ports: u64,
+        slots: u64,
+        list: &[u16],
+        frame: &[u16],
+        second: &mut [u16],
+    ) -> Answer {
+        let record = Record {
+            call: Call::Turn,
+            side,
+            ports,
+            slots,
+            list,
+            frame,
+            second,
+            ..Record::default()
+        };
+        match self.make(&record.bytes(), second) {
+            [0, 0, 0, 0] => Ok(()),
+            refused => Err(refusal_of(refused)),
         }
     }
 
@@ -275,12 +320,12 @@ impl Calls for InC {
 
     fn service_count(
         &self,
+        side: u64,
         ports: u64,
         slots: u64,
         list: &[u16],
         frame: &[u16],
-        class: Class,
-        (start, length): (u64, u64),
+        (class, (start, length)): Question,
     ) -> Service {
         let (call, whose) = match class {
             Class::Flow { number } => (Call::CountFlow, number),
@@ -289,6 +334,7 @@ impl Calls for InC {
         };
         let record = Record {
             call,
+            side,
             ports,
             slots,
             list,

@@ -8,9 +8,9 @@ mod program;
 
 pub use in_c::InC;
 pub use library::Library;
-pub use reference::{Class, Count, Depth, Inspection, Limits, Refusal};
+pub use reference::{Class, Count, Depth, Inspection, Limits, Refusal, Side};
 
-/// What Admit answers.
+/// What Admit and Turn answer.
 pub type Answer = Result<(), Refusal>;
 
 /// What Build answers: the odd counts settled.
@@ -19,10 +19,20 @@ pub type Built = Result<u64, Refusal>;
 /// What Service count answers.
 pub type Service = Result<Count, Refusal>;
 
+/// Whose cells Service count counts, and the start and the length of the run.
+pub type Question = (Class, (u64, u64));
+
 /// What Depth answers.
 pub type Bounded = Result<Depth, Refusal>;
 
-/// The calls a program makes on a frame builder; a list is its numbers, four to a flow, however many there are.
+/// What tells a call the input side of a frame.
+pub const INPUT_SIDE: u64 = 0;
+
+/// What tells it the output side, as does any number but 0.
+pub const OUTPUT_SIDE: u64 = 1;
+
+/// The calls a program makes on a frame builder; a list is its numbers, four to a flow, however many there are, and a side is a number as C
+/// tells it.
 pub trait Calls {
     /// Says whether the load would be built.
     fn admit(&self, ports: u64, slots: u64, list: &[u16], limits: &Limits) -> Answer;
@@ -37,8 +47,20 @@ pub trait Calls {
         frame: &mut [u16],
     ) -> Built;
 
-    /// Looks a frame from anywhere over against its list.
-    fn inspect(&self, ports: u64, slots: u64, list: &[u16], frame: &[u16]) -> Inspection;
+    /// Looks a frame of this side, from anywhere, over against its list.
+    fn inspect(&self, side: u64, ports: u64, slots: u64, list: &[u16], frame: &[u16])
+        -> Inspection;
+
+    /// Writes a frame of this side by the other side to the second buffer, or refuses and leaves that as it was.
+    fn turn(
+        &self,
+        side: u64,
+        ports: u64,
+        slots: u64,
+        list: &[u16],
+        frame: &[u16],
+        second: &mut [u16],
+    ) -> Answer;
 
     /// The slot's own part of the frame, empty on refusal; the refusal's number goes to `number`.
     fn slot_view<'f>(
@@ -50,15 +72,15 @@ pub trait Calls {
         number: &mut u64,
     ) -> &'f [u16];
 
-    /// Counts the cells of a class in a run of the repeating frame, given by its start and its length, with their lead.
+    /// Counts the cells of a class in a run of the repeating frame of this side, given by its start and its length, with their lead.
     fn service_count(
         &self,
+        side: u64,
         ports: u64,
         slots: u64,
         list: &[u16],
         frame: &[u16],
-        class: Class,
-        run: (u64, u64),
+        question: Question,
     ) -> Service;
 
     /// Says how far from its share a class can get, and how many cells to order for it.
@@ -91,8 +113,27 @@ impl Calls for Reference {
         reference::build(ports, slots, list, limits, frame)
     }
 
-    fn inspect(&self, ports: u64, slots: u64, list: &[u16], frame: &[u16]) -> Inspection {
-        reference::inspect(ports, slots, list, frame)
+    fn inspect(
+        &self,
+        side: u64,
+        ports: u64,
+        slots: u64,
+        list: &[u16],
+        frame: &[u16],
+    ) -> Inspection {
+        reference::inspect(Side::told(side), ports, slots, list, frame)
+    }
+
+    fn turn(
+        &self,
+        side: u64,
+        ports: u64,
+        slots: u64,
+        list: &[u16],
+        frame: &[u16],
+        second: &mut [u16],
+    ) -> Answer {
+        reference::turn(Side::told(side), ports, slots, list, frame, second)
     }
 
     fn slot_view<'f>(
@@ -110,14 +151,14 @@ impl Calls for Reference {
 
     fn service_count(
         &self,
+        side: u64,
         ports: u64,
         slots: u64,
         list: &[u16],
         frame: &[u16],
-        class: Class,
-        (start, length): (u64, u64),
+        (class, run): Question,
     ) -> Service {
-        reference::service_count(ports, slots, list, frame, class, start, length)
+        reference::service_count(Side::told(side), ports, slots, list, frame, class, run)
     }
 
     fn depth(&self, ports: u64, slots: u64, list: &[u16], class: Class) -> Bounded {

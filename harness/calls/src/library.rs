@@ -1,10 +1,10 @@
 //! The proved calls, through crate `frame_builder`, and the program of crate `frame`.
 
-use frame_builder::{Fault, Flow, Who};
+use frame_builder::{Fault, Flow, Side, Who};
 
 use crate::{
-    program, Answer, Bounded, Built, Calls, Class, Count, Depth, InC, Inspection, Limits, Refusal,
-    Service, SheetProgram,
+    program, Answer, Bounded, Built, Calls, Class, Count, Depth, InC, Inspection, Limits, Question,
+    Refusal, Service, SheetProgram, INPUT_SIDE,
 };
 
 /// The numbers of a flow in a list.
@@ -67,6 +67,8 @@ fn refusal_of(refusal: frame_builder::Refusal) -> Refusal {
         frame_builder::Refusal::SlotNumber => Refusal::SlotNumber,
         frame_builder::Refusal::FlowOrPort => Refusal::FlowOrPort,
         frame_builder::Refusal::RunLength => Refusal::RunLength,
+        frame_builder::Refusal::Entries => Refusal::Entries,
+        frame_builder::Refusal::SecondLength => Refusal::SecondLength,
         frame_builder::Refusal::TooManyFlows => Refusal::TooManyFlows,
         frame_builder::Refusal::FlowPort => Refusal::FlowPort,
         frame_builder::Refusal::FlowLink => Refusal::FlowLink,
@@ -84,19 +86,27 @@ fn refusal_of(refusal: frame_builder::Refusal) -> Refusal {
 
 fn inspection_of(fault: Fault) -> Inspection {
     match fault {
-        Fault::WrongEntry { slot, input } => Inspection::WrongEntry {
+        Fault::WrongEntry { slot, port } => Inspection::WrongEntry {
             slot: slot as u64,
-            input: input as u64,
+            port: port as u64,
         },
-        Fault::OutputTwice { slot, output } => Inspection::OutputTwice {
+        Fault::PortTwice { slot, port } => Inspection::PortTwice {
             slot: slot as u64,
-            output: output as u64,
+            port: port as u64,
         },
         Fault::FlowCount { flow } => Inspection::FlowCount { flow: flow as u64 },
         Fault::UnbalancedBlock { slot, size } => Inspection::UnbalancedBlock {
             slot: slot as u64,
             size: size as u64,
         },
+    }
+}
+
+/// The side that a number tells.
+fn side_of(number: u64) -> Side {
+    match number {
+        INPUT_SIDE => Side::Input,
+        _ => Side::Output,
     }
 }
 
@@ -149,17 +159,44 @@ impl Calls for Library {
         answer.map(|settled| settled as u64).map_err(refusal_of)
     }
 
-    fn inspect(&self, ports: u64, slots: u64, list: &[u16], frame: &[u16]) -> Inspection {
+    fn inspect(
+        &self,
+        side: u64,
+        ports: u64,
+        slots: u64,
+        list: &[u16],
+        frame: &[u16],
+    ) -> Inspection {
         let Some(lent) = Lent::of(list) else {
-            return self.in_c.inspect(ports, slots, list, frame);
+            return self.in_c.inspect(side, ports, slots, list, frame);
         };
-        let answer = frame_builder::inspect(ports as usize, slots as usize, lent.flows(), frame);
+        let (side, flows) = (side_of(side), lent.flows());
+        let answer = frame_builder::inspect(side, ports as usize, slots as usize, flows, frame);
         lent.give_back(list);
         match answer {
             Ok(frame_builder::Inspection::Clean) => Inspection::Clean,
             Ok(frame_builder::Inspection::Faulty(fault)) => inspection_of(fault),
             Err(refusal) => Inspection::Refused(refusal_of(refusal)),
         }
+    }
+
+    fn turn(
+        &self,
+        side: u64,
+        ports: u64,
+        slots: u64,
+        list: &[u16],
+        frame: &[u16],
+        second: &mut [u16],
+    ) -> Answer {
+        let Some(lent) = Lent::of(list) else {
+            return self.in_c.turn(side, ports, slots, list, frame, second);
+        };
+        let (side, flows) = (side_of(side), lent.flows());
+        let [ports, slots] = [ports, slots].map(|n| n as usize);
+        let answer = frame_builder::turn(side, ports, slots, flows, frame, second);
+        lent.give_back(list);
+        answer.map_err(refusal_of)
     }
 
     fn slot_view<'f>(
@@ -177,20 +214,23 @@ impl Calls for Library {
 
     fn service_count(
         &self,
+        side: u64,
         ports: u64,
         slots: u64,
         list: &[u16],
         frame: &[u16],
-        class: Class,
-        (start, length): (u64, u64),
+        question: Question,
     ) -> Service {
         let Some(lent) = Lent::of(list) else {
-            let in_c = &self.in_c;
-            return in_c.service_count(ports, slots, list, frame, class, (start, length));
+            return self
+                .in_c
+                .service_count(side, ports, slots, list, frame, question);
         };
-        let (flows, who) = (lent.flows(), who_of(class));
+        let (class, (start, length)) = question;
+        let (side, flows, who) = (side_of(side), lent.flows(), who_of(class));
         let [ports, slots, start, length] = [ports, slots, start, length].map(|n| n as usize);
-        let answer = frame_builder::service_count(ports, slots, flows, frame, who, start, length);
+        let answer =
+            frame_builder::service_count(side, ports, slots, flows, frame, who, start, length);
         lent.give_back(list);
         answer.map(count_of).map_err(refusal_of)
     }

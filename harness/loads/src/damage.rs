@@ -67,6 +67,27 @@ pub fn damage(
     }
 }
 
+/// The same of a frame by outputs. With the input and the output of every flow exchanged it is a frame by inputs, and its outputs are
+/// the inputs of the damage.
+pub fn damage_by_outputs(
+    kind: Damage,
+    shape: Shape,
+    call: &mut Call,
+    frame: &mut Vec<u16>,
+    random: &mut Random,
+) {
+    exchange_ports(call);
+    damage(kind, shape, call, frame, random);
+    exchange_ports(call);
+}
+
+/// Exchanges the input and the output of every flow of a list.
+fn exchange_ports(call: &mut Call) {
+    for flow in call.list.chunks_exact_mut(FLOW_NUMBERS) {
+        flow.swap(0, 1);
+    }
+}
+
 /// Damages that fall on the entries of a frame, by the flows of its list.
 fn damage_frame(
     kind: Damage,

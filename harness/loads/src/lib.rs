@@ -30,6 +30,7 @@ mod followed;
 mod grid;
 mod hostile;
 mod ill_formed;
+mod legal;
 mod links;
 mod list;
 mod load;
@@ -38,13 +39,14 @@ mod seam;
 mod sheet;
 mod uneven;
 
-pub use damage::{damage, unbalance_total, Block, Damage};
+pub use damage::{damage, damage_by_outputs, unbalance_total, Block, Damage};
 pub use followed::{Company, Followed};
 pub use hostile::{
     hostile_length, hostile_limit, hostile_link, hostile_number, hostile_port, LengthKind,
     LimitKind, HOSTILE,
 };
 pub use ill_formed::junk_number;
+pub use legal::legal_frame;
 pub use links::Limits;
 pub use list::{
     flows_of, flows_of_matrix, list_of, Flow, Listing, FLOW_NUMBERS, LINKS, MOST_FLOWS,

@@ -3,11 +3,11 @@
 use std::collections::BTreeSet;
 
 use loads::{
-    damage, flows_of, full_load, full_load_of_flows, load, load_of_shape, random_shape, sheet,
-    uneven, Block, Call, Damage, Flow, LoadKind, Random, Shape, SheetKind, Uneven, FLOW_NUMBERS,
-    LINKS, MOST_FLOWS,
+    damage, damage_by_outputs, flows_of, full_load, full_load_of_flows, legal_frame, load,
+    load_of_shape, random_shape, sheet, uneven, Block, Call, Damage, Flow, LoadKind, Random, Shape,
+    SheetKind, Uneven, FLOW_NUMBERS, LINKS, MOST_FLOWS,
 };
-use reference::Inspection;
+use reference::{Inspection, Side};
 
 /// The numbers of Admit's refusals over many loads of one kind, 0 for accepted.
 fn answers(kind: LoadKind) -> Vec<u64> {
@@ -201,6 +201,27 @@ fn lists_are_of_every_sort() {
     assert!(sorts.iter().all(|&number| number > 50), "{sorts:?}");
 }
 
+/// The frame of a load that fits.
+fn built(call: &Call) -> Vec<u16> {
+    let mut frame = vec![0; call.frame_length];
+    let Call { ports, slots, .. } = *call;
+    let answer = reference::build(ports, slots, &call.list, &call.limits, &mut frame);
+    answer.expect("the load fits");
+    frame
+}
+
+/// The number of what Inspect finds.
+fn fault_of(side: Side, call: &Call, frame: &[u16]) -> u64 {
+    match reference::inspect(side, call.ports, call.slots, &call.list, frame) {
+        Inspection::Clean => 0,
+        Inspection::WrongEntry { .. } => 101,
+        Inspection::PortTwice { .. } => 102,
+        Inspection::FlowCount { .. } => 103,
+        Inspection::UnbalancedBlock { .. } => 104,
+        Inspection::Refused(refusal) => refusal.number(),
+    }
+}
+
 /// The faults that each damage of the list or the frame leads to, and no other than these.
 #[test]
 fn damages_are_of_the_kinds_they_say() {
@@ -209,19 +230,9 @@ fn damages_are_of_the_kinds_they_say() {
         let inspected = (0..300).map(|_| {
             let shape = random_shape(&mut random);
             let mut call = load_of_shape(load, shape, &mut random);
-            let mut frame = vec![0; call.frame_length];
-            let Call { ports, slots, .. } = call;
-            let built = reference::build(ports, slots, &call.list, &call.limits, &mut frame);
-            built.expect("the load fits");
+            let mut frame = built(&call);
             damage(kind, shape, &mut call, &mut frame, &mut random);
-            match reference::inspect(call.ports, call.slots, &call.list, &frame) {
-                Inspection::Clean => 0,
-                Inspection::WrongEntry { .. } => 101,
-                Inspection::OutputTwice { .. } => 102,
-                Inspection::FlowCount { .. } => 103,
-                Inspection::UnbalancedBlock { .. } => 104,
-                Inspection::Refused(refusal) => refusal.number(),
-            }
+            fault_of(Side::Input, &call, &frame)
         });
         inspected.collect::<BTreeSet<u64>>()
     };
@@ -237,6 +248,51 @@ fn damages_are_of_the_kinds_they_say() {
     assert_eq!(found(Damage::Bunched), [0, 104].into());
     assert!(found(Damage::ListCut).contains(&101));
     assert!(found(Damage::OtherPort).contains(&102));
+}
+
+/// The same of frames by outputs.
+#[test]
+fn damages_by_outputs_are_of_the_kinds_they_say() {
+    let mut random = Random::new(16);
+    let mut found = |kind: Damage| {
+        let inspected = (0..300).map(|_| {
+            let shape = random_shape(&mut random);
+            let mut call = load_of_shape(LoadKind::Full, shape, &mut random);
+            let frame = built(&call);
+            let mut second = frame.clone();
+            let Call { ports, slots, .. } = call;
+            let list = &call.list;
+            let turned = reference::turn(Side::Input, ports, slots, list, &frame, &mut second);
+            turned.expect("a built frame turns");
+            damage_by_outputs(kind, shape, &mut call, &mut second, &mut random);
+            fault_of(Side::Output, &call, &second)
+        });
+        inspected.collect::<BTreeSet<u64>>()
+    };
+    assert_eq!(found(Damage::Whole), [0].into());
+    assert_eq!(found(Damage::EntryAboveFlows), [101].into());
+    assert_eq!(found(Damage::OtherInputsFlow), [0, 101].into());
+    assert_eq!(found(Damage::FlowsSwapped), [0, 102, 103, 104].into());
+    assert_eq!(found(Damage::OutputDoubled), [0, 102, 103].into());
+    assert_eq!(found(Damage::CellsWrongByOne), [0, 103].into());
+    assert_eq!(found(Damage::Bunched), [0, 104].into());
+    assert!(found(Damage::ListCut).contains(&101));
+    assert!(found(Damage::OtherPort).contains(&102));
+}
+
+/// No entry of theirs is wrong and no output is used twice, but some have other cells than the list.
+#[test]
+fn legal_frames_are_legal() {
+    let mut random = Random::new(17);
+    let inspected = (0..600).map(|_| {
+        let shape = random_shape(&mut random);
+        let call = load_of_shape(LoadKind::Scattered, shape, &mut random);
+        let frame = legal_frame(shape, &call, &mut random);
+        fault_of(Side::Input, &call, &frame)
+    });
+    let found: BTreeSet<u64> = inspected.collect();
+    assert!(found.contains(&103));
+    assert!(!found.contains(&101) && !found.contains(&102), "{found:?}");
 }
 
 #[test]

@@ -3,20 +3,22 @@
 use crate::admission::{check_frame, check_list};
 use crate::flow::{numbered, Flow, LINKS};
 use crate::refusal::Refusal;
+use crate::side::Side;
 
-/// The answer of Inspect; slots, inputs, outputs and flows are numbered from 1.
+/// The answer of Inspect; slots, ports and flows are numbered from 1. The port of a wrong entry is one of the frame's side, the port that
+/// is used twice one of the other side.
 #[derive(Clone, Copy, Debug, PartialEq, Eq)]
 pub enum Inspection {
     Clean,
-    WrongEntry { slot: u64, input: u64 },
-    OutputTwice { slot: u64, output: u64 },
+    WrongEntry { slot: u64, port: u64 },
+    PortTwice { slot: u64, port: u64 },
     FlowCount { flow: u64 },
     UnbalancedBlock { slot: u64, size: u64 },
     Refused(Refusal),
 }
 
 /// Clean, the first fault in the paper's order, or the first refusal of 1, 2, 3, 21, 22, 23, 4.
-pub fn inspect(ports: u64, slots: u64, list: &[u16], frame: &[u16]) -> Inspection {
+pub fn inspect(side: Side, ports: u64, slots: u64, list: &[u16], frame: &[u16]) -> Inspection {
     let checked = check_list(ports, slots, list)
         .and_then(|flows| check_frame(ports, slots, frame).map(|()| flows));
     let flows = match checked {
@@ -24,36 +26,36 @@ pub fn inspect(ports: u64, slots: u64, list: &[u16], frame: &[u16]) -> Inspectio
         Err(refusal) => return Inspection::Refused(refusal),
     };
     let ports = ports as usize;
-    wrong_entry(ports, &flows, frame)
-        .or_else(|| output_twice(ports, &flows, frame))
+    wrong_entry(side, ports, &flows, frame)
+        .or_else(|| port_twice(side.other(), ports, &flows, frame))
         .or_else(|| flow_count(ports, &flows, frame))
         .or_else(|| unbalanced_block(ports, &flows, frame))
         .unwrap_or(Inspection::Clean)
 }
 
-/// The earliest entry that is neither 0 nor a flow of its input; frame order is slot order, then input order.
-fn wrong_entry(ports: usize, flows: &[Flow], frame: &[u16]) -> Option<Inspection> {
+/// The earliest entry that is neither 0 nor a flow of the port at whose place it stands; frame order is slot order, then port order.
+fn wrong_entry(side: Side, ports: usize, flows: &[Flow], frame: &[u16]) -> Option<Inspection> {
     let is_right = |place: usize, entry: u16| {
         let flow = numbered(flows, entry.into());
-        entry == 0 || flow.is_some_and(|flow| flow.input == (place % ports + 1) as u64)
+        entry == 0 || flow.is_some_and(|flow| side.port_of(flow) == (place % ports + 1) as u64)
     };
     let mut entries = frame.iter().enumerate();
     let place = entries.position(|(place, &entry)| !is_right(place, entry))?;
     Some(Inspection::WrongEntry {
         slot: (place / ports + 1) as u64,
-        input: (place % ports + 1) as u64,
+        port: (place % ports + 1) as u64,
     })
 }
 
-/// The earliest slot that uses an output twice, and its lowest such output.
-fn output_twice(ports: usize, flows: &[Flow], frame: &[u16]) -> Option<Inspection> {
+/// The earliest slot that uses a port of this side twice, and its lowest such port.
+fn port_twice(side: Side, ports: usize, flows: &[Flow], frame: &[u16]) -> Option<Inspection> {
     for (slot, entries) in (1..).zip(frame.chunks(ports)) {
         let sent = entries.iter().map(|&entry| numbered(flows, entry.into()));
-        let used: Vec<u64> = sent.flatten().map(|flow| flow.output).collect();
-        let uses = |output: u64| used.iter().filter(|&&other| other == output).count();
-        let twice = (1..=ports as u64).find(|&output| uses(output) > 1);
-        if let Some(output) = twice {
-            return Some(Inspection::OutputTwice { slot, output });
+        let used: Vec<u64> = sent.flatten().map(|flow| side.port_of(flow)).collect();
+        let uses = |port: u64| used.iter().filter(|&&other| other == port).count();
+        let twice = (1..=ports as u64).find(|&port| uses(port) > 1);
+        if let Some(port) = twice {
+            return Some(Inspection::PortTwice { slot, port });
         }
     }
     None

@@ -5,6 +5,7 @@ use std::ops::Range;
 use crate::admission::{check_frame, check_list, check_ports, check_slots};
 use crate::flow::{cells_of, numbered, sent_in, Flow};
 use crate::refusal::{require, Refusal};
+use crate::side::Side;
 
 /// The longest run Service count takes.
 pub const LONGEST_RUN: u64 = 1_000_000;
@@ -26,8 +27,9 @@ impl Class {
         }
     }
 
-    /// The cells of the class among one slot's entries, whatever those are; a flow that is not in the list has none.
-    pub(crate) fn cells_in_slot(self, flows: &[Flow], slot: &[u16]) -> u64 {
+    /// The cells of the class among the entries of one slot of a frame of this side, whatever those are; a flow that is not in the list
+    /// has none.
+    pub(crate) fn cells_in_slot(self, side: Side, flows: &[Flow], slot: &[u16]) -> u64 {
         match self {
             Class::Flow { number } => match numbered(flows, number) {
                 Some(_) => slot
@@ -36,7 +38,9 @@ impl Class {
                     .count() as u64,
                 None => 0,
             },
-            Class::Input { port } => u64::from(slot[(port - 1) as usize] != 0),
+            Class::Input { port } if side == Side::Input => standing_at(port, slot),
+            Class::Input { port } => sent_in(slot, flows, |flow| flow.input == port),
+            Class::Output { port } if side == Side::Output => standing_at(port, slot),
             Class::Output { port } => sent_in(slot, flows, |flow| flow.output == port),
         }
     }
@@ -49,6 +53,11 @@ impl Class {
             Class::Output { port } => cells_of(flows, |flow| flow.output == port),
         }
     }
+}
+
+/// 1 where the entry at a port's place is not 0, whatever it is.
+fn standing_at(port: u64, slot: &[u16]) -> u64 {
+    u64::from(slot[(port - 1) as usize] != 0)
 }
 
 /// The entries of the frame that are this slot, or the first refusal of 1, 2, 4, 11.
@@ -75,21 +84,22 @@ pub struct Count {
     pub lead: i64,
 }
 
-/// The cells of a run of the repeating frame and their lead, or the first refusal of 1, 2, 3, 21, 22, 23, 4, 11, 12, 13.
+/// The cells of a run of the repeating frame, given by its start and its length, and their lead, or the first refusal of 1, 2, 3, 21, 22,
+/// 23, 4, 11, 12, 13.
 pub fn service_count(
+    side: Side,
     ports: u64,
     slots: u64,
     list: &[u16],
     frame: &[u16],
     class: Class,
-    start: u64,
-    length: u64,
+    (start, length): (u64, u64),
 ) -> Result<Count, Refusal> {
     let flows = check_list(ports, slots, list)?;
     slot_view(ports, slots, frame, start)?;
     require(class.is_within(ports, &flows), Refusal::FlowOrPort)?;
     require(length <= LONGEST_RUN, Refusal::RunLength)?;
-    let slot_cells = |slot: &[u16]| class.cells_in_slot(&flows, slot);
+    let slot_cells = |slot: &[u16]| class.cells_in_slot(side, &flows, slot);
     let each: Vec<u64> = frame.chunks(ports as usize).map(slot_cells).collect();
     let cells = cells_of_run(&each, start, length);
     let of_frame = cells_of_run(&each, 1, slots);

@@ -2,6 +2,7 @@
 
 use crate::flow::{cells_of, flows_of, sent_in, Flow};
 use crate::query::Class;
+use crate::side::Side;
 use crate::stray::stray;
 
 /// Whose share the accuracy rule speaks of: the classes that Service count counts, the links of outputs, and all cells together.
@@ -19,10 +20,11 @@ impl From<Class> for Whose {
 }
 
 impl Whose {
-    /// Their cells among one slot's entries, whatever those are; for a link and for the total only an entry counts that is a flow.
+    /// Their cells among the entries of one slot, which the wire carries by inputs, whatever those are; for a link and for the total only
+    /// an entry counts that is a flow.
     fn cells_in_slot(self, flows: &[Flow], slot: &[u16]) -> u64 {
         match self {
-            Whose::Class(class) => class.cells_in_slot(flows, slot),
+            Whose::Class(class) => class.cells_in_slot(Side::Input, flows, slot),
             Whose::Link { output, link } => sent_in(slot, flows, |flow| flow.is_on(output, link)),
             Whose::Total => sent_in(slot, flows, |_| true),
         }

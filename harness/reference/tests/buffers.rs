@@ -12,7 +12,7 @@ use reference::page::grouped;
 use reference::queue::{ahead_behind_a_switch, pass, pass_card, Depth, Source};
 use reference::stray::stray;
 use reference::wire::{demanded, deviation, repeat_deviation, Course, Frame};
-use reference::{service_count, Class};
+use reference::{service_count, Class, Side};
 
 const TEXT: &str = include_str!("../../../docs/BUFFERS.md");
 const LEAD_OUTPUT: &str = include_str!("../../../examples/lead.output");
@@ -254,7 +254,8 @@ fn furthest_leads() -> [(i64, u64, u64); 2] {
     let runs = (1..=slots).flat_map(|start| (0..slots).map(move |length| (start, length)));
     let leads = runs.map(|(start, length)| {
         let flow = Class::Flow { number: 1 };
-        let count = service_count(ports, slots, &list, &frame, flow, start, length);
+        let run = (start, length);
+        let count = service_count(Side::Input, ports, slots, &list, &frame, flow, run);
         (count.expect("a run of the frame").lead, start, length)
     });
     let leads: Vec<_> = leads.collect();

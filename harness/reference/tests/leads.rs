@@ -2,7 +2,7 @@
 
 use reference::stray::stray;
 use reference::wire::repeat_deviation;
-use reference::{service_count, Class};
+use reference::{service_count, Class, Side};
 
 const HEADER: &str = include_str!("../../../include/frame_builder.h");
 
@@ -14,7 +14,8 @@ const INPUT: Class = Class::Input { port: 1 };
 const OUTPUT: Class = Class::Output { port: 1 };
 
 fn lead(ports: u64, slots: u64, frame: &[u16], class: Class, start: u64, length: u64) -> i64 {
-    let count = service_count(ports, slots, &LIST, frame, class, start, length);
+    let run = (start, length);
+    let count = service_count(Side::Input, ports, slots, &LIST, frame, class, run);
     count.expect("the arguments are good").lead
 }
 

@@ -4,8 +4,8 @@ mod ample;
 
 use ample::build;
 use reference::{
-    inspect, service_count, slot_view, slots_each, Class, Count, Depth, Inspection, Limits,
-    Refusal, LONGEST_RUN, MOST_FLOWS,
+    service_count, slot_view, slots_each, turn, Class, Count, Depth, Inspection, Limits, Refusal,
+    Side, LONGEST_RUN, MOST_FLOWS,
 };
 
 const HEADER: &str = include_str!("../../../include/frame_builder.h");
@@ -36,6 +36,11 @@ fn not_whole() -> Vec<u16> {
 /// Admit with limits that no link of an output exceeds which is not overloaded itself.
 fn admit(ports: u64, slots: u64, list: &[u16]) -> Result<(), Refusal> {
     reference::admit(ports, slots, list, &slots_each(slots))
+}
+
+/// Inspect on the input side.
+fn inspect(ports: u64, slots: u64, list: &[u16], frame: &[u16]) -> Inspection {
+    reference::inspect(Side::Input, ports, slots, list, frame)
 }
 
 /// Every condition before 24, with a limit of 0 for every link.
@@ -240,19 +245,48 @@ fn build_order_of_loads() {
 
 #[test]
 fn inspect_order() {
-    let refused =
-        |ports, slots, list: &[u16], frame: &[u16]| match inspect(ports, slots, list, frame) {
+    for side in Side::BOTH {
+        let refused = |ports, slots, list: &[u16], frame: &[u16]| match reference::inspect(
+            side, ports, slots, list, frame,
+        ) {
             Inspection::Refused(refusal) => refusal.number(),
             _ => 0,
         };
-    assert_eq!(refused(17, 5, &not_whole(), &[99]), 1);
-    assert_eq!(refused(1, 5, &not_whole(), &[99]), 2);
-    assert_eq!(refused(1, 2, &not_whole(), &[99]), 3);
-    assert_eq!(refused(1, 2, &too_many(), &[99]), 21);
-    assert_eq!(refused(1, 2, &OUTSIDE, &[99]), 22);
-    assert_eq!(refused(1, 2, &LINK_OUTSIDE, &[99]), 23);
-    assert_eq!(refused(1, 2, &[1, 1, 9, 1], &[99]), 4);
-    assert_eq!(refused(1, 2, &[1, 1, 9, 1], &[99, 99]), 0);
+        assert_eq!(refused(17, 5, &not_whole(), &[99]), 1);
+        assert_eq!(refused(1, 5, &not_whole(), &[99]), 2);
+        assert_eq!(refused(1, 2, &not_whole(), &[99]), 3);
+        assert_eq!(refused(1, 2, &too_many(), &[99]), 21);
+        assert_eq!(refused(1, 2, &OUTSIDE, &[99]), 22);
+        assert_eq!(refused(1, 2, &LINK_OUTSIDE, &[99]), 23);
+        assert_eq!(refused(1, 2, &[1, 1, 9, 1], &[99]), 4);
+        assert_eq!(refused(1, 2, &[1, 1, 9, 1], &[99, 99]), 0);
+    }
+}
+
+/// Every condition with 14 and 15 besides: the frame has an entry too few, and the second buffer has another length.
+#[test]
+fn turn_order() {
+    for side in Side::BOTH {
+        let mut second = [7; 2];
+        let mut refused = |ports, slots, list: &[u16], frame: &[u16], length: usize| {
+            let second = &mut second[..length];
+            let answer = turn(side, ports, slots, list, frame, second);
+            answer.map_err(Refusal::numbers).err()
+        };
+        assert_eq!(refused(17, 5, &not_whole(), &[99], 0), Some(vec![1]));
+        assert_eq!(refused(1, 5, &not_whole(), &[99], 0), Some(vec![2]));
+        assert_eq!(refused(1, 2, &not_whole(), &[99], 0), Some(vec![3]));
+        assert_eq!(refused(1, 2, &too_many(), &[99], 0), Some(vec![21]));
+        assert_eq!(refused(1, 2, &OUTSIDE, &[99], 0), Some(vec![22]));
+        assert_eq!(refused(1, 2, &LINK_OUTSIDE, &[99], 0), Some(vec![23]));
+        let list = [1, 1, 9, 1];
+        assert_eq!(refused(1, 2, &list, &[99], 0), Some(vec![4]));
+        assert_eq!(refused(1, 2, &list, &[99], 1), Some(vec![4]));
+        assert_eq!(refused(1, 2, &list, &[99, 99], 1), Some(vec![15]));
+        assert_eq!(refused(1, 2, &list, &[99, 99], 2), Some(vec![14]));
+        assert_eq!(refused(1, 2, &list, &[0, 1], 2), None);
+        assert_eq!(second, [0, 1]);
+    }
 }
 
 /// One flow for each pair of two ports, with two cells each.
@@ -264,15 +298,15 @@ fn inspect_fault_order() {
         ([1, 4, 2, 3, 1, 4, 2, 3], Inspection::Clean),
         (
             [1, 3, 2, 9, 5, 4, 2, 3],
-            Inspection::WrongEntry { slot: 2, input: 2 },
+            Inspection::WrongEntry { slot: 2, port: 2 },
         ),
         (
             [1, 3, 2, 4, 3, 4, 2, 5],
-            Inspection::WrongEntry { slot: 3, input: 1 },
+            Inspection::WrongEntry { slot: 3, port: 1 },
         ),
         (
             [1, 0, 2, 4, 1, 3, 2, 3],
-            Inspection::OutputTwice { slot: 2, output: 2 },
+            Inspection::PortTwice { slot: 2, port: 2 },
         ),
         ([1, 4, 2, 3, 2, 3, 0, 0], Inspection::FlowCount { flow: 1 }),
         ([1, 4, 2, 3, 1, 0, 2, 3], Inspection::FlowCount { flow: 4 }),
@@ -296,7 +330,7 @@ fn wrong_entries() {
             1 | 3 => Inspection::FlowCount {
                 flow: entry.min(2).into(),
             },
-            _ => Inspection::WrongEntry { slot: 1, input: 1 },
+            _ => Inspection::WrongEntry { slot: 1, port: 1 },
         };
         assert_eq!(inspect(2, 1, &list, &[entry, 0]), fault, "{entry}");
     }
@@ -359,7 +393,13 @@ fn count_order() {
     let port = |port| Class::Input { port };
     let long = LONGEST_RUN + 1;
     let count = |ports, slots, list: &[u16], length: usize, class, start, run| {
-        service_count(ports, slots, list, &frame[..length], class, start, run)
+        let frame = &frame[..length];
+        let counts = Side::BOTH
+            .map(|side| service_count(side, ports, slots, list, frame, class, (start, run)));
+        if counts[0].is_err() {
+            assert_eq!(counts[0], counts[1], "the refusals are the same");
+        }
+        counts[0]
     };
     let refused = |ports, slots, list: &[u16], length, class, start| {
         count(ports, slots, list, length, class, start, long).unwrap_err()
@@ -421,7 +461,8 @@ fn depth_order() {
 /// 12 is for a flow that is not in the list, however few flows it has, and for a port outside the switch.
 #[test]
 fn flows_that_are_not_in_the_list() {
-    let count = |list: &[u16], class| service_count(2, 2, list, &[1, 2, 3, 4], class, 1, 2);
+    let count =
+        |list: &[u16], class| service_count(Side::Input, 2, 2, list, &[1, 2, 3, 4], class, (1, 2));
     for flows in 0..=4 {
         let list = [1, 2, 9, 1].repeat(flows);
         for number in [0, 1, 2, 3, 4, 5, 513, 65_536, 65_537, u64::MAX] {
@@ -455,7 +496,7 @@ fn entries_count_wherever_they_stand() {
         (Class::Output { port: 2 }, 3),
     ];
     for (class, cells) in cases {
-        let count = service_count(2, 4, &list, &frame, class, 1, 4);
+        let count = service_count(Side::Input, 2, 4, &list, &frame, class, (1, 4));
         assert_eq!(count, Ok(Count { cells, lead: 0 }), "{class:?}");
     }
 }
@@ -479,7 +520,14 @@ fn numbers_of_any_size_end_in_a_refusal() {
         assert_eq!(build(1, number, &[], &mut []), Err(Refusal::Slots));
         assert_eq!(slot_view(1, 1, &[0], number), Err(Refusal::SlotNumber));
         let class = Class::Output { port: number };
-        let count = service_count(1, 1, &[], &[0], class, 1, u64::MAX);
+        let side = Side::told(number);
+        let count = service_count(side, 1, 1, &[], &[0], class, (1, u64::MAX));
         assert_eq!(count, Err(Refusal::FlowOrPort));
+        let turned = turn(side, number, number, &[], &[], &mut []);
+        assert_eq!(turned, Err(Refusal::Ports));
+        assert_eq!(
+            turn(side, 1, number, &[], &[], &mut []),
+            Err(Refusal::Slots)
+        );
     }
 }

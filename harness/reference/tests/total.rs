@@ -7,7 +7,18 @@ use loads::{
     Uneven,
 };
 use reference::wire::{deviation, Course, Frame, Whose};
-use reference::{inspect, Inspection};
+use reference::{turn, Inspection, Side};
+
+/// What Inspect finds in a frame by inputs, and in the same frame by outputs.
+fn inspect(ports: u64, slots: u64, list: &[u16], frame: &[u16]) -> Inspection {
+    let found = reference::inspect(Side::Input, ports, slots, list, frame);
+    let mut turned = vec![0xa5a5; frame.len()];
+    let answer = turn(Side::Input, ports, slots, list, frame, &mut turned);
+    answer.expect("no entry is wrong, and no output used twice");
+    let by_outputs = reference::inspect(Side::Output, ports, slots, list, &turned);
+    assert_eq!(by_outputs, found);
+    found
+}
 
 fn built(call: &Call) -> Vec<u16> {
     let mut frame = vec![0xa5a5; call.frame_length];

@@ -2,7 +2,7 @@
 
 use std::collections::{BTreeMap, BTreeSet};
 
-use calls::{Built, Calls, Inspection};
+use calls::{Built, Calls, Inspection, INPUT_SIDE};
 use loads::{flows_of, load, Call, Flow, LoadKind, Random, LINKS, MOST_FLOWS};
 use reference::wire::{Course, Frame, Whose};
 use reference::work::bound_by_size;
@@ -67,7 +67,8 @@ pub fn check_build(
     for sort in sorts_of_list(&call) {
         hits.add(sort);
     }
-    let inspection = candidate.inspect(call.ports, call.slots, &call.list, buffer.part());
+    let Call { ports, slots, .. } = call;
+    let inspection = candidate.inspect(INPUT_SIDE, ports, slots, &call.list, buffer.part());
     expect_equal("inspect after build", &inspection, &Inspection::Clean)?;
     let chain = vec![wire_frame(&call, buffer.part()); 2];
     expect_chain(&chain)?;

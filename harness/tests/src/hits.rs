@@ -3,7 +3,10 @@
 use std::cmp::Ordering;
 use std::collections::BTreeMap;
 
+use calls::{INPUT_SIDE, OUTPUT_SIDE};
+
 use crate::kind::Kind;
+use crate::verdict::told;
 
 /// A load that fits was built, and its odd counts settled were as many as the reference's, its frame the same in every entry.
 pub const SAME_FRAME: &str =
@@ -16,6 +19,15 @@ pub const SAME_OVER_FOUR: &str = "frame of a list over all four links compared i
 
 /// A frame that was built was damaged, or its list was, and then inspected.
 pub const DAMAGED: &str = "frame built, damaged and inspected";
+/// The same of one that was turned before it was damaged.
+pub const DAMAGED_BY_OUTPUTS: &str = "frame built, turned, damaged and inspected by outputs";
+
+/// A frame turned, of either side, was turned back to its own entries, and both had one inspection and the same counts.
+pub const TURNED_BACK: &str = "frame turned and turned back, inspected and counted on both sides";
+/// The list of a frame that turned had cells on several links of some output.
+pub const TURN_OVER_LINKS: &str = "turn of a frame of a list over several links";
+/// It had several flows on some pair.
+pub const TURN_OF_A_PAIR: &str = "turn of a frame of several flows on a pair";
 
 /// A list without flows was built.
 pub const NO_FLOWS: &str = "build of no flows";
@@ -311,9 +323,12 @@ impl Hits {
         names.extend(refusal_names("sheet", &[1, 2, 5, 6, 7, 8, 10, 21]));
         names.extend(FLOW_LINES.map(str::to_string));
         names.extend(SORTS_OF_LIST.map(str::to_string));
-        names.push(DAMAGED.into());
-        names.extend((1..=16).map(|ports| format!("build with {ports} ports")));
-        names.extend((0..=10).map(|k| format!("build with {} slots", 1 << k)));
+        names.extend([DAMAGED, DAMAGED_BY_OUTPUTS].map(str::to_string));
+        names.extend([TURNED_BACK, TURN_OVER_LINKS, TURN_OF_A_PAIR].map(str::to_string));
+        for call in ["build", "turn"] {
+            names.extend((1..=16).map(|ports| format!("{call} with {ports} ports")));
+            names.extend((0..=10).map(|k| format!("{call} with {} slots", 1 << k)));
+        }
         names.extend(CHAIN_EVENTS.map(str::to_string));
         names.extend((0..=10).map(|k| format!("leads of a frame of {} slots", 1 << k)));
         names.extend((0..=10).map(|k| format!("depth in {} slots", 1 << k)));
@@ -347,34 +362,65 @@ fn name_at(name: &str, k: u32) -> String {
     format!("{name}, k = {k}")
 }
 
-/// Each answer of each call.
+/// Refusals of every call that is given a list.
+const OF_LIST: [u64; 6] = [1, 2, 3, 21, 22, 23];
+
+/// Each answer of each call, and on each side of a call that is told it.
 pub fn outcomes() -> Vec<String> {
-    let mut names = vec!["inspect clean".to_string()];
-    names.extend(
-        ["admit", "build", "view", "count", "depth"].map(|call| format!("{call} accepted")),
-    );
+    let calls = ["admit", "build", "view", "depth"];
+    let mut names: Vec<String> = calls.map(|call| format!("{call} accepted")).into();
     names.extend([ODD_SETTLED, NONE_SETTLED].map(str::to_string));
-    for fault in ["wrong entry", "output twice", "flow count"] {
-        names.push(format!("inspect {fault}"));
-    }
-    names.extend((1..=10).map(|k| format!("inspect unbalanced block of {}", 1 << k)));
-    let of_list = [1, 2, 3, 21, 22, 23];
     for (call, others) in [
         ("admit", &[5, 6, 24][..]),
         ("build", &[4, 5, 6, 24]),
-        ("inspect", &[4]),
-        ("count", &[4, 11, 12, 13]),
         ("depth", &[5, 6, 12]),
     ] {
-        names.extend(refusal_names(call, &of_list));
+        names.extend(refusal_names(call, &OF_LIST));
         names.extend(refusal_names(call, others));
     }
     names.extend(refusal_names("view", &[1, 2, 4, 11]));
-    for call in ["count", "depth"] {
-        names.extend(["flow", "input", "output"].map(|class| format!("{call} of {class}")));
+    names.extend(class_names("depth"));
+    for (side, twice) in [(INPUT_SIDE, "output twice"), (OUTPUT_SIDE, "input twice")] {
+        names.extend(inspections(&told("inspect", side), twice));
+        names.extend(counts(&told("count", side)));
+        names.extend(turns(&told("turn", side)));
     }
-    names.extend(["above 0", "0", "below 0"].map(|lead| format!("count with lead {lead}")));
     names
+}
+
+/// Each answer of Inspect on a side, where a port of the other is used twice by this name.
+fn inspections(call: &str, twice: &str) -> Vec<String> {
+    let found = ["clean", "wrong entry", twice, "flow count"];
+    let mut names: Vec<String> = found.map(|found| format!("{call} {found}")).into();
+    names.extend((1..=10).map(|k| format!("{call} unbalanced block of {}", 1 << k)));
+    names.extend(refusal_names(call, &OF_LIST));
+    names.extend(refusal_names(call, &[4]));
+    names
+}
+
+/// Each answer of Service count on a side.
+fn counts(call: &str) -> Vec<String> {
+    let mut names = vec![format!("{call} accepted")];
+    names.extend(refusal_names(call, &OF_LIST));
+    names.extend(refusal_names(call, &[4, 11, 12, 13]));
+    names.extend(class_names(call));
+    names.extend(["above 0", "0", "below 0"].map(|lead| format!("{call} with lead {lead}")));
+    names
+}
+
+/// Each answer of Turn on a side, 14 for either of its reasons.
+fn turns(call: &str) -> Vec<String> {
+    let mut names = vec![format!("{call} accepted")];
+    names.extend(refusal_names(call, &OF_LIST));
+    names.extend(refusal_names(call, &[4, 15, 14]));
+    names
+        .extend(["a wrong entry", "a port twice"].map(|why| format!("{call} refusal 14 by {why}")));
+    names
+}
+
+/// A call that was answered about each class.
+fn class_names(call: &str) -> [String; 3] {
+    ["flow", "input", "output"].map(|class| format!("{call} of {class}"))
 }
 
 /// A call's refusals, in its order.

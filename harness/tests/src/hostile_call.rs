@@ -1,18 +1,20 @@
-//! Hostile calls: any number in any place, slices of any length, any limits.
+//! Hostile calls: any number in any place, sides too, slices of any length, any limits.
 
 use std::fmt::{self, Display, Formatter};
 
-use calls::Class;
+use calls::{Class, Side};
 use loads::{
-    damage, hostile_length, hostile_limit, hostile_link, hostile_number, hostile_port,
-    load_of_shape, random_shape, Call, Damage, LengthKind, LimitKind, Limits, LoadKind, Random,
+    hostile_length, hostile_limit, hostile_link, hostile_number, hostile_port, load_of_shape,
+    random_shape, unbalance_total, Call, Damage, LengthKind, LimitKind, Limits, LoadKind, Random,
     Shape, FLOW_NUMBERS, HOSTILE, LINKS, MOST_FLOWS,
 };
 
 use crate::build_case::over_links;
 use crate::hits::Hits;
+use crate::inspect_case::{block_of_frame, built, damage_on};
 use crate::query_case::any_entries;
 use crate::share_case::random_class;
+use crate::turn_case::on_side;
 
 /// The most numbers of an overlong list, those of four of the longest.
 const MOST_NUMBERS: usize = 4 * MOST_FLOWS * FLOW_NUMBERS;
@@ -29,20 +31,30 @@ loads::kinds! {
         View = "view",
         Count = "count",
         Depth = "depth",
+        Turn = "turn",
     }
 }
+
+/// Numbers that all tell the output side.
+const OUTPUT_SIDES: [u64; 8] = [1, 2, 3, 17, 256, 1 << 16, 1 << 32, u64::MAX];
 
 impl HostileKind {
     /// The places for a number.
     pub fn numbers(self) -> &'static [&'static str] {
         match self {
-            HostileKind::Admit | HostileKind::Build | HostileKind::Inspect => &["ports", "slots"],
+            HostileKind::Admit | HostileKind::Build => &["ports", "slots"],
+            HostileKind::Inspect | HostileKind::Turn => &["side", "ports", "slots"],
             HostileKind::View => &["ports", "slots", "slot"],
             HostileKind::Count => &[
-                "ports", "slots", "start", "length", "flow", "input", "output",
+                "side", "ports", "slots", "start", "length", "flow", "input", "output",
             ],
             HostileKind::Depth => &["ports", "slots", "flow", "input", "output"],
         }
+    }
+
+    /// Whether the call is told the side of its frame.
+    fn is_told_side(self) -> bool {
+        self.numbers().contains(&"side")
     }
 
     /// Whether the call takes limits.
@@ -56,6 +68,7 @@ impl HostileKind {
             HostileKind::Admit | HostileKind::Depth => &["list"],
             HostileKind::Build | HostileKind::Inspect | HostileKind::Count => &["list", "frame"],
             HostileKind::View => &["frame"],
+            HostileKind::Turn => &["list", "frame", "second"],
         }
     }
 }
@@ -67,8 +80,10 @@ pub fn name_of(kind: HostileKind, place: &str, given: impl Display) -> String {
 
 /// What a call is given; not every call takes all of it.
 pub struct Given {
+    pub side: u64,
     pub call: Call,
     pub frame: Vec<u16>,
+    pub second: Vec<u16>,
     pub class: Class,
     pub slot: u64,
     pub length: u64,
@@ -78,9 +93,10 @@ impl Display for Given {
     fn fmt(&self, to: &mut Formatter<'_>) -> fmt::Result {
         let Call { ports, slots, .. } = self.call;
         let (numbers, entries) = (self.call.list.len(), self.frame.len());
+        let (side, second) = (self.side, self.second.len());
         write!(
             to,
-            "{ports} ports, {slots} slots, {numbers} numbers, {entries} entries, "
+            "side {side}, {ports} ports, {slots} slots, {numbers} numbers, {entries} entries, {second} in the second buffer, "
         )?;
         write!(
             to,
@@ -105,6 +121,36 @@ pub fn hostile_call(kind: HostileKind, random: &mut Random, hits: &mut Hits) -> 
 
 /// A call within the limits.
 fn good_call(kind: HostileKind, random: &mut Random) -> Given {
+    let side = good_side(kind, random);
+    let (call, frame) = match kind {
+        HostileKind::Inspect if random.one_in(4) => unbalanced(Side::told(side), random),
+        _ => load_and_frame(kind, Side::told(side), random),
+    };
+    let second = match kind {
+        HostileKind::Turn => random.entries(frame.len()),
+        _ => Vec::new(),
+    };
+    Given {
+        class: random_class(call.ports, call.flows(), random),
+        slot: random.between(1, call.slots),
+        length: random.between(0, 3 * call.slots),
+        side,
+        call,
+        frame,
+        second,
+    }
+}
+
+/// A frame of this side with an uneven block of any size, which damage seldom leads to.
+fn unbalanced(side: Side, random: &mut Random) -> (Call, Vec<u16>) {
+    let (shape, block) = block_of_frame(1, random);
+    let (call, frame) = unbalance_total(shape, block, built, random);
+    let frame = on_side(side, &call, frame);
+    (call, frame)
+}
+
+/// A load, and a frame of this side where the call is lent one.
+fn load_and_frame(kind: HostileKind, side: Side, random: &mut Random) -> (Call, Vec<u16>) {
     let shape = random_shape(random);
     let loads = match kind {
         HostileKind::Inspect => &LoadKind::FITTING,
@@ -115,22 +161,25 @@ fn good_call(kind: HostileKind, random: &mut Random) -> Given {
     let frame = match kind {
         HostileKind::Admit | HostileKind::Depth => Vec::new(),
         HostileKind::Build => random.entries(call.frame_length),
-        _ => any_frame(shape, &mut call, random),
+        _ => any_frame(side, shape, &mut call, random),
     };
-    Given {
-        class: random_class(call.ports, call.flows(), random),
-        slot: random.between(1, call.slots),
-        length: random.between(0, 3 * call.slots),
-        call,
-        frame,
+    (call, frame)
+}
+
+/// Either side, the output side by any number that tells it; the input side for a call that is told none.
+fn good_side(kind: HostileKind, random: &mut Random) -> u64 {
+    if kind.is_told_side() && random.one_in(2) {
+        random.pick(&OUTPUT_SIDES)
+    } else {
+        Side::Input.number()
     }
 }
 
-/// A frame of any entries, often built and damaged.
-fn any_frame(shape: Shape, call: &mut Call, random: &mut Random) -> Vec<u16> {
-    let mut frame = any_entries(call, random);
+/// A frame of any entries, often built and damaged, on this side where it turns.
+fn any_frame(side: Side, shape: Shape, call: &mut Call, random: &mut Random) -> Vec<u16> {
+    let mut frame = on_side(side, call, any_entries(call, random));
     let kind = random.pick(&Damage::ALL[..Damage::ALL.len() - 1]);
-    damage(kind, shape, call, &mut frame, random);
+    damage_on(side, kind, shape, call, &mut frame, random);
     frame
 }
 
@@ -145,6 +194,9 @@ struct Spoiler<'s> {
 
 impl Spoiler<'_> {
     fn spoil(&mut self, given: &mut Given) {
+        if self.kind.is_told_side() {
+            given.side = self.side(given.side);
+        }
         given.call.ports = self.number("ports", given.call.ports);
         given.call.slots = self.number("slots", given.call.slots);
         self.spoil_slices(given);
@@ -174,6 +226,23 @@ impl Spoiler<'_> {
             let length = self.length("frame", product, frame.len(), MOST_ENTRIES);
             frame.resize_with(length, || self.random.draw() as u16);
         }
+        if self.kind.slices().contains(&"second") {
+            let entries = given.frame.len();
+            let length = self.length("second", entries as u64, entries, MOST_ENTRIES);
+            let second = &mut given.second;
+            second.resize_with(length, || self.random.draw() as u16);
+        }
+    }
+
+    /// The side, or now and then another: most frames have a wrong entry there.
+    fn side(&mut self, good: u64) -> u64 {
+        let side = if self.is_hostile() && self.random.one_in(2) {
+            hostile_number(good, self.random)
+        } else {
+            good
+        };
+        self.note("side", side);
+        side
     }
 
     /// A list of another length, whose further numbers are ports of the switch, ports that are links too, or any, and now and then a
@@ -237,10 +306,15 @@ impl Spoiler<'_> {
             return good;
         }
         let number = hostile_number(good, self.random);
+        self.note(place, number);
+        number
+    }
+
+    /// Notes one of the numbers that must have stood in every place.
+    fn note(&mut self, place: &str, number: u64) {
         if HOSTILE.contains(&number) {
             self.hits.add(name_of(self.kind, place, number));
         }
-        number
     }
 
     /// A length next to the one that the call asks for in 64 bits, or to the good one where that is too long to lend.

@@ -10,6 +10,7 @@ use crate::hostile_call::{hostile_call, name_of, Given, HostileKind};
 use crate::inspect_case::inspect_and_compare;
 use crate::query_case::{count_and_compare, view_and_compare};
 use crate::runner::{run_cases, Cases, Report, Settings};
+use crate::turn_case::turn_and_compare;
 use crate::verdict::{outcome, Verdict};
 
 /// A way to call a builder.
@@ -76,7 +77,7 @@ fn make_call(
     random: &mut Random,
     hits: &mut Hits,
 ) -> Verdict {
-    let call = &given.call;
+    let Given { side, call, .. } = given;
     let mut frame = lend(&given.frame, random);
     match kind {
         HostileKind::Admit => admit_and_compare(calls, call, random, hits),
@@ -86,14 +87,18 @@ fn make_call(
             Ok(())
         }
         HostileKind::Inspect => {
-            inspect_and_compare(calls, call, &frame, random, hits)?;
+            inspect_and_compare(calls, *side, call, &frame, random, hits)?;
             Ok(())
         }
         HostileKind::View => view_and_compare(calls, call, &frame, given.slot, random, hits),
         HostileKind::Count => {
-            let run = (given.slot, given.length);
-            count_and_compare(calls, call, &frame, given.class, run, random, hits)
+            let question = (given.class, (given.slot, given.length));
+            count_and_compare(calls, *side, call, &frame, question, random, hits).map(|_| ())
         }
         HostileKind::Depth => depth_and_compare(calls, call, given.class, random, hits),
+        HostileKind::Turn => {
+            let mut second = lend(&given.second, random);
+            turn_and_compare(calls, *side, call, &frame, &mut second, random, hits).map(|_| ())
+        }
     }
 }

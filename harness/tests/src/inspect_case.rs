@@ -1,14 +1,15 @@
 //! Cases of Inspect.
 
-use calls::{Calls, Inspection};
-use loads::{damage, load_of_shape, random_shape, unbalance_total, uneven};
+use calls::{Calls, Inspection, Side};
+use loads::{damage, damage_by_outputs, load_of_shape, random_shape, unbalance_total, uneven};
 use loads::{Block, Call, Damage, LoadKind, Random, Shape, Uneven};
 
 use crate::build_case::{lend, over_links};
-use crate::hits::{Hits, DAMAGED, FLOW_UNBALANCED, INPUT_UNBALANCED};
+use crate::hits::{Hits, DAMAGED, DAMAGED_BY_OUTPUTS, FLOW_UNBALANCED, INPUT_UNBALANCED};
 use crate::hits::{LINK_UNBALANCED, OUTPUT_UNBALANCED, TOTAL_UNBALANCED};
 use crate::lent::Lent;
-use crate::verdict::{expect_equal, Verdict};
+use crate::turn_case::on_side;
+use crate::verdict::{expect_equal, told, Verdict};
 
 /// Loads that fit and are dense enough for damage to show.
 const DENSE: [LoadKind; 12] = [
@@ -26,9 +27,10 @@ const DENSE: [LoadKind; 12] = [
     LoadKind::AllOdd,
 ];
 
-/// Damages a built frame and holds what Inspect finds against what the reference finds.
+/// Damages a built frame, by outputs once it has been turned, and holds what Inspect finds against what the reference finds.
 pub fn check_inspection(
     candidate: &dyn Calls,
+    side: Side,
     kind: Damage,
     random: &mut Random,
     hits: &mut Hits,
@@ -36,21 +38,56 @@ pub fn check_inspection(
     let shape = random_shape(random);
     let call = load_of_shape(random.pick(&DENSE), shape, random);
     let mut call = over_links(call, random);
-    let mut frame = built(&call);
-    damage(kind, shape, &mut call, &mut frame, random);
+    let frame = damaged_on(side, kind, shape, &mut call, random);
     if kind != Damage::Whole {
-        hits.add(DAMAGED);
+        hits.add(match side {
+            Side::Input => DAMAGED,
+            Side::Output => DAMAGED_BY_OUTPUTS,
+        });
     }
     let frame = lend(&frame, random);
-    inspect_and_compare(candidate, &call, &frame, random, hits)?;
+    inspect_and_compare(candidate, side.number(), &call, &frame, random, hits)?;
     Ok(())
 }
 
+/// The frame of a load that fits, on this side, with this damage to it or to the list.
+pub fn damaged_on(
+    side: Side,
+    kind: Damage,
+    shape: Shape,
+    call: &mut Call,
+    random: &mut Random,
+) -> Vec<u16> {
+    let mut frame = built_on(side, call);
+    damage_on(side, kind, shape, call, &mut frame, random);
+    frame
+}
+
+/// Damages a frame of this side, or the list that goes with it.
+pub fn damage_on(
+    side: Side,
+    kind: Damage,
+    shape: Shape,
+    call: &mut Call,
+    frame: &mut Vec<u16>,
+    random: &mut Random,
+) {
+    match side {
+        Side::Input => damage(kind, shape, call, frame, random),
+        Side::Output => damage_by_outputs(kind, shape, call, frame, random),
+    }
+}
+
 /// Unbalances a block of a built frame in its total alone; Inspect must find that block, which is known without an inspector.
-pub fn check_total(candidate: &dyn Calls, random: &mut Random, hits: &mut Hits) -> Verdict {
+pub fn check_total(
+    candidate: &dyn Calls,
+    side: Side,
+    random: &mut Random,
+    hits: &mut Hits,
+) -> Verdict {
     let (shape, block) = block_of_frame(1, random);
     let unbalanced = unbalance_total(shape, block, built, random);
-    expect_block(candidate, unbalanced, block, random, hits)?;
+    expect_block(candidate, side, unbalanced, block, random, hits)?;
     hits.add_at(TOTAL_UNBALANCED, block.size.trailing_zeros());
     Ok(())
 }
@@ -58,13 +95,14 @@ pub fn check_total(candidate: &dyn Calls, random: &mut Random, hits: &mut Hits) 
 /// The same in some flows, in an input, in an output or in a link alone.
 pub fn check_uneven(
     candidate: &dyn Calls,
+    side: Side,
     by: Uneven,
     random: &mut Random,
     hits: &mut Hits,
 ) -> Verdict {
     let (shape, block) = block_of_frame(2, random);
     let unbalanced = uneven(by, shape, block, random);
-    expect_block(candidate, unbalanced, block, random, hits)?;
+    expect_block(candidate, side, unbalanced, block, random, hits)?;
     let name = match by {
         Uneven::Flow => FLOW_UNBALANCED,
         Uneven::Input => INPUT_UNBALANCED,
@@ -76,7 +114,7 @@ pub fn check_uneven(
 }
 
 /// A shape of two ports or more, and a block of its frame of 2^least slots or more.
-fn block_of_frame(least: u64, random: &mut Random) -> (Shape, Block) {
+pub fn block_of_frame(least: u64, random: &mut Random) -> (Shape, Block) {
     let size: usize = 1 << random.between(least, 10);
     let shape = Shape {
         ports: random.between(2, 16) as usize,
@@ -85,16 +123,17 @@ fn block_of_frame(least: u64, random: &mut Random) -> (Shape, Block) {
     (shape, Block::of_size(size, shape.slots, random))
 }
 
-/// Holds what Inspect finds in a frame against the reference and against the block that was unbalanced.
+/// Holds what Inspect finds in a frame, on this side, against the reference and against the block that was unbalanced.
 fn expect_block(
     candidate: &dyn Calls,
+    side: Side,
     (call, frame): (Call, Vec<u16>),
     block: Block,
     random: &mut Random,
     hits: &mut Hits,
 ) -> Verdict {
-    let frame = lend(&frame, random);
-    let given = inspect_and_compare(candidate, &call, &frame, random, hits)?;
+    let frame = lend(&on_side(side, &call, frame), random);
+    let given = inspect_and_compare(candidate, side.number(), &call, &frame, random, hits)?;
     let fault = Inspection::UnbalancedBlock {
         slot: block.slot as u64,
         size: block.size as u64,
@@ -103,7 +142,7 @@ fn expect_block(
 }
 
 /// The reference's frame of a load that fits.
-fn built(call: &Call) -> Vec<u16> {
+pub fn built(call: &Call) -> Vec<u16> {
     let mut frame = vec![0; call.frame_length];
     let Call {
         ports,
@@ -117,9 +156,15 @@ fn built(call: &Call) -> Vec<u16> {
     frame
 }
 
+/// The same on this side.
+pub fn built_on(side: Side, call: &Call) -> Vec<u16> {
+    on_side(side, call, built(call))
+}
+
 /// Inspects with the candidate and the reference and compares; what both found.
 pub fn inspect_and_compare(
     candidate: &dyn Calls,
+    side: u64,
     call: &Call,
     frame: &Lent,
     random: &mut Random,
@@ -127,9 +172,11 @@ pub fn inspect_and_compare(
 ) -> Result<Inspection, String> {
     let list = lend(&call.list, random);
     let (list_before, frame_before) = (list.clone(), frame.clone());
-    let given = candidate.inspect(call.ports, call.slots, list.part(), frame.part());
-    let right = reference::inspect(call.ports, call.slots, &call.list, frame_before.part());
-    hits.add(name_of(right));
+    let Call { ports, slots, .. } = *call;
+    let given = candidate.inspect(side, ports, slots, list.part(), frame.part());
+    let entries = frame_before.part();
+    let right = reference::inspect(Side::told(side), ports, slots, &call.list, entries);
+    hits.add(name_of(side, right));
     expect_equal("inspect", &given, &right)?;
     list.expect_same("list after inspect", &list_before)?;
     frame.expect_same("frame after inspect", &frame_before)?;
@@ -137,13 +184,15 @@ pub fn inspect_and_compare(
 }
 
 /// The name an inspection goes by in the counts of what was hit.
-fn name_of(inspection: Inspection) -> String {
-    match inspection {
-        Inspection::Clean => "inspect clean".into(),
-        Inspection::WrongEntry { .. } => "inspect wrong entry".into(),
-        Inspection::OutputTwice { .. } => "inspect output twice".into(),
-        Inspection::FlowCount { .. } => "inspect flow count".into(),
-        Inspection::UnbalancedBlock { size, .. } => format!("inspect unbalanced block of {size}"),
-        Inspection::Refused(refusal) => format!("inspect refusal {}", refusal.number()),
-    }
+fn name_of(side: u64, inspection: Inspection) -> String {
+    let found = match (inspection, Side::told(side)) {
+        (Inspection::Clean, _) => "clean".into(),
+        (Inspection::WrongEntry { .. }, _) => "wrong entry".into(),
+        (Inspection::PortTwice { .. }, Side::Input) => "output twice".into(),
+        (Inspection::PortTwice { .. }, Side::Output) => "input twice".into(),
+        (Inspection::FlowCount { .. }, _) => "flow count".into(),
+        (Inspection::UnbalancedBlock { size, .. }, _) => format!("unbalanced block of {size}"),
+        (Inspection::Refused(refusal), _) => format!("refusal {}", refusal.number()),
+    };
+    format!("{} {found}", told("inspect", side))
 }

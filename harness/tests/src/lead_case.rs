@@ -1,6 +1,6 @@
 //! Cases of the lead: in a frame that the candidate built, the runs that stray furthest from their share.
 
-use calls::{Calls, Class, Count, Service};
+use calls::{Calls, Class, Count, Service, Side, INPUT_SIDE};
 use loads::{load_of_shape, random_shape, Call, Followed, LoadKind, Random, Seam, Shape};
 use reference::queue::{pass, Source};
 use reference::wire::{deviation, repeat_deviation, Course, Run, Whose};
@@ -112,9 +112,10 @@ fn expect_lead(course: &Course, whose: Whose, hits: &mut Hits) -> Verdict {
 impl Built<'_> {
     fn count(&self, class: Class, start: u64, length: u64) -> Service {
         let Call { ports, slots, .. } = *self.call;
-        let (list, frame, run) = (&self.call.list, self.frame.part(), (start, length));
+        let (list, frame, question) =
+            (&self.call.list, self.frame.part(), (class, (start, length)));
         self.candidate
-            .service_count(ports, slots, list, frame, class, run)
+            .service_count(INPUT_SIDE, ports, slots, list, frame, question)
     }
 
     /// Holds a whole turn to the load, the runs that get furthest ahead and fall furthest behind to the reference, and every run to the
@@ -175,8 +176,9 @@ impl Built<'_> {
         let start = run.start as u64 % slots + 1;
         let length = run.length as u64;
         let given = self.count(class, start, length);
-        let (list, frame) = (&self.call.list, self.frame.part());
-        let right = reference::service_count(ports, slots, list, frame, class, start, length);
+        let (side, list, frame) = (Side::Input, &self.call.list, self.frame.part());
+        let asked = (start, length);
+        let right = reference::service_count(side, ports, slots, list, frame, class, asked);
         let what = format!("count of {class:?}, {length} slots from {start}");
         expect_equal(&what, &given, &right)?;
         let Count { cells, lead } = given.map_err(|refusal| format!("{what}: {refusal:?}"))?;

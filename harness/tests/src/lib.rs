@@ -21,6 +21,7 @@ mod runner;
 mod share_case;
 mod sheet_case;
 mod summary;
+mod turn_case;
 mod verdict;
 mod wait_case;
 

@@ -1,6 +1,6 @@
 //! Cases of Slot view and Service count.
 
-use calls::{Calls, Class, Count};
+use calls::{Calls, Class, Count, Question, Service, Side};
 use loads::{junk_number, junk_of_shape, load_of_shape, random_shape, Call, LoadKind, Random};
 use reference::LONGEST_RUN;
 
@@ -8,7 +8,8 @@ use crate::build_case::lend;
 use crate::hits::Hits;
 use crate::lent::Lent;
 use crate::share_case::random_class;
-use crate::verdict::{expect, expect_equal, outcome, Verdict};
+use crate::turn_case::on_side;
+use crate::verdict::{expect, expect_equal, outcome, told, Verdict};
 
 loads::kinds! {
     /// Which slot is asked for, of what.
@@ -37,7 +38,7 @@ pub fn check_view(
     random: &mut Random,
     hits: &mut Hits,
 ) -> Verdict {
-    let (call, frame) = any_frame(kind == ViewKind::Junk, random);
+    let (call, frame) = any_frame(Side::Input, kind == ViewKind::Junk, random);
     for _ in 0..4 {
         let good = random.between(1, call.slots.clamp(1, 1_024));
         let slot = match kind {
@@ -83,21 +84,23 @@ pub fn view_and_compare(
 /// Holds Service count against a count slot by slot.
 pub fn check_count(
     candidate: &dyn Calls,
+    side: Side,
     kind: RunKind,
     random: &mut Random,
     hits: &mut Hits,
 ) -> Verdict {
-    let (call, frame) = any_frame(kind == RunKind::Junk, random);
+    let (call, frame) = any_frame(side, kind == RunKind::Junk, random);
     let run = start_and_length(kind, call.slots, random);
     let mut class = counted_class(&call, &frame, random);
     if kind == RunKind::Junk && random.one_in(3) {
         class = junk_class(&call, random);
     }
-    count_and_compare(candidate, &call, &frame, class, run, random, hits)
+    let (side, question) = (side.number(), (class, run));
+    count_and_compare(candidate, side, &call, &frame, question, random, hits).map(|_| ())
 }
 
 /// A class of the switch; a flow is one that is in the frame, where an entry at random is one.
-fn counted_class(call: &Call, frame: &Lent, random: &mut Random) -> Class {
+pub fn counted_class(call: &Call, frame: &Lent, random: &mut Random) -> Class {
     let entries = frame.part();
     let entry = entries.get(random.place(entries.len().max(1)));
     let number = u64::from(entry.copied().unwrap_or_default());
@@ -108,34 +111,37 @@ fn counted_class(call: &Call, frame: &Lent, random: &mut Random) -> Class {
     }
 }
 
-/// Counts with the candidate and the reference, in a run given by its start and its length, and compares.
+/// Counts with the candidate and the reference and compares; what both answered.
 pub fn count_and_compare(
     candidate: &dyn Calls,
+    side: u64,
     call: &Call,
     frame: &Lent,
-    class: Class,
-    run: (u64, u64),
+    question: Question,
     random: &mut Random,
     hits: &mut Hits,
-) -> Verdict {
+) -> Result<Service, String> {
     let list = lend(&call.list, random);
     let (list_before, frame_before) = (list.clone(), frame.clone());
     let Call { ports, slots, .. } = *call;
     let entries = frame.part();
-    let given = candidate.service_count(ports, slots, list.part(), entries, class, run);
-    let right = reference::service_count(ports, slots, &call.list, entries, class, run.0, run.1);
-    hits.add(outcome("count", &right));
+    let given = candidate.service_count(side, ports, slots, list.part(), entries, question);
+    let ((class, run), of) = (question, Side::told(side));
+    let right = reference::service_count(of, ports, slots, &call.list, entries, class, run);
+    let name = told("count", side);
+    hits.add(outcome(&name, &right));
     if let Ok(Count { lead, .. }) = right {
-        hits.add(format!("count of {}", class_name(class)));
-        hits.add(format!("count with lead {}", lead_name(lead)));
+        hits.add(format!("{name} of {}", class_name(class)));
+        hits.add(format!("{name} with lead {}", lead_name(lead)));
     }
     expect_equal("count", &given, &right)?;
     list.expect_same("list after count", &list_before)?;
-    frame.expect_same("frame after count", &frame_before)
+    frame.expect_same("frame after count", &frame_before)?;
+    Ok(given)
 }
 
-/// A list, and a frame of random entries or its own, in a shape that may be wrong.
-fn any_frame(junk: bool, random: &mut Random) -> (Call, Lent) {
+/// A list, and a frame of random entries or its own on this side, in a shape that may be wrong.
+fn any_frame(side: Side, junk: bool, random: &mut Random) -> (Call, Lent) {
     let shape = random_shape(random);
     let kinds = [
         LoadKind::Scattered,
@@ -145,7 +151,7 @@ fn any_frame(junk: bool, random: &mut Random) -> (Call, Lent) {
         LoadKind::NoFlows,
     ];
     let mut call = load_of_shape(random.pick(&kinds), shape, random);
-    let mut entries = any_entries(&call, random);
+    let mut entries = on_side(side, &call, any_entries(&call, random));
     if junk {
         call = junk_of_shape(shape, random);
         entries.resize(call.frame_length, 1);

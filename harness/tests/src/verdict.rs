@@ -2,7 +2,7 @@
 
 use std::fmt::Debug;
 
-use calls::Refusal;
+use calls::{Refusal, Side};
 
 /// Nothing to report, or what went wrong.
 pub type Verdict = Result<(), String>;
@@ -22,6 +22,17 @@ pub fn expect_equal<T: PartialEq + Debug>(what: &str, given: &T, right: &T) -> V
         format!("{what}: {given:?} given, {right:?} right")
     })
 }
+
+/// The name of a call that is told the side of a frame.
+pub fn told(call: &str, side: u64) -> String {
+    match Side::told(side) {
+        Side::Input => call.into(),
+        Side::Output => format!("{call} {BY_OUTPUTS}"),
+    }
+}
+
+/// What follows the name of a call that was told the output side.
+pub const BY_OUTPUTS: &str = "by outputs";
 
 /// The name an answer goes by in the counts of what was hit.
 pub fn outcome<T>(call: &str, answer: &Result<T, Refusal>) -> String {

@@ -46,6 +46,35 @@ fn numbers_cut_to_32_bits() {
     sent_back!(service_count: cut_flow, "hostile/count", 12_000);
     sent_back!(service_count: cut_lead, "hostile/count", 4_000);
     sent_back!(depth: sixteen_bit_port, "hostile/depth", 12_000);
+    sent_back!(turn: cut_side, "hostile/turn", 4_000);
+}
+
+#[test]
+fn other_sides_looked_at() {
+    sent_back!(turn: turn_of_other_side, "hostile/turn");
+    sent_back!(inspect: inspect_of_other_side, "hostile/inspect");
+    sent_back!(service_count: count_of_other_side, "hostile/count");
+    sent_back!(turn: turn_by_1_alone, "hostile/turn");
+    sent_back!(inspect: inspect_by_1_alone, "hostile/inspect");
+    sent_back!(service_count: count_by_1_alone, "hostile/count");
+    sent_back!(service_count: input_by_place, "hostile/count");
+    sent_back!(service_count: output_by_flows, "hostile/count", 4_000);
+}
+
+#[test]
+fn turns_to_something_else() {
+    sent_back!(turn: other_places_let_through, "hostile/turn", 4_000);
+    sent_back!(turn: later_entry_wins, "hostile/turn", 4_000);
+    sent_back!(turn: above_turned_to_idle, "hostile/turn");
+    sent_back!(turn: turned_up_to_the_fault, "hostile/turn");
+    sent_back!(turn: idle_places_left, "hostile/turn");
+}
+
+#[test]
+fn second_buffers_of_other_lengths() {
+    sent_back!(turn: entries_before_length, "hostile/turn");
+    sent_back!(turn: second_before_first, "hostile/turn");
+    sent_back!(turn: longer_second, "hostile/turn");
 }
 
 #[test]
@@ -127,4 +156,6 @@ fn a_whole_run_must_come_upon_every_answer() {
     let report = hostile(&Reference, "", 1);
     assert!(report.failures.is_empty());
     assert!(report.never_hit.contains(&"it count refusal 13".into()));
+    let by_outputs = "it turn by outputs refusal 15";
+    assert!(report.never_hit.contains(&by_outputs.into()));
 }

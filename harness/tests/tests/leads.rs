@@ -1,14 +1,15 @@
-//! Random counts of any entries, each through C and through Rust, held against the reference with their leads.
+//! Random counts of any entries, on either side, each through C and through Rust, held against the reference with their leads.
 
-use calls::{Calls, Class, InC, Library, Reference, Service};
+use calls::{Calls, Class, InC, Library, Reference, Service, INPUT_SIDE, OUTPUT_SIDE};
 use loads::{load_of_shape, random_shape, LoadKind, Random};
 use reference::LONGEST_RUN;
 use tests::any_entries;
 
-const COUNTS: usize = 12_500;
+const COUNTS: usize = 25_000;
 
 /// What a count is asked for.
 struct Asked {
+    side: u64,
     ports: u64,
     slots: u64,
     list: Vec<u16>,
@@ -37,18 +38,20 @@ impl Asked {
             ]),
             start: number_to(slots, random),
             length: random_length(slots, random),
+            side: random.pick(&[INPUT_SIDE, OUTPUT_SIDE]),
         }
     }
 
     fn answer(&self, calls: &dyn Calls) -> Service {
-        let (ports, slots, run) = (self.ports, self.slots, (self.start, self.length));
-        calls.service_count(ports, slots, &self.list, &self.frame, self.class, run)
+        let (side, ports, slots) = (self.side, self.ports, self.slots);
+        let question = (self.class, (self.start, self.length));
+        calls.service_count(side, ports, slots, &self.list, &self.frame, question)
     }
 
     fn name(&self) -> String {
-        let (ports, slots, class) = (self.ports, self.slots, self.class);
+        let (side, ports, slots, class) = (self.side, self.ports, self.slots, self.class);
         let (start, length) = (self.start, self.length);
-        format!("{class:?} in {ports} x {slots}, {length} slots from {start}")
+        format!("{class:?} on side {side} of {ports} x {slots}, {length} slots from {start}")
     }
 
     /// Whether the run goes on from the last slot to slot 1.
@@ -81,7 +84,7 @@ fn random_length(slots: u64, random: &mut Random) -> u64 {
 fn leads_through_c_and_through_rust() {
     let (in_c, library) = (InC::default(), Library::default());
     let mut random = Random::new(2_027);
-    let (mut accepted, mut very_long, mut wrapped) = (0, 0, 0);
+    let (mut accepted, mut very_long, mut wrapped) = ([0; 2], 0, 0);
     let (mut ahead, mut behind) = (0, 0);
     for _ in 0..COUNTS {
         let asked = Asked::random(&mut random);
@@ -94,13 +97,16 @@ fn leads_through_c_and_through_rust() {
             asked.name()
         );
         let Ok(count) = right else { continue };
-        accepted += 1;
+        accepted[asked.side as usize] += 1;
         very_long += usize::from(asked.length > 900_000);
         wrapped += usize::from(asked.wraps());
         ahead += usize::from(count.lead > 0);
         behind += usize::from(count.lead < 0);
     }
-    assert!(accepted >= 10_000, "{accepted} accepted");
+    assert!(
+        accepted.iter().all(|&accepted| accepted >= 10_000),
+        "{accepted:?} accepted on the two sides"
+    );
     assert!(very_long >= 100, "{very_long} above 900,000 slots");
     assert!(wrapped >= 1_000, "{wrapped} across the end of the frame");
     assert!(

@@ -1,6 +1,6 @@
 //! Builders that would be sent back are sent back.
 
-use calls::{Answer, Calls, Class, Inspection, Reference, Refusal};
+use calls::{Answer, Calls, Class, Inspection, Reference, Refusal, Side, INPUT_SIDE, OUTPUT_SIDE};
 use loads::{flows_of_matrix, list_of, load_beside, Random, FLOW_NUMBERS, MOST_FLOWS};
 use reference::queue::{ahead_behind_a_switch, pass_row, Depth, Switch};
 use reference::slots_each;
@@ -58,7 +58,7 @@ fn carried(builder: &Broken, ports: u64, slots: u64, list: &[u16]) -> Frame {
 /// What the inspector finds in a broken builder's frame.
 fn inspected(builder: &Broken, ports: u64, slots: u64, list: &[u16]) -> Inspection {
     let frame = frame_of(builder, ports, slots, list);
-    reference::inspect(ports, slots, list, &frame)
+    reference::inspect(Side::Input, ports, slots, list, &frame)
 }
 
 /// One flow for each pair of a matrix, in matrix order.
@@ -90,21 +90,21 @@ fn the_reference_is_not_sent_back() {
 #[test]
 fn extra_cells_all_to_the_first_half() {
     let builder = sent_back!(build: extra_to_first_half, "build/");
-    let fault = Inspection::OutputTwice { slot: 1, output: 2 };
+    let fault = Inspection::PortTwice { slot: 1, port: 2 };
     assert_eq!(inspected(&builder, 2, 2, &every_pair(2, &[1; 4])), fault);
 }
 
 #[test]
 fn partners_at_inputs_only() {
     let builder = sent_back!(build: partners_at_inputs_only, "build/");
-    let fault = Inspection::OutputTwice { slot: 1, output: 1 };
+    let fault = Inspection::PortTwice { slot: 1, port: 1 };
     assert_eq!(inspected(&builder, 2, 2, &every_pair(2, &[1; 4])), fault);
 }
 
 #[test]
 fn walk_in_one_direction_only() {
     let builder = sent_back!(build: walk_one_way, "build/");
-    let fault = Inspection::OutputTwice { slot: 1, output: 1 };
+    let fault = Inspection::PortTwice { slot: 1, port: 1 };
     let list = every_pair(2, &[1, 1, 1, 0]);
     assert_eq!(inspected(&builder, 2, 2, &list), fault);
 }
@@ -259,14 +259,14 @@ fn single_ones_not_partnered() {
     let builder = sent_back!(build: singles_left, "build/spread-links");
     sent_back!(build: singles_left, "row/");
     let list = [1, 1, 1, 1, 2, 2, 1, 1, 3, 1, 1, 2];
-    let fault = Inspection::OutputTwice { slot: 1, output: 1 };
+    let fault = Inspection::PortTwice { slot: 1, port: 1 };
     assert_eq!(inspected(&builder, 3, 2, &list), fault);
 }
 
 #[test]
 fn entries_that_are_not_the_flow() {
     let builder = sent_back!(build: outputs_for_flows, "build/");
-    let fault = Inspection::WrongEntry { slot: 1, input: 1 };
+    let fault = Inspection::WrongEntry { slot: 1, port: 1 };
     assert_eq!(inspected(&builder, 2, 2, &[1, 2, 2, 1]), fault);
     let builder = sent_back!(build: eight_bit_entries, "build/");
     let list = [[1, 1, 0, 1].repeat(256), vec![1, 1, 1, 1]].concat();
@@ -394,7 +394,7 @@ fn fixed_frame() {
 #[test]
 fn buffer_left_as_found() {
     let builder = sent_back!(build: as_found, "build/");
-    let fault = Inspection::WrongEntry { slot: 1, input: 1 };
+    let fault = Inspection::WrongEntry { slot: 1, port: 1 };
     assert_eq!(inspected(&builder, 2, 4, &[1, 2, 3, 1]), fault);
 }
 
@@ -652,20 +652,29 @@ fn inspectors_that_do_not_look_at_the_list() {
     let list = [1, 1, 1, 1, 2, 1, 1, 1];
     let builder = sent_back!(inspect: other_inputs_let_through, "inspect/");
     let swapped = [2, 0, 0, 1];
-    assert_eq!(builder.inspect(2, 2, &list, &swapped), Inspection::Clean);
+    assert_eq!(
+        builder.inspect(INPUT_SIDE, 2, 2, &list, &swapped),
+        Inspection::Clean
+    );
     let builder = sent_back!(inspect: above_is_idle, "inspect/");
     let above = [1, 3, 0, 2];
-    assert_eq!(builder.inspect(2, 2, &list, &above), Inspection::Clean);
+    assert_eq!(
+        builder.inspect(INPUT_SIDE, 2, 2, &list, &above),
+        Inspection::Clean
+    );
     let builder = sent_back!(inspect: flows_of_pair_added, "inspect/flows-swapped");
     let list = [1, 1, 1, 1, 1, 1, 1, 1];
-    assert_eq!(builder.inspect(1, 2, &list, &[1, 1]), Inspection::Clean);
+    assert_eq!(
+        builder.inspect(INPUT_SIDE, 1, 2, &list, &[1, 1]),
+        Inspection::Clean
+    );
 }
 
 #[test]
 fn inspectors_that_leave_out_a_class() {
     let builder = sent_back!(inspect: no_flows, "inspect/flow");
     let list = [1, 1, 2, 1, 1, 1, 2, 1];
-    let found = builder.inspect(1, 4, &list, &[1, 1, 2, 2]);
+    let found = builder.inspect(INPUT_SIDE, 1, 4, &list, &[1, 1, 2, 2]);
     assert_eq!(found, Inspection::Clean);
     sent_back!(inspect: no_inputs, "inspect/input");
     sent_back!(inspect: no_outputs, "inspect/output");
@@ -676,10 +685,11 @@ fn inspectors_that_leave_out_a_class() {
 fn inspectors_that_leave_out_the_links() {
     let builder = sent_back!(inspect: no_links, "inspect/link");
     let list = [1, 1, 1, 1, 1, 1, 1, 1, 1, 1, 1, 2];
-    let found = builder.inspect(1, 4, &list, &[1, 2, 3, 0]);
+    let found = builder.inspect(INPUT_SIDE, 1, 4, &list, &[1, 2, 3, 0]);
     assert_eq!(found, Inspection::Clean);
     let fault = Inspection::UnbalancedBlock { slot: 1, size: 4 };
-    assert_eq!(reference::inspect(1, 4, &list, &[1, 2, 3, 0]), fault);
+    let found = Reference.inspect(INPUT_SIDE, 1, 4, &list, &[1, 2, 3, 0]);
+    assert_eq!(found, fault);
 }
 
 #[test]
@@ -687,11 +697,11 @@ fn inspectors_that_leave_out_the_total() {
     let builder = sent_back!(inspect: no_total, "inspect/total");
     let mut frame = [0; 16];
     frame[..4].copy_from_slice(&[1, 2, 3, 4]);
-    let found = builder.inspect(4, 4, &OWN_NUMBERS, &frame);
+    let found = builder.inspect(INPUT_SIDE, 4, 4, &OWN_NUMBERS, &frame);
     assert_eq!(found, Inspection::Clean);
 
     let builder = sent_back!(inspect: two_slots_are_balanced, "inspect/total");
-    let found = builder.inspect(4, 2, &OWN_NUMBERS, &frame[..8]);
+    let found = builder.inspect(INPUT_SIDE, 4, 2, &OWN_NUMBERS, &frame[..8]);
     assert_eq!(found, Inspection::Clean);
 }
 
@@ -713,7 +723,8 @@ fn counts_out_of_the_air() {
 fn counts_of_other_entries() {
     let (list, frame) = ([1, 1, 1, 1], [1, 1, 9, 0]);
     let cells = |builder: &Broken, class| {
-        let count = builder.service_count(2, 2, &list, &frame, class, (1, 2));
+        let question = (class, (1, 2));
+        let count = builder.service_count(INPUT_SIDE, 2, 2, &list, &frame, question);
         count.map(|count| count.cells)
     };
     let (flow, other) = (Class::Flow { number: 1 }, Class::Flow { number: 2 });
@@ -856,6 +867,169 @@ fn depth_with_limits() {
     assert!(answer(&Broken::default()).is_ok());
     let builder = sent_back!(depth: limits_of_a_quarter, "depth/");
     assert_eq!(answer(&builder).map(|_| ()), over(1, 3, 2));
+}
+
+/// Flow 1 goes from input 1 to output 2, flow 2 from input 2 to output 1, flow 3 from input 2 to output 2, flow 4 as flow 1.
+const TURNED: [u16; 16] = [1, 2, 1, 1, 2, 1, 1, 1, 2, 2, 1, 1, 1, 2, 0, 3];
+
+/// What a builder's Turn answers of one slot of two ports, and what it leaves in a buffer of two entries that are no flows, or in as
+/// many as are asked for.
+fn turned(builder: &Broken, side: u64, frame: [u16; 2], length: usize) -> (Answer, Vec<u16>) {
+    let mut second = vec![9; length];
+    let answer = builder.turn(side, 2, 1, &TURNED, &frame, &mut second);
+    (answer, second)
+}
+
+/// Both ports are used, one of them, or none; on the other side the same.
+#[test]
+fn turns_to_something_else() {
+    let right = Broken::default();
+    for (by_inputs, by_outputs) in [([1, 2], [2, 1]), ([0, 3], [0, 3]), ([0, 2], [2, 0])] {
+        let there = turned(&right, INPUT_SIDE, by_inputs, 2);
+        assert_eq!(there, (Ok(()), by_outputs.to_vec()));
+        let back = turned(&right, OUTPUT_SIDE, by_outputs, 2);
+        assert_eq!(back, (Ok(()), by_inputs.to_vec()));
+    }
+    let builder = sent_back!(turn: idle_places_left, "turn/built");
+    assert_eq!(turned(&builder, INPUT_SIDE, [0, 2], 2).1, [2, 9]);
+    let builder = sent_back!(turn: first_flow_of_the_pair, "turn/built");
+    assert_eq!(turned(&builder, INPUT_SIDE, [4, 2], 2).1, [2, 1]);
+    let builder = sent_back!(turn: copied_as_it_stood, "turn/built");
+    assert_eq!(turned(&builder, INPUT_SIDE, [1, 2], 2).1, [1, 2]);
+    let builder = sent_back!(turn: only_clean_turned, "turn/legal");
+    let refused = (Err(Refusal::Entries), vec![9, 9]);
+    assert_eq!(turned(&builder, INPUT_SIDE, [1, 2], 2), refused);
+    sent_back!(turn: only_clean_turned, "turn/damaged");
+}
+
+#[test]
+fn turns_of_the_other_side() {
+    let builder = sent_back!(turn: turn_of_other_side, "turn/built");
+    let refused = (Err(Refusal::Entries), vec![9, 9]);
+    assert_eq!(turned(&builder, INPUT_SIDE, [1, 2], 2), refused);
+    assert_eq!(turned(&builder, OUTPUT_SIDE, [2, 1], 2), refused);
+}
+
+/// An entry at the place of another port, one above the list, and an output that both inputs send to.
+#[test]
+fn turns_that_do_not_look_at_the_entries() {
+    let right = Broken::default();
+    let refused = (Err(Refusal::Entries), vec![9, 9]);
+    for frame in [[2, 0], [5, 0], [1, 3]] {
+        assert_eq!(turned(&right, INPUT_SIDE, frame, 2), refused);
+    }
+    let builder = sent_back!(turn: other_places_let_through, "turn/any-entries", 60);
+    sent_back!(turn: other_places_let_through, "turn/damaged", 60);
+    assert_eq!(turned(&builder, INPUT_SIDE, [2, 0], 2).1, [2, 0]);
+    assert_eq!(turned(&builder, INPUT_SIDE, [1, 3], 2), refused);
+    let builder = sent_back!(turn: above_turned_to_idle, "turn/damaged");
+    assert_eq!(turned(&builder, INPUT_SIDE, [5, 0], 2).1, [0, 0]);
+    let builder = sent_back!(turn: later_entry_wins, "turn/damaged", 60);
+    assert_eq!(turned(&builder, INPUT_SIDE, [1, 3], 2).1, [0, 3]);
+    assert_eq!(turned(&builder, INPUT_SIDE, [2, 0], 2), refused);
+}
+
+/// The first slot is right and the second is not.
+#[test]
+fn refused_turns_that_have_written() {
+    let after = |builder: &Broken| {
+        let mut second = [9; 4];
+        let answer = builder.turn(INPUT_SIDE, 2, 2, &TURNED, &[1, 2, 1, 3], &mut second);
+        assert_eq!(answer, Err(Refusal::Entries));
+        second
+    };
+    assert_eq!(after(&Broken::default()), [9; 4]);
+    let builder = sent_back!(turn: turned_up_to_the_fault, "turn/damaged");
+    assert_eq!(after(&builder), [2, 1, 9, 9]);
+    let builder = sent_back!(turn: second_cleared, "turn/damaged");
+    assert_eq!(after(&builder), [0; 4]);
+}
+
+/// A second buffer of one entry or of three, for a frame that does not turn or that is too long itself.
+#[test]
+fn second_buffers_of_other_lengths() {
+    let right = Broken::default();
+    let number = |answer: (Answer, Vec<u16>)| answer.0.map_err(Refusal::number);
+    assert_eq!(number(turned(&right, INPUT_SIDE, [1, 3], 1)), Err(15));
+    let builder = sent_back!(turn: entries_before_length, "turn/other-length");
+    assert_eq!(number(turned(&builder, INPUT_SIDE, [1, 3], 1)), Err(14));
+    let builder = sent_back!(turn: longer_second, "turn/other-length");
+    assert_eq!(turned(&builder, INPUT_SIDE, [1, 2], 3).1, [2, 1, 9]);
+    assert_eq!(number(turned(&builder, INPUT_SIDE, [1, 2], 1)), Err(15));
+    let builder = sent_back!(turn: second_before_first, "turn/", 400);
+    let lengths = |builder: &Broken| {
+        let answer = builder.turn(INPUT_SIDE, 2, 2, &TURNED, &[1, 2], &mut [9; 4]);
+        answer.map_err(Refusal::number)
+    };
+    assert_eq!(lengths(&right), Err(4));
+    assert_eq!(lengths(&builder), Err(15));
+}
+
+/// Flow 1 in a slot by outputs, at the place of output 2.
+#[test]
+fn inspectors_of_the_other_side() {
+    let list = &TURNED[..4];
+    let found = |builder: &Broken| builder.inspect(OUTPUT_SIDE, 2, 1, list, &[0, 1]);
+    assert_eq!(found(&Broken::default()), Inspection::Clean);
+    let wrong = Inspection::WrongEntry { slot: 1, port: 2 };
+    let builder = sent_back!(inspect: inspect_of_other_side, "inspect-by-outputs/");
+    sent_back!(inspect: inspect_of_other_side, "inspect/");
+    sent_back!(inspect: inspect_of_other_side, "turn/built");
+    assert_eq!(found(&builder), wrong);
+    let builder = sent_back!(inspect: inspect_by_inputs, "inspect-by-outputs/whole");
+    sent_back!(inspect: inspect_by_inputs, "turn/built");
+    assert_eq!(failures(&builder, "inspect/"), 0);
+    assert_eq!(found(&builder), wrong);
+}
+
+/// The faults of frames by outputs; flows 2 and 3, of input 2, are both sent.
+#[test]
+fn inspectors_that_do_not_look_at_outputs() {
+    let found = |builder: &Broken| builder.inspect(OUTPUT_SIDE, 2, 1, &TURNED, &[2, 3]);
+    let twice = |port| Inspection::PortTwice { slot: 1, port };
+    assert_eq!(found(&Broken::default()), twice(2));
+    let kinds = "inspect-by-outputs/output-doubled";
+    let builder = sent_back!(inspect: port_twice_by_place, kinds, 60);
+    assert_eq!(found(&builder), twice(2), "the second entry stands there");
+    let list = [1, 1, 1, 1, 1, 2, 1, 1, 2, 3, 1, 1];
+    let other = builder.inspect(OUTPUT_SIDE, 3, 1, &list, &[1, 2, 3]);
+    assert_eq!(other, twice(2), "output 2 in the place of input 1");
+    sent_back!(inspect: always_clean, "inspect-by-outputs/");
+    sent_back!(inspect: legal_is_clean, "inspect-by-outputs/total");
+    sent_back!(inspect: other_inputs_let_through, "inspect-by-outputs/");
+    sent_back!(inspect: above_is_idle, "inspect-by-outputs/");
+    sent_back!(inspect: no_flows, "inspect-by-outputs/flow");
+    sent_back!(inspect: no_inputs, "inspect-by-outputs/input");
+    sent_back!(inspect: no_outputs, "inspect-by-outputs/output");
+    sent_back!(inspect: no_links, "inspect-by-outputs/link");
+    sent_back!(inspect: no_total, "inspect-by-outputs/total");
+}
+
+/// By outputs, flow 1 stands at output 1, and an entry that is no flow at output 2.
+#[test]
+fn counts_of_the_other_side() {
+    let cells = |builder: &Broken, class| {
+        let question = (class, (1, 1));
+        let count = builder.service_count(OUTPUT_SIDE, 2, 1, &TURNED, &[1, 9], question);
+        count.map(|count| count.cells)
+    };
+    let port = |port| [Class::Input { port }, Class::Output { port }];
+    let [[input_1, output_1], [input_2, output_2]] = [port(1), port(2)];
+    let all = [input_1, output_1, input_2, output_2];
+    let counted = |builder: &Broken| all.map(|class| cells(builder, class));
+    assert_eq!(counted(&Broken::default()), [1, 1, 0, 1].map(Ok));
+    let builder = sent_back!(service_count: count_of_other_side, "count-by-outputs/", 60);
+    sent_back!(service_count: count_of_other_side, "count/", 60);
+    assert_eq!(counted(&builder), [1, 0, 1, 1].map(Ok));
+    let builder = sent_back!(service_count: input_by_place, "count-by-outputs/", 60);
+    assert_eq!(counted(&builder), [1, 1, 1, 1].map(Ok));
+    let builder = sent_back!(service_count: output_by_flows, "count-by-outputs/", 60);
+    assert_eq!(counted(&builder), [1, 0, 0, 1].map(Ok));
+    let builder = sent_back!(service_count: flows_of_input_only, "count-by-outputs/", 60);
+    assert_eq!(counted(&builder), [1, 1, 0, 0].map(Ok));
+    sent_back!(service_count: flow_by_place, "count-by-outputs/", 60);
+    sent_back!(service_count: lead_turned_round, "count-by-outputs/");
+    sent_back!(service_count: load_of_the_list, "count-by-outputs/");
 }
 
 #[test]

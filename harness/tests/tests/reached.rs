@@ -1,6 +1,6 @@
 //! The bound of each load is reached, and with it the sharp bound of every k from 1 to 10, on frames that the proved Build made.
 
-use calls::{Calls, Class, InC, Library};
+use calls::{Calls, Class, InC, Library, INPUT_SIDE};
 use loads::{load_alone, load_beside, Seam, SEAMS};
 use reference::queue::{ahead_behind_a_switch, pass, pass_row, Source, Switch};
 use reference::slots_each;
@@ -141,8 +141,8 @@ fn the_same_by_service_count() {
         let slots = seam.slots;
         let (turn, back) = (seam.turn as u64, slots - seam.turn as u64);
         let count = |frame: Frame, start, length| {
-            let (list, entries, run) = (&frame.list, &frame.entries, (start, length));
-            Library::default().service_count(2, slots, list, entries, FLOW, run)
+            let (list, entries, question) = (&frame.list, &frame.entries, (FLOW, (start, length)));
+            Library::default().service_count(INPUT_SIDE, 2, slots, list, entries, question)
         };
         let first = count(alone(seam), turn + 1, back).unwrap();
         let second = count(beside(seam), 1, back).unwrap();

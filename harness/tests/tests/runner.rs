@@ -43,5 +43,11 @@ fn a_whole_run_must_come_upon_everything() {
     let report = run(&Broken::default(), &settings("", 0, 1));
     assert!(report.failures.is_empty());
     assert!(report.failed() > 0);
-    assert!(report.never_hit.contains(&"count refusal 13".to_string()));
+    for name in [
+        "count refusal 13",
+        "inspect by outputs unbalanced block of 1024",
+        "turn by outputs refusal 21",
+    ] {
+        assert!(report.never_hit.contains(&name.to_string()), "{name}");
+    }
 }

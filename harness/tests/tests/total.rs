@@ -1,9 +1,9 @@
-//! Blocks of every size that are unbalanced in one class alone, or in their total alone, and the spread of all cells, through C and
-//! through Rust.
+//! Blocks of every size that are unbalanced in one class alone, or in their total alone, on either side, and the spread of all cells,
+//! through C and through Rust.
 
-use calls::{Calls, InC, Inspection, Library, Reference};
+use calls::{Calls, InC, Inspection, Library, Reference, INPUT_SIDE, OUTPUT_SIDE};
 use loads::{load_of_shape, unbalance_total, uneven, Block, Call, LoadKind, Random, Shape, Uneven};
-use tests::broken;
+use tests::broken::{self, AskedFrame, InspectCall};
 
 /// The frame that a builder makes of a load that fits.
 fn built(calls: &dyn Calls, call: &Call) -> Vec<u16> {
@@ -21,6 +21,29 @@ fn blocks(size: usize, slots: usize, random: &mut Random) -> Vec<Block> {
     [ends.as_slice(), &others].concat()
 }
 
+/// Has a frame inspected by inputs and, turned by the same builder, by outputs; what is found on both sides.
+fn found_on_both(calls: &dyn Calls, call: &Call, frame: &[u16]) -> Inspection {
+    let (ports, slots, list) = (call.ports, call.slots, &call.list);
+    let found = calls.inspect(INPUT_SIDE, ports, slots, list, frame);
+    let mut turned = vec![0xa5a5; frame.len()];
+    let answer = calls.turn(INPUT_SIDE, ports, slots, list, frame, &mut turned);
+    answer.expect("no entry is wrong, and no output used twice");
+    let by_outputs = calls.inspect(OUTPUT_SIDE, ports, slots, list, &turned);
+    assert_eq!(by_outputs, found, "by outputs");
+    found
+}
+
+/// What a broken inspector finds by inputs.
+fn found_by(inspect: InspectCall, call: &Call, frame: &[u16]) -> Inspection {
+    inspect(AskedFrame {
+        side: INPUT_SIDE,
+        ports: call.ports,
+        slots: call.slots,
+        list: &call.list,
+        frame,
+    })
+}
+
 /// Has frames inspected that the builder itself made, and of which the total of one block was unbalanced.
 fn finds_the_block(calls: &dyn Calls) {
     let mut random = Random::new(2_028);
@@ -31,9 +54,9 @@ fn finds_the_block(calls: &dyn Calls) {
                 let shape = Shape { ports, slots };
                 let own = |call: &Call| built(calls, call);
                 let (call, frame) = unbalance_total(shape, block, own, &mut random);
-                let found = calls.inspect(call.ports, call.slots, &call.list, &frame);
+                let found = found_on_both(calls, &call, &frame);
                 assert_eq!(found, unbalanced(block), "{shape:?}");
-                let found = broken::no_total(call.ports, call.slots, &call.list, &frame);
+                let found = found_by(broken::no_total, &call, &frame);
                 assert_eq!(found, Inspection::Clean, "nothing else is wrong");
             }
         }
@@ -51,10 +74,7 @@ fn unbalanced(block: Block) -> Inspection {
 fn finds_the_class(calls: &dyn Calls) {
     let mut random = Random::new(2_029);
     let without = [
-        (
-            Uneven::Flow,
-            broken::no_flows as fn(u64, u64, &[u16], &[u16]) -> Inspection,
-        ),
+        (Uneven::Flow, broken::no_flows as InspectCall),
         (Uneven::Input, broken::no_inputs),
         (Uneven::Output, broken::no_outputs),
         (Uneven::Link, broken::no_links),
@@ -68,18 +88,15 @@ fn finds_the_class(calls: &dyn Calls) {
                     slots: 1_024,
                 };
                 let (call, frame) = uneven(by, shape, block, &mut random);
-                let Call {
-                    ports, slots, list, ..
-                } = &call;
-                let found = calls.inspect(*ports, *slots, list, &frame);
+                let found = found_on_both(calls, &call, &frame);
                 assert_eq!(found, unbalanced(block), "{by:?} {shape:?}");
-                let found = without(*ports, *slots, list, &frame);
+                let found = found_by(without, &call, &frame);
                 assert_ne!(
                     found,
                     unbalanced(block),
                     "nothing else is wrong in the block"
                 );
-                let found = broken::right_halves(*ports, *slots, list, &frame);
+                let found = found_by(broken::right_halves, &call, &frame);
                 assert_eq!(found, unbalanced(block));
             }
         }

@@ -1,9 +1,9 @@
 //! Counts and leads of something else.
 
-use calls::{Class, Count, Refusal, Service};
+use calls::{Class, Count, Refusal, Service, Side};
 use loads::{flows_of, FLOW_NUMBERS};
 
-use crate::broken::{cut, AskedCount};
+use crate::broken::{cut, port_of, AskedCount};
 
 /// Counts a run's share of the frame instead of its entries.
 pub fn share_for_count(asked: AskedCount) -> Service {
@@ -29,7 +29,7 @@ fn count_kept(asked: AskedCount, is_kept: impl Fn(usize, u16) -> bool) -> Servic
     AskedCount { frame, ..asked }.count()
 }
 
-/// Counts for an output the entries that stand at their flow's own input only.
+/// Counts for an output the entries that stand at their flow's own port only.
 pub fn output_by_place(asked: AskedCount) -> Service {
     match asked.class {
         Class::Output { .. } => by_place(asked),
@@ -37,7 +37,7 @@ pub fn output_by_place(asked: AskedCount) -> Service {
     }
 }
 
-/// Counts for a flow the entries that stand at its own input only.
+/// Counts for a flow the entries that stand at its own port only.
 pub fn flow_by_place(asked: AskedCount) -> Service {
     match asked.class {
         Class::Flow { .. } => by_place(asked),
@@ -45,17 +45,18 @@ pub fn flow_by_place(asked: AskedCount) -> Service {
     }
 }
 
-/// Counts the entries that stand at their flow's own input.
+/// Counts the entries that stand at their flow's own port.
 fn by_place(asked: AskedCount) -> Service {
     asked.count()?;
     let flows = flows_of(asked.list);
     count_kept(asked, |place, entry| {
         let flow = flows.get(usize::from(entry).wrapping_sub(1));
-        flow.is_some_and(|flow| flow.input == place % asked.ports as usize)
+        let side = Side::told(asked.side);
+        flow.is_some_and(|flow| port_of(side, flow) == place % asked.ports as usize)
     })
 }
 
-/// Leaves entries that are no flow out of an input's count.
+/// Leaves entries that are no flow out of a port's count.
 pub fn flows_of_input_only(asked: AskedCount) -> Service {
     let flows = asked.list.len() / FLOW_NUMBERS;
     count_kept(asked, |_, entry| usize::from(entry) <= flows)
@@ -111,6 +112,36 @@ fn with_lead(asked: AskedCount, lead: impl Fn(Count) -> i64) -> Service {
 /// The lead of so many cells where the frame has this load.
 fn lead_of(asked: AskedCount, cells: u64, load: u64) -> i64 {
     (asked.slots * cells) as i64 - (asked.length * load) as i64
+}
+
+/// Takes either side for the other.
+pub fn count_of_other_side(asked: AskedCount) -> Service {
+    let side = Side::told(asked.side).other().number();
+    AskedCount { side, ..asked }.count()
+}
+
+/// Takes only 1 for the output side.
+pub fn count_by_1_alone(asked: AskedCount) -> Service {
+    let side = u64::from(asked.side == 1);
+    AskedCount { side, ..asked }.count()
+}
+
+/// Counts for an input what stands at its place, on the output side too.
+pub fn input_by_place(asked: AskedCount) -> Service {
+    let side = match asked.class {
+        Class::Input { .. } => Side::Input.number(),
+        _ => asked.side,
+    };
+    AskedCount { side, ..asked }.count()
+}
+
+/// Counts for an output the flows to it wherever they stand, on the output side too.
+pub fn output_by_flows(asked: AskedCount) -> Service {
+    let side = match asked.class {
+        Class::Output { .. } => Side::Input.number(),
+        _ => asked.side,
+    };
+    AskedCount { side, ..asked }.count()
 }
 
 /// Counts nothing in a run of 2^32 slots.

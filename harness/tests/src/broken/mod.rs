@@ -7,6 +7,7 @@ mod depths;
 mod inspections;
 mod sheets;
 mod splits;
+mod turns;
 mod views;
 
 pub use admissions::*;
@@ -16,9 +17,12 @@ pub use depths::*;
 pub use inspections::*;
 pub use sheets::*;
 pub use splits::*;
+pub use turns::*;
 pub use views::*;
 
-use calls::{Answer, Bounded, Built, Calls, Class, Inspection, Limits, Service, SheetProgram};
+use calls::{Answer, Bounded, Built, Calls, Class, Inspection, Limits, Question, Refusal};
+use calls::{Service, SheetProgram, Side};
+use loads::Flow;
 
 /// What Admit and Build are asked for.
 #[derive(Clone, Copy)]
@@ -41,9 +45,54 @@ impl Asked<'_> {
     }
 }
 
+/// A frame that Inspect is to look over or Turn to turn.
+#[derive(Clone, Copy)]
+pub struct AskedFrame<'a> {
+    pub side: u64,
+    pub ports: u64,
+    pub slots: u64,
+    pub list: &'a [u16],
+    pub frame: &'a [u16],
+}
+
+impl AskedFrame<'_> {
+    /// What the reference finds.
+    fn inspect(self) -> Inspection {
+        let AskedFrame {
+            side,
+            ports,
+            slots,
+            list,
+            frame,
+        } = self;
+        reference::inspect(Side::told(side), ports, slots, list, frame)
+    }
+
+    /// What the reference's Turn does.
+    fn turn(self, second: &mut [u16]) -> Answer {
+        let AskedFrame {
+            side,
+            ports,
+            slots,
+            list,
+            frame,
+        } = self;
+        reference::turn(Side::told(side), ports, slots, list, frame, second)
+    }
+
+    /// The first refusal that Turn has before it looks at the second buffer.
+    fn refusal(self) -> Option<Refusal> {
+        match self.inspect() {
+            Inspection::Refused(refusal) => Some(refusal),
+            _ => None,
+        }
+    }
+}
+
 /// What Service count is asked for.
 #[derive(Clone, Copy)]
 pub struct AskedCount<'a> {
+    pub side: u64,
     pub ports: u64,
     pub slots: u64,
     pub list: &'a [u16],
@@ -62,10 +111,10 @@ impl AskedCount<'_> {
             list,
             frame,
             class,
-            start,
-            length,
+            ..
         } = self;
-        reference::service_count(ports, slots, list, frame, class, start, length)
+        let (side, run) = (Side::told(self.side), (self.start, self.length));
+        reference::service_count(side, ports, slots, list, frame, class, run)
     }
 }
 
@@ -87,7 +136,8 @@ impl AskedDepth<'_> {
 
 type AdmitCall = fn(Asked) -> Answer;
 pub type BuildCall = fn(Asked, &mut [u16]) -> Built;
-type InspectCall = fn(u64, u64, &[u16], &[u16]) -> Inspection;
+pub type InspectCall = fn(AskedFrame) -> Inspection;
+type TurnCall = fn(AskedFrame, &mut [u16]) -> Answer;
 type ViewCall = for<'f> fn(u64, u64, &'f [u16], u64, &mut u64) -> &'f [u16];
 type CountCall = fn(AskedCount) -> Service;
 type DepthCall = fn(AskedDepth) -> Bounded;
@@ -97,6 +147,7 @@ pub struct Broken {
     pub admit: AdmitCall,
     pub build: BuildCall,
     pub inspect: InspectCall,
+    pub turn: TurnCall,
     pub slot_view: ViewCall,
     pub service_count: CountCall,
     pub depth: DepthCall,
@@ -109,7 +160,8 @@ impl Default for Broken {
         Broken {
             admit: |asked| asked.admit(),
             build: right_build,
-            inspect: reference::inspect,
+            inspect: |asked| asked.inspect(),
+            turn: |asked, second| asked.turn(second),
             slot_view: right_view,
             service_count: |asked| asked.count(),
             depth: |asked| asked.depth(),
@@ -145,8 +197,40 @@ impl Calls for Broken {
         (self.build)(asked, frame)
     }
 
-    fn inspect(&self, ports: u64, slots: u64, list: &[u16], frame: &[u16]) -> Inspection {
-        (self.inspect)(ports, slots, list, frame)
+    fn inspect(
+        &self,
+        side: u64,
+        ports: u64,
+        slots: u64,
+        list: &[u16],
+        frame: &[u16],
+    ) -> Inspection {
+        (self.inspect)(AskedFrame {
+            side,
+            ports,
+            slots,
+            list,
+            frame,
+        })
+    }
+
+    fn turn(
+        &self,
+        side: u64,
+        ports: u64,
+        slots: u64,
+        list: &[u16],
+        frame: &[u16],
+        second: &mut [u16],
+    ) -> Answer {
+        let asked = AskedFrame {
+            side,
+            ports,
+            slots,
+            list,
+            frame,
+        };
+        (self.turn)(asked, second)
     }
 
     fn slot_view<'f>(
@@ -162,14 +246,15 @@ impl Calls for Broken {
 
     fn service_count(
         &self,
+        side: u64,
         ports: u64,
         slots: u64,
         list: &[u16],
         frame: &[u16],
-        class: Class,
-        (start, length): (u64, u64),
+        (class, (start, length)): Question,
     ) -> Service {
         (self.service_count)(AskedCount {
+            side,
             ports,
             slots,
             list,
@@ -193,6 +278,14 @@ impl Calls for Broken {
 impl SheetProgram for Broken {
     fn respond(&self, sheet: &[u8]) -> Vec<u8> {
         (self.respond)(sheet)
+    }
+}
+
+/// The port of a side that a flow uses, counted from 0.
+fn port_of(side: Side, flow: &Flow) -> usize {
+    match side {
+        Side::Input => flow.input,
+        Side::Output => flow.output,
     }
 }
 

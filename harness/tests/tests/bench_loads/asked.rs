@@ -1,6 +1,6 @@
 //! Calls with all that they are given, which any builder can be asked; an answer is its numbers.
 
-use calls::{Calls, Class, Inspection, Limits, Refusal};
+use calls::{Calls, Class, Inspection, Limits, Question, Refusal, Side, INPUT_SIDE};
 use reference::slots_each;
 
 /// What no entry of these frames is, so that an entry which is not written shows.
@@ -39,7 +39,10 @@ pub fn built(calls: &dyn Calls, ports: u64, slots: u64, list: &[u16]) -> Result<
     let answer = answer.map(|_| ());
     assert_eq!(calls.admit(ports, slots, list, &limits), answer);
     match answer {
-        Ok(()) => assert_eq!(calls.inspect(ports, slots, list, &frame), Inspection::Clean),
+        Ok(()) => {
+            let found = calls.inspect(INPUT_SIDE, ports, slots, list, &frame);
+            assert_eq!(found, Inspection::Clean);
+        }
         Err(_) => assert!(frame.iter().all(|&entry| entry == UNWRITTEN)),
     }
     answer.map(|()| frame)
@@ -65,7 +68,70 @@ pub fn view(ports: u64, slots: u64, frame: &[u16], slot: u64) -> Asked {
     })
 }
 
-/// Service count; the values are the cells and their lead.
+/// Inspect; the number of the fault comes first, then its values.
+pub fn inspect(side: u64, ports: u64, slots: u64, list: &[u16], frame: &[u16]) -> Asked {
+    let (list, frame) = (list.to_vec(), frame.to_vec());
+    Box::new(move |calls| {
+        let numbers = match calls.inspect(side, ports, slots, &list, &frame) {
+            Inspection::Clean => vec![0],
+            Inspection::WrongEntry { slot, port } => vec![101, slot, port],
+            Inspection::PortTwice { slot, port } => vec![102, slot, port],
+            Inspection::FlowCount { flow } => vec![103, flow],
+            Inspection::UnbalancedBlock { slot, size } => vec![104, slot, size],
+            Inspection::Refused(refusal) => return refused(refusal),
+        };
+        numbers.into_iter().map(|number| number as i64).collect()
+    })
+}
+
+/// Turn into a second buffer of so many entries; the values are what it then has. A refused one must be as it was, and what turns must
+/// turn back to the same entries.
+pub fn turn_into(
+    length: usize,
+    side: u64,
+    ports: u64,
+    slots: u64,
+    list: &[u16],
+    frame: &[u16],
+) -> Asked {
+    let (list, frame) = (list.to_vec(), frame.to_vec());
+    Box::new(move |calls| {
+        let mut second = vec![UNWRITTEN; length];
+        let answer = calls.turn(side, ports, slots, &list, &frame, &mut second);
+        let Err(refusal) = answer else {
+            let other = Side::told(side).other().number();
+            let mut back = vec![UNWRITTEN; length];
+            let answer = calls.turn(other, ports, slots, &list, &second, &mut back);
+            assert_eq!((answer, &back), (Ok(()), &frame), "turned back");
+            return accepted(second.into_iter().map(i64::from));
+        };
+        assert!(second.iter().all(|&entry| entry == UNWRITTEN));
+        refused(refusal)
+    })
+}
+
+/// Turn into a second buffer of the frame's length.
+pub fn turn(side: u64, ports: u64, slots: u64, list: &[u16], frame: &[u16]) -> Asked {
+    turn_into(frame.len(), side, ports, slots, list, frame)
+}
+
+/// Service count in a frame of this side; the values are the cells and their lead.
+pub fn count_on(
+    side: u64,
+    ports: u64,
+    slots: u64,
+    list: &[u16],
+    frame: &[u16],
+    question: Question,
+) -> Asked {
+    let (list, frame) = (list.to_vec(), frame.to_vec());
+    Box::new(move |calls| {
+        let answer = calls.service_count(side, ports, slots, &list, &frame, question);
+        answer.map_or_else(refused, |count| accepted([count.cells as i64, count.lead]))
+    })
+}
+
+/// The same in one of the input side.
 pub fn count(
     ports: u64,
     slots: u64,
@@ -75,11 +141,8 @@ pub fn count(
     start: u64,
     length: u64,
 ) -> Asked {
-    let (list, frame) = (list.to_vec(), frame.to_vec());
-    Box::new(move |calls| {
-        let answer = calls.service_count(ports, slots, &list, &frame, class, (start, length));
-        answer.map_or_else(refused, |count| accepted([count.cells as i64, count.lead]))
-    })
+    let question = (class, (start, length));
+    count_on(INPUT_SIDE, ports, slots, list, frame, question)
 }
 
 /// Depth; the values are the bound in parts and the cells to order.

@@ -6,6 +6,9 @@ pub const TABLE_7: [u16; 20] = [1, 1, 2, 1, 1, 2, 2, 1, 4, 1, 1, 1, 4, 2, 1, 1, 
 /// Their frame.
 pub const TABLE_7_FRAME: [u16; 16] = [1, 0, 0, 5, 2, 0, 0, 3, 1, 0, 0, 4, 2, 0, 0, 5];
 
+/// The same frame by outputs, by hand: flows 1 and 3 go to output 1, flows 2 and 4 to output 2, flow 5 to output 4.
+pub const TABLE_7_BY_OUTPUTS: [u16; 16] = [1, 0, 0, 5, 3, 2, 0, 0, 1, 4, 0, 0, 0, 2, 0, 5];
+
 /// The lists of the two frames of document 01's seam, in both of which flow 2 is from input 1 to output 2.
 pub const SEAM: [[u16; 8]; 2] = [[1, 1, 0, 1, 1, 2, 1, 1], [1, 1, 1, 1, 1, 2, 1, 1]];
 

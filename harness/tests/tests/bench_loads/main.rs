@@ -16,11 +16,15 @@ mod admits;
 mod asked;
 mod builds;
 mod counts;
+mod counts_by_outputs;
 mod depths;
+mod faults_by_outputs;
 mod links;
 mod lists;
 mod refused_counts;
 mod refused_depths;
+mod refused_turns;
+mod turns;
 mod views;
 mod wire;
 
