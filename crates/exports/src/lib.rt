@@ -9,6 +9,8 @@ ghost use Rattle.calls.specs.Depth.{depth};
 ghost use Rattle.sides.specs.Turn.{turnNumber, secondAfter};
 ghost use Rattle.numbers.specs.Numbers.{Values2, Values3, Replied};
 ghost use Rattle.numbers.specs.Sides.{sideNumbered};
+use answers::bound;
+use answers::count;
 use calls::Who;
 use numbers::side_of;
 
@@ -92,28 +94,6 @@ pub extern "C" fn frame_builder_turn(
     n.number
 }
 
-// Service count in a frame of a side; the cells and the lead are 0 where it is refused.
-fn count(
-    side: usize,
-    ports: usize,
-    slots: usize,
-    list: &[u16],
-    frame: &[u16],
-    who: Who,
-    start: usize,
-    len: usize,
-    cells: &mut usize,
-    lead: &mut i64,
-) -> usize
-    ensures { λ r. ⌜ Replied (service (sideNumbered side) ports slots (now (list .entry)) (now (frame .entry)) who start len) r (now (cells .exit)) (now (lead .exit)) ⌝ }
-{
-    let n = numbers::of_service(service::service_count(side_of(side), ports, slots, list, frame, who, start, len));
-    *cells = n.cells;
-    let signed = n.lead;
-    *lead = signed;
-    n.number
-}
-
 // Service count for a flow.
 #[no_mangle]
 pub extern "C" fn frame_builder_count_flow(
@@ -130,8 +110,8 @@ pub extern "C" fn frame_builder_count_flow(
 ) -> usize
     ensures { λ r. ⌜ Replied (service (sideNumbered side) ports slots (now (list .entry)) (now (frame .entry)) (Who.Flow flow) start len) r (now (cells .exit)) (now (lead .exit)) ⌝ }
 {
-    let who = Who::Flow(flow);
-    count(side, ports, slots, list, frame, who, start, len, cells, lead)
+    let of = Who::Flow(flow);
+    count(side, ports, slots, list, frame, of, start, len, cells, lead)
 }
 
 // Service count for an input.
@@ -150,8 +130,8 @@ pub extern "C" fn frame_builder_count_input(
 ) -> usize
     ensures { λ r. ⌜ Replied (service (sideNumbered side) ports slots (now (list .entry)) (now (frame .entry)) (Who.Input input) start len) r (now (cells .exit)) (now (lead .exit)) ⌝ }
 {
-    let from = Who::Input(input);
-    count(side, ports, slots, list, frame, from, start, len, cells, lead)
+    let by = Who::Input(input);
+    count(side, ports, slots, list, frame, by, start, len, cells, lead)
 }
 
 // Service count for an output.
@@ -192,23 +172,6 @@ pub extern "C" fn frame_builder_slot_view(
     *start = part.start;
     *size = part.size;
     part.number
-}
-
-// Depth: the bound and the cells to order; refusals 5 and 6 have the port and its load in their place.
-fn bound(
-    ports: usize,
-    slots: usize,
-    list: &[u16],
-    who: Who,
-    first: &mut usize,
-    second: &mut usize,
-) -> usize
-    ensures { λ r. ⌜ Values2 (depth ports slots (now (list .entry)) who) r (now (first .exit)) (now (second .exit)) ⌝ }
-{
-    let n = numbers::of_depth(depth::depth_of(ports, slots, list, who));
-    *first = n.first;
-    *second = n.second;
-    n.number
 }
 
 // Depth for a flow.

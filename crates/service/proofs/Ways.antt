@@ -8,7 +8,7 @@ use native.Mathlib.Omega.{arith}
 use lib.Dec.{eqb}
 use borrow.Author.Tests.{eq-eqb, ne-eqb}
 use Rattle.rules.specs.Words.{both, bit}
-use Rattle.rules.specs.Flows.{flows, numberOf, same, flow, portOn, input}
+use Rattle.rules.specs.Flows.{flows, numberOf, same, flow, portOn, input, output}
 use Rattle.rules.specs.Frames.{isFlowOf, countsOn}
 use Rattle.calls.specs.Sides.{sideOf}
 use Rattle.calls.specs.Service.{classOf, whoWithin}
@@ -21,9 +21,9 @@ use Rattle.rules.proofs.Flows.{same-side, no-flow, flow-counts}
 use Rattle.checks.specs.Fits.{ListFits, WhoFits}
 use Rattle.checks.specs.Places.{placeOn}
 use Rattle.checks.proofs.Fits.{fits-sixteen, side-number, side-is}
-use Rattle.service.specs.Ways.{whoNumber, portWay, wayOf, firstEntry, nextEntry, wayCounts, WayWithin, WayFits}
+use Rattle.service.specs.Ways.{whoNumber, flowsOf, portWay, wayOf, firstEntry, nextEntry, wayCounts, WayWithin, WayFits}
 use Rattle.service.specs.declared.Way.{Way}
-use Rattle.service.specs.declared.Way.the-variants.{Number, Place, FlowOf}
+use Rattle.service.specs.declared.Way.the-variants.{Number, Place, InputOf, OutputOf}
 
 -- ---- what is known where 12 does not hold
 named-low : (ports : ℕ) (list : List ℕ) (who : Who) → whoWithin ports list who ≡ true → 1 ≤ whoNumber who
@@ -32,7 +32,8 @@ named-low ports list (Input i) e = within-true 1 ports i e .0
 named-low ports list (Output o) e = within-true 1 ports o e .0
 
 port-within : (list : List ℕ) (s of : Side) (x : ℕ) → 1 ≤ x → WayWithin list (portWay s of x)
-port-within list s of x low = byBool (same (sideOf s) (sideOf of)) (λ e. rw e tt) (λ e. rw e low)
+port-within list s side.Input x low = byBool (same (sideOf s) input) (λ e. rw e tt) (λ e. rw e low)
+port-within list s side.Output x low = byBool (same (sideOf s) output) (λ e. rw e tt) (λ e. rw e low)
 
 way-within : (ports : ℕ) (list : List ℕ) (s : Side) (who : Who) → whoWithin ports list who ≡ true → WayWithin list (wayOf s who)
 way-within ports list s (Flow f) e = within-true 1 (flows list) f e
@@ -64,8 +65,14 @@ module _ (s of : Side) (x : ℕ) {a b : ℕ} (p : a ≡ placeOn (sideOf s)) (q :
   pub own-way : a ≡ b → Place (x - 1) ≡ portWay s of x
   own-way e = rw (sym (same-place s of) ∙ eq-eqb (placeOn (sideOf s)) (placeOn (sideOf of)) (sym p ∙ e ∙ q))
 
-  pub other-way : a ≢ b → FlowOf of x ≡ portWay s of x
+  other-way : a ≢ b → flowsOf of x ≡ portWay s of x
   other-way n = rw (sym (same-place s of) ∙ ne-eqb (placeOn (sideOf s)) (placeOn (sideOf of)) (λ e. n (p ∙ e ∙ sym q)))
+
+  pub input-flows : a ≢ b → of ≡ side.Input → InputOf x ≡ portWay s of x
+  input-flows n is = ap (λ (z : Side). flowsOf z x) (sym is) ∙ other-way n
+
+  pub output-flows : a ≢ b → of ≡ side.Output → OutputOf x ≡ portWay s of x
+  output-flows n is = ap (λ (z : Side). flowsOf z x) (sym is) ∙ other-way n
 
 module _ (s : Side) (who : Who) where
   pub flow-way : {f : ℕ} → who ≡ Flow f → Number f ≡ wayOf s who
@@ -81,8 +88,10 @@ module _ (s : Side) (who : Who) where
 -- the first is one of the first slot, and the next at most sixteen later
 port-placed : (ports : ℕ) (s of : Side) (x : ℕ) → 1 ≤ x → x ≤ ports → ports ≤ 16
     → (firstEntry (portWay s of x) < nextEntry ports (portWay s of x)) × (nextEntry ports (portWay s of x) ≤ 16)
-port-placed ports s of x low high few =
-    byBool (same (sideOf s) (sideOf of)) (λ e. rw e (omega arith, few)) (λ e. rw e (omega arith, omega arith))
+port-placed ports s side.Input x low high few =
+    byBool (same (sideOf s) input) (λ e. rw e (omega arith, few)) (λ e. rw e (omega arith, omega arith))
+port-placed ports s side.Output x low high few =
+    byBool (same (sideOf s) output) (λ e. rw e (omega arith, few)) (λ e. rw e (omega arith, omega arith))
 
 who-placed : (ports : ℕ) (list : List ℕ) (s : Side) (who : Who) → WhoFits ports list who
     → (firstEntry (wayOf s who) < nextEntry ports (wayOf s who)) × (nextEntry ports (wayOf s who) ≤ 16)
@@ -100,8 +109,10 @@ way-placed {ports} {list} s {who} n is = rw is (who-placed ports list s who n)
 port-is : (list : List ℕ) (ports q e : ℕ) (s of : Side) (x : ℕ)
     → countsOn (sideOf s) (portOn (sideOf of) (x - 1)) list (q % ports) e
     ≡ both (eqb (q % nextEntry ports (portWay s of x)) (firstEntry (portWay s of x))) (wayCounts (portWay s of x) list e)
-port-is list ports q e s of x =
-    byBool (same (sideOf s) (sideOf of)) (λ b. rw b) (λ b. rw (b, eq-eqb (q % 1) 0 (omega arith)))
+port-is list ports q e s side.Input x =
+    byBool (same (sideOf s) input) (λ b. rw b) (λ b. rw (b, eq-eqb (q % 1) 0 (omega arith)))
+port-is list ports q e s side.Output x =
+    byBool (same (sideOf s) output) (λ b. rw b) (λ b. rw (b, eq-eqb (q % 1) 0 (omega arith)))
 
 pub way-is : (list : List ℕ) (ports q e : ℕ) (s : Side) (who : Who)
     → countsOn (sideOf s) (classOf who) list (q % ports) e
@@ -113,7 +124,8 @@ way-is list ports q e s (Output o) = port-is list ports q e s side.Output o
 pub idle-passes : (list : List ℕ) (way : Way) → wayCounts way list 0 ≡ false
 idle-passes list (Number f) = refl
 idle-passes list (Place at) = refl
-idle-passes list (FlowOf s x) = refl
+idle-passes list (InputOf x) = refl
+idle-passes list (OutputOf x) = refl
 
 -- ---- an entry that is a flow of a port
 module _ (list : List ℕ) (s : Side) (x e : ℕ) where
@@ -140,8 +152,12 @@ module _ (list : List ℕ) (s : Side) (x e : ℕ) where
 back : (o : ℕ) → 1 ≤ o → o ≡ suc (o - 1)
 back o l = omega arith
 
-pub port-low : {list : List ℕ} {way : Way} → WayFits list way → {s : Side} {x : ℕ} → way ≡ FlowOf s x → 1 ≤ x
-port-low {list} n is = subst (WayWithin list) is (n .is-within)
+module _ {list : List ℕ} {way : Way} (n : WayFits list way) {x : ℕ} where
+  pub input-low : way ≡ InputOf x → 1 ≤ x
+  input-low is = subst (WayWithin list) is (n .is-within)
+
+  pub output-low : way ≡ OutputOf x → 1 ≤ x
+  output-low is = subst (WayWithin list) is (n .is-within)
 
 module _ {list : List ℕ} {way : Way} (n : WayFits list way) (e : ℕ) {r : ℕ} where
   pub number-counted : {f : ℕ} → way ≡ Number f → r ≡ bit (eqb e f) → r ≡ bit (wayCounts way list e)
@@ -152,5 +168,8 @@ module _ {list : List ℕ} {way : Way} (n : WayFits list way) (e : ℕ) {r : ℕ
   pub place-counted : {at : ℕ} → way ≡ Place at → r ≡ bit (not (eqb e 0)) → r ≡ bit (wayCounts way list e)
   place-counted is d = rw is d
 
-  pub port-counted : {s : Side} {x : ℕ} {b : Bool} → way ≡ FlowOf s x → b ≡ isFlowOf (portOn (sideOf s) (x - 1)) list e → r ≡ bit b → r ≡ bit (wayCounts way list e)
-  port-counted is q d = rw is (d ∙ ap bit q)
+  pub input-counted : {x : ℕ} {b : Bool} → way ≡ InputOf x → b ≡ isFlowOf (portOn input (x - 1)) list e → r ≡ bit b → r ≡ bit (wayCounts way list e)
+  input-counted is q d = rw is (d ∙ ap bit q)
+
+  pub output-counted : {x : ℕ} {b : Bool} → way ≡ OutputOf x → b ≡ isFlowOf (portOn output (x - 1)) list e → r ≡ bit b → r ≡ bit (wayCounts way list e)
+  output-counted is q d = rw is (d ∙ ap bit q)

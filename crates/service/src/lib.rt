@@ -44,11 +44,12 @@ fn one_if(counts: bool) -> usize
 }
 
 // How a count reads entries: those that are a number, wherever they stand; those at one place of each slot that are not 0; those that are
-// flows of a port of a side, wherever they stand.
+// flows of an input, or of an output, wherever they stand. The last two are apart so that each loop knows where the port stands.
 enum Way {
     Number(usize),
     Place(usize),
-    FlowOf(Side, usize),
+    InputOf(usize),
+    OutputOf(usize),
 }
 
 // How a count for a port reads a frame of a side.
@@ -59,7 +60,10 @@ fn port_way(side: Side, of: Side, port: usize) -> Way
     if place_of(side) == place_of(of) {
         return Way::Place(port - 1);
     }
-    Way::FlowOf(of, port)
+    match of {
+        Side::Input => Way::InputOf(port),
+        Side::Output => Way::OutputOf(port),
+    }
 }
 
 // How a count reads a frame of a side.
@@ -81,7 +85,8 @@ fn first_entry(way: Way) -> usize
     match way {
         Way::Number(_) => 0,
         Way::Place(at) => at,
-        Way::FlowOf(_, _) => 0,
+        Way::InputOf(_) => 0,
+        Way::OutputOf(_) => 0,
     }
 }
 
@@ -92,7 +97,8 @@ fn next_entry(ports: usize, way: Way) -> usize
     match way {
         Way::Number(_) => 1,
         Way::Place(_) => ports,
-        Way::FlowOf(_, _) => 1,
+        Way::InputOf(_) => 1,
+        Way::OutputOf(_) => 1,
     }
 }
 
@@ -118,7 +124,8 @@ fn counted(list: &[u16], way: Way, entry: usize) -> usize
     match way {
         Way::Number(number) => one_if(entry == number),
         Way::Place(_) => one_if(entry != 0),
-        Way::FlowOf(side, port) => one_if(is_flow_of(list, side, port, entry)),
+        Way::InputOf(port) => one_if(is_flow_of(list, Side::Input, port, entry)),
+        Way::OutputOf(port) => one_if(is_flow_of(list, Side::Output, port, entry)),
     }
 }
 

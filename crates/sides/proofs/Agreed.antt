@@ -41,22 +41,27 @@ module _ (side : Side) (ports slots : ℕ) (list entries second : List ℕ) wher
   unfolding turnChecks
   accepts-turnable e =
       let parts = clear-parts (listChecks ports slots list) (bad-frame ports slots entries ∷ lastChecks) e in
-      let p = clear-passes (bad-frame ports slots entries ∷ lastChecks) (parts .1) in
-      (record {
-        well = clear-well ports slots list (parts .0);
-        size = frame-tells ports slots entries .known (p .0);
-        each-right = entries-search side ports slots list entries .tells .known (p .1 .1 .0);
-        each-once = twice-search side ports slots list entries .tells .known (p .1 .1 .1 .0);
-      },
-      second-tells entries second .known (p .1 .0))
+      let p = clear-passes (bad-frame ports slots entries ∷ lastChecks) (parts .1) in (
+        record {
+          well = clear-well ports slots list (parts .0);
+          size = frame-tells ports slots entries .known (p .0);
+          each-right = entries-search side ports slots list entries .tells .known (p .1 .1 .0);
+          each-once = twice-search side ports slots list entries .tells .known (p .1 .1 .1 .0);
+        },
+        second-tells entries second .known (p .1 .0),
+      )
 
   pub turnable-accepts : Turnable side ports slots list entries → length second ≡ length entries → turnAccepts side ports slots list entries second ≡ true
   unfolding turnChecks
   turnable-accepts t e =
       clear-then (listChecks ports slots list) (bad-frame ports slots entries ∷ lastChecks) (well-clear ports slots list (t .well))
-      ∙ passes-clear (bad-frame ports slots entries ∷ lastChecks)
-      (frame-tells ports slots entries .met (t .size), (second-tells entries second .met e,
-      (entries-search side ports slots list entries .tells .met (t .each-right), (twice-search side ports slots list entries .tells .met (t .each-once), tt))))
+      ∙ passes-clear (bad-frame ports slots entries ∷ lastChecks) (
+        frame-tells ports slots entries .met (t .size),
+        (
+          second-tells entries second .met e,
+          (entries-search side ports slots list entries .tells .met (t .each-right), (twice-search side ports slots list entries .tells .met (t .each-once), tt)),
+        ),
+      )
 
 -- ---- turned twice
 pub turned-twice : TurnedTwice
@@ -101,7 +106,7 @@ count-agrees side ports slots list entries second e who start len =
     rw e (rw (
       count-checks ports slots list new entries who start len (by-size to ports slots list entries (t .size)),
       repeated-cells t (classOf who) (start - 1) len,
-      frame-cells t (classOf who)
+      frame-cells t (classOf who),
     ))
 
 -- ---- case by case

@@ -1,4 +1,3 @@
-
 use Rattle.exports.proofs.frame_builder_count_flow.Statement.{statement}
 use Rattle.exports.proofs.frame_builder_count_flow.Tie as tie
 

@@ -1,4 +1,3 @@
-
 use Rattle.exports.proofs.frame_builder_depth_flow.Statement.{statement}
 use Rattle.exports.proofs.frame_builder_depth_flow.Tie as tie
 

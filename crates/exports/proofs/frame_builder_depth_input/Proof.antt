@@ -1,4 +1,3 @@
-
 use Rattle.exports.proofs.frame_builder_depth_input.Statement.{statement}
 use Rattle.exports.proofs.frame_builder_depth_input.Tie as tie
 

@@ -1,4 +1,3 @@
-
 use Rattle.exports.proofs.frame_builder_depth_output.Statement.{statement}
 use Rattle.exports.proofs.frame_builder_depth_output.Tie as tie
 

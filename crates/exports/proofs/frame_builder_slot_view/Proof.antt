@@ -1,4 +1,3 @@
-
 use Rattle.exports.proofs.frame_builder_slot_view.Statement.{statement}
 use Rattle.exports.proofs.frame_builder_slot_view.Tie as tie
 

@@ -15,4 +15,4 @@ returns c =
 
 pub of-service-spec : {M : Type 1} → statement M
 of-service-spec =
-    tie.close (tie.spec (λ c. search needs) (λ c. search needs) (λ c κs. search needs) returns (λ c. refused-count (c .before .before .service2 .given .1) (c .of-refusal .ensures)))
+    tie.close (tie.spec (λ c. search needs) (λ c. search needs) (λ c κs. search needs) returns (λ c. search (refused-count (c .before .before .service2 .given .1) (c .of-refusal .ensures))))

@@ -1,5 +1,5 @@
 use borrow.Author.Needs.{needs}
-use Rattle.service.proofs.Ways.{number-counted, place-counted, port-low, port-counted}
+use Rattle.service.proofs.Ways.{number-counted, place-counted, input-low, output-low, input-counted, output-counted}
 use Rattle.service.proofs.counted.Statement.{statement}
 use Rattle.service.proofs.counted.Tie as tie
 
@@ -12,8 +12,12 @@ counted-spec =
     (λ c. search needs)
     (λ c κs. search needs)
     (λ c. search needs)
-    (λ c κs. (search needs, search (needs, port-low)))
+    (λ c κs. (search needs, search (needs, input-low)))
+    (λ c κs. search needs)
+    (λ c. search needs)
+    (λ c κs. (search needs, search (needs, output-low)))
     (λ c κs. search needs)
     (λ c. search (needs, number-counted))
     (λ c. search (needs, place-counted))
-    (λ c. search (needs, port-counted)))
+    (λ c. search (needs, input-counted))
+    (λ c. search (needs, output-counted)))

@@ -58,7 +58,7 @@ turn-frame-requires c κs =
     let list = listed .before .before .check-list .ensures in
     let accepted = listed .enum-told .given .1 in (
       turnable _ (list-well list accepted) (frame-fits list accepted (frame .bad-length .ensures) (second .before .if1 .left))
-      (right .before .first-wrong .ensures) (right .if3 .left) (once .before .first-twice .ensures) (search needs),
+          (right .before .first-wrong .ensures) (right .if3 .left) (once .before .first-twice .ensures) (search needs),
       second .if2 .left,
     )
 

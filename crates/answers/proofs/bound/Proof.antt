@@ -1,6 +1,6 @@
 use Rattle.numbers.proofs.Told.{three-of}
-use Rattle.exports.proofs.bound.Statement.{statement}
-use Rattle.exports.proofs.bound.Tie as tie
+use Rattle.answers.proofs.bound.Statement.{statement}
+use Rattle.answers.proofs.bound.Tie as tie
 
 returns : tie.Need-returns
 returns c = search (three-of (c .of-depth .ensures .three) (c .before .depth-of .ensures))
