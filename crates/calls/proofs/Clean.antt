@@ -35,7 +35,7 @@ module _ (side : Side) (ports slots : ℕ) (list entries : List ℕ) (w : WellFo
       }
 
   -- a legal frame has no wrong entry
-  legal-entries : LegalOn side ports slots list entries → Throughout slots ports (EntryRight side ports list entries)
+  pub legal-entries : LegalOn side ports slots list entries → Throughout slots ports (EntryRight side ports list entries)
   legal-entries l s i a b =
       rw (digits-mod s b) at (l .each-right (s * ports + i) (omega (arith, digits-lt {q = s} {m = slots} {r = i} {c = ports} a b)))
 

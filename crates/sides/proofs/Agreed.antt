@@ -7,24 +7,26 @@ use native.Mathlib.Omega.{arith}
 use lib.Dec.{eqb, ltb}
 use lib.ListN.{length, getD}
 use borrow.Author.Tests.{eqb-true, eq-eqb, not-false}
-use Rattle.rules.specs.Flows.{flows, Side, other, flow, load}
-use Rattle.rules.specs.Frames.{cellsOn}
+use Rattle.rules.specs.Flows.{flows, Side, input, other, flow, load}
+use Rattle.rules.specs.Frames.{cellsOn, LegalOn}
 use Rattle.rules.proofs.Cases.{byBool}
 use Rattle.rules.proofs.Searches.{first-ext}
 use Rattle.rules.proofs.Flows.{other-twice}
 use Rattle.calls.specs.Refusals.{Check, report, accepted, listChecks, bad-frame}
+use Rattle.calls.specs.Demand2.{WellFormed}
+use Rattle.calls.specs.Build.{frameAfter}
 use Rattle.calls.specs.Inspect.{wrongEntry, wrongCount, flowCount, unbalancedBlock, bad-entries}
 use Rattle.calls.specs.Service.{classOf, leadOn, countChecks, service}
 use Rattle.calls.specs.declared.Who.{Who}
-use Rattle.calls.proofs.Reports.{Tells, clear-then, clear-parts, passes-clear, clear-passes, report-clear, clear-some, frame-tells, broken, byFact}
-use Rattle.calls.proofs.Demand2.{well-clear, clear-well, past-frame}
+use Rattle.calls.proofs.Reports.{Tells, clear-then, clear-parts, passes-clear, clear-passes, report-clear, clear-none, clear-some, frame-tells, broken, byFact}
+use Rattle.calls.proofs.Demand2.{well-clear, clear-well, past-frame, accepts-is, build-sound}
 use Rattle.calls.proofs.Faults.{entries-search, twice-search}
 use Rattle.calls.proofs.Blocks.{block-same}
-use Rattle.calls.proofs.Clean.{past-two}
+use Rattle.calls.proofs.Clean.{legal-entries, past-two, built-clean}
 use Rattle.calls.proofs.Answers.{exactly}
 use Rattle.calls.proofs.Answered.{frame-reported, frame-low, byFrame}
 use Rattle.sides.specs.Turn.{bySide, Turnable, bad-second, turnChecks, turnAccepts, turnAnswer, secondAfter}
-use Rattle.sides.specs.Agreement.{TurnedTwice, InspectAgrees, CountAgrees, Turns, refused, second-15, entry-14, twice-14, accepted as turned-0, TurnByCases}
+use Rattle.sides.specs.Agreement.{TurnedTwice, InspectAgrees, CountAgrees, BuiltTurns, TurnedWith0, Turns, refused, second-15, entry-14, twice-14, accepted as turned-0, TurnByCases}
 use Rattle.sides.proofs.Turned.{by-size, turned-turnable, turned-back, run-cells, repeated-cells, frame-cells, turned-by, only-turned}
 
 -- 15: the two buffers have one length
@@ -108,6 +110,29 @@ count-agrees side ports slots list entries second e who start len =
       repeated-cells t (classOf who) (start - 1) len,
       frame-cells t (classOf who),
     ))
+
+-- ---- Build and Turn
+-- a legal frame turns
+legal-turnable : {side : Side} {ports slots : ℕ} {list entries : List ℕ} → WellFormed ports slots list → LegalOn side ports slots list entries
+    → Turnable side ports slots list entries
+legal-turnable {side} {ports} {slots} {list} {entries} w l =
+    record { well = w; size = l .size; each-right = legal-entries side ports slots list entries w (l .size) l; each-once = l .once }
+
+pub built-turns : BuiltTurns
+built-turns ports slots list limits buffer second e size =
+    let frame = frameAfter ports slots list limits buffer in
+    let legal = build-sound ports slots list limits buffer e .0 in
+    let yes = turnable-accepts input ports slots list frame second (legal-turnable (accepts-is ports slots list limits buffer e .well) legal) (size ∙ sym (legal .size)) in
+    (yes, inspect-agrees input ports slots list frame second yes ∙ built-clean ports slots list limits buffer e)
+
+-- ---- the number of acceptance
+pub turned-with-0 : TurnedWith0
+unfolding turnChecks
+turned-with-0 side ports slots list entries second =
+    let checks = turnChecks side ports slots list entries second in (
+      (λ e. ap (λ (l : List ℕ). getD l 0 0) (report-clear checks accepted e)),
+      (λ e. clear-none checks accepted (omega arith, (omega arith, (omega arith, (omega arith, (omega arith, (omega arith, (omega arith, (omega arith, (omega arith, (omega arith, tt)))))))))) e),
+    )
 
 -- ---- case by case
 module _ (side : Side) (ports slots : ℕ) (list entries second : List ℕ) where

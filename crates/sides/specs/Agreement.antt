@@ -4,13 +4,14 @@ use mathlib.Core.Path.{_≡_}
 use mathlib.Core.List.{List, [], _∷_}
 use mathlib.Core.Bool.{true}
 use lib.ListN.{length}
-use Rattle.rules.specs.Flows.{Side, other}
+use Rattle.rules.specs.Flows.{Side, input, output, other}
 use Rattle.calls.specs.Demand2.{WellFormed}
+use Rattle.calls.specs.Build.{buildAccepts, frameAfter}
 use Rattle.calls.specs.Inspect.{inspected}
 use Rattle.calls.specs.Service.{service}
 use Rattle.calls.specs.Answers.{Exactly, FrameRefused, Throughout, EntryRight, PortOnce}
 use Rattle.calls.specs.declared.Who.{Who}
-use Rattle.sides.specs.Turn.{BySide, turnAccepts, turnAnswer, secondAfter}
+use Rattle.sides.specs.Turn.{BySide, turnAccepts, turnAnswer, turnNumber, secondAfter}
 
 -- Turned twice, a frame that is accepted gives its first entries again: what Turn leaves is accepted as a frame of the other side.
 abbrev pub TurnedTwice : Type 0
@@ -33,6 +34,20 @@ CountAgrees =
     → (who : Who) (start len : ℕ)
     → service (other side) ports slots list (secondAfter side ports slots list entries second) who start len
     ≡ service side ports slots list entries who start len
+
+-- What an accepted Build leaves turns, and is clean on the output side.
+abbrev pub BuiltTurns : Type 0
+BuiltTurns =
+    (ports slots : ℕ) (list limits buffer second : List ℕ) → buildAccepts ports slots list limits buffer ≡ true → length second ≡ slots * ports
+    → (turnAccepts input ports slots list (frameAfter ports slots list limits buffer) second ≡ true)
+    × (inspected output ports slots list (secondAfter input ports slots list (frameAfter ports slots list limits buffer) second) ≡ 0 ∷ [])
+
+-- Turn accepts exactly where the number of its answer is 0.
+abbrev pub TurnedWith0 : Type 0
+TurnedWith0 =
+    (side : Side) (ports slots : ℕ) (list entries second : List ℕ)
+    → (turnAccepts side ports slots list entries second ≡ true → turnNumber side ports slots list entries second ≡ 0)
+    × (turnNumber side ports slots list entries second ≡ 0 → turnAccepts side ports slots list entries second ≡ true)
 
 -- 1, 2, 3, 21, 22, 23, 4; 15; 14 where an entry is wrong or a port of the other side is used twice in a slot; each with the second buffer as
 -- it was lent. Or accepted, which is 0, with the frame's entries by the other side.
