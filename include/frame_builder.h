@@ -257,8 +257,8 @@ size_t frame_builder_inspect(size_t side, size_t ports, size_t slots, const uint
  *
  * A turned frame is accepted by Turn told the other side, which gives the first entries again. Where a frame turns, the sides agree:
  * Inspect, told the other side, answers of the turned frame what it answers of the frame, with the same values. Service count does so too,
- * for every flow, input and output and every run: the cells are the same, and so is the lead. All this is proved. It follows that the
- * turned frame is balanced where the frame is, and that what Build leaves is clean on the input side and, turned, on the output side.
+ * for every flow, input and output and every run: the cells are the same, and so is the lead. What an accepted Build leaves turns, and is
+ * clean on the output side. All this is proved. It follows that the turned frame is balanced where the frame is.
  *
  *     answer                  second buffer
  *     ACCEPTED                the frame by the other side
