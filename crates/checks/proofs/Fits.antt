@@ -12,7 +12,7 @@ use Rattle.rules.specs.Frames.{levels}
 use Rattle.rules.proofs.Flows.{output-is}
 use Rattle.rules.proofs.Levels.{power-level, power-most}
 use Rattle.calls.specs.Demand2.{WellFormed}
-use Rattle.calls.proofs.Demand2.{ported-placed, ported-on}
+use Rattle.calls.proofs.Demand2.{ported-placed}
 use Rattle.checks.specs.Fits.{ListFits, FrameFits}
 use Rattle.checks.specs.Places.{placeOn}
 
@@ -50,9 +50,6 @@ module _ {ports : ℕ} {list : List ℕ} (l : ListFits ports list) where
     unfolding portOf
     side-is input = refl
     side-is output = output-is list f (l .linked f h)
-
-    pub side-below : (side : Side) → onSide side (portOf list) f < ports
-    side-below side = ported-on list (l .ported) (l .linked) side f h
 
 module _ {ports slots : ℕ} {entries : List ℕ} (f : FrameFits ports slots entries) where
   pub slots-within : Within 1 1024 slots

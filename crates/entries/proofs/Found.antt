@@ -26,7 +26,7 @@ use Rattle.rules.proofs.Searches.{Passed, passed-start, passed-on, passed-found
 use Rattle.checks.specs.Fits.{ListFits, FrameFits, FlowFrame}
 use Rattle.checks.specs.Places.{placeOn}
 use Rattle.checks.proofs.Fits.{frame-most, side-number, side-is}
-use Rattle.entries.specs.Entries.{wrongIn, usesPort, Room, Counts, Used, again}
+use Rattle.entries.specs.Entries.{wrongIn, usesPort, UsesRoom, EntryUsed, Used, again}
 
 -- ---- one entry
 pub idle-right : (side : Side) (list : List ℕ) (at e : ℕ) → e ≡ 0 → false ≡ not (rightOn side list at e)
@@ -77,7 +77,7 @@ module _ {ports slots slot : ℕ} {frame : List ℕ} (f : FrameFits ports slots 
       wrong-found p bad = passed-found p (omega arith) (rw (sym is) (sym told ∙ bad))
 
 -- ---- an entry counted for its port of the other side
-pub idle-counted : (side : Side) (list : List ℕ) (e : ℕ) (old : List ℕ) → Room 254 old → e ≡ 0 → Counts side list e old old
+pub idle-counted : (side : Side) (list : List ℕ) (e : ℕ) (old : List ℕ) → UsesRoom 254 old → e ≡ 0 → EntryUsed side list e old old
 unfolding usesPort
 idle-counted side list e old r z = record { size = r .size; each = λ x _. rw z (omega arith) }
 
@@ -98,7 +98,7 @@ module _ (list : List ℕ) (e : ℕ) (l : ListFits 16 list) (some : e ≡ 0 → 
   port-is : onSide s (portOf list) (e - 1) ≡ n - 1
   port-is = side-is l (e - 1) (is-listed e list some low) s ∙ ap (λ z. z - 1) (sym number-is)
 
-  pub one-fits : (old : List ℕ) → Room 254 old → Fits w8 (getD old (n - 1) 0 + 1)
+  pub one-fits : (old : List ℕ) → UsesRoom 254 old → Fits w8 (getD old (n - 1) 0 + 1)
   one-fits old r = record { fits = omega (arith, r .each (n - 1) port-within) }
 
 module _ (side : Side) (list : List ℕ) (e : ℕ) (l : ListFits 16 list) (some : e ≡ 0 → ⊥) (low : e ≤ flows list) {p n : ℕ} (place : p ≡ placeOn (other side)) (is : n ≡ numberOf p list (e - 1)) where
@@ -110,7 +110,7 @@ module _ (side : Side) (list : List ℕ) (e : ℕ) (l : ListFits 16 list) (some 
       ∙ is-flow list (portOn (other side) x) (e - 1) (is-listed e list some low)
       ∙ ap (λ z. eqb z x) (port-is list e l some low (other side) place is))
 
-  pub one-counted : (old : List ℕ) → Room 254 old → Counts side list e old (set old (n - 1) (getD old (n - 1) 0 + 1))
+  pub one-counted : (old : List ℕ) → UsesRoom 254 old → EntryUsed side list e old (set old (n - 1) (getD old (n - 1) 0 + 1))
   one-counted old r =
       let more : ℕ = getD old (n - 1) 0 + 1 in
       let at : n - 1 < length old = omega (arith, r .size, port-within list e l some low (other side) place is) in
@@ -148,10 +148,10 @@ module _ (side : Side) {ports slots slot : ℕ} {list frame : List ℕ} (r : Flo
       omega arith
 
   module _ {i : ℕ} (at : i < ports) where
-    pub used-room : {uses : List ℕ} → Used side ports list frame slot i uses → Room 254 uses
+    pub used-room : {uses : List ℕ} → Used side ports list frame slot i uses → UsesRoom 254 uses
     used-room u = record { size = u .size; each = λ x k. omega (arith, u .each x k, used-most i x, r .listed .most) }
 
-    pub used-on : {e : ℕ} {old new : List ℕ} → Used side ports list frame slot i old → e ≡ getD frame (slot * ports + i) 0 → Counts side list e old new
+    pub used-on : {e : ℕ} {old new : List ℕ} → Used side ports list frame slot i old → e ≡ getD frame (slot * ports + i) 0 → EntryUsed side list e old new
         → Used side ports list frame slot (i + 1) new
     used-on u is c =
         record {

@@ -14,7 +14,7 @@ unfoldable pub wrongIn : Side → ℕ → List ℕ → List ℕ → ℕ → ℕ 
 wrongIn side ports list entries slot x = not (rightOn side list x (getD entries (slot * ports + x) 0))
 
 -- There are sixteen numbers, one for each port of a side, and none above a limit.
-pub record Room (limit : ℕ) (uses : List ℕ) : Type 0 where
+pub record UsesRoom (limit : ℕ) (uses : List ℕ) : Type 0 where
   pub size : length uses ≡ 16
   pub each : (x : ℕ) → x < 16 → getD uses x 0 ≤ limit
 
@@ -23,7 +23,7 @@ unfoldable pub usesPort : Side → List ℕ → ℕ → ℕ → ℕ
 usesPort side list e x = bit (isFlowOf (portOn (other side) x) list e)
 
 -- `new` is `old` with an entry counted.
-pub record Counts (side : Side) (list : List ℕ) (entry : ℕ) (old new : List ℕ) : Type 0 where
+pub record EntryUsed (side : Side) (list : List ℕ) (entry : ℕ) (old new : List ℕ) : Type 0 where
   pub size : length new ≡ 16
   pub each : (x : ℕ) → x < 16 → getD new x 0 ≡ getD old x 0 + usesPort side list entry x
 

@@ -9,7 +9,7 @@ ghost use Rattle.rules.specs.Frames.{rightOn, runOf};
 ghost use Rattle.calls.specs.Sides.{sideOf};
 ghost use Rattle.calls.specs.Inspect.{isWrong, twiceIn, usedTwice};
 ghost use Rattle.checks.specs.Fits.{ListFits, FrameFits, FlowFrame};
-ghost use Rattle.entries.specs.Entries.{wrongIn, Room, Counts, Used, again};
+ghost use Rattle.entries.specs.Entries.{wrongIn, UsesRoom, EntryUsed, Used, again};
 use calls::Side;
 use checks::place_across;
 use checks::place_of;
@@ -84,10 +84,10 @@ pub fn first_wrong(side: Side, ports: usize, slots: usize, list: &[u16], frame: 
     slots * ports
 }
 
-// Counts an entry for the port of the other side that its flow has, if it is not 0.
+// EntryUsed an entry for the port of the other side that its flow has, if it is not 0.
 fn count_entry(side: Side, list: &[u16], entry: usize, uses: &mut [u8; PORTS_MOST])
-    requires { ⌜ ListFits 16 (now list) × (entry ≤ flows (now list)) × Room 254 (now uses) ⌝ }
-    ensures { λ _. ⌜ Counts (sideOf side) (now (list .entry)) entry (now (uses .entry)) (now (uses .exit)) ⌝ }
+    requires { ⌜ ListFits 16 (now list) × (entry ≤ flows (now list)) × UsesRoom 254 (now uses) ⌝ }
+    ensures { λ _. ⌜ EntryUsed (sideOf side) (now (list .entry)) entry (now (uses .entry)) (now (uses .exit)) ⌝ }
 {
     if entry == 0 {
         return;
@@ -96,7 +96,7 @@ fn count_entry(side: Side, list: &[u16], entry: usize, uses: &mut [u8; PORTS_MOS
     uses[x] = uses[x] + 1;
 }
 
-// Counts the entries of a slot, from nothing counted.
+// EntryUsed the entries of a slot, from nothing counted.
 fn count_slot(
     side: Side,
     ports: usize,
