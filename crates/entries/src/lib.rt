@@ -84,7 +84,7 @@ pub fn first_wrong(side: Side, ports: usize, slots: usize, list: &[u16], frame: 
     slots * ports
 }
 
-// EntryUsed an entry for the port of the other side that its flow has, if it is not 0.
+// Counts an entry for the port of the other side that its flow has, if it is not 0.
 fn count_entry(side: Side, list: &[u16], entry: usize, uses: &mut [u8; PORTS_MOST])
     requires { ⌜ ListFits 16 (now list) × (entry ≤ flows (now list)) × UsesRoom 254 (now uses) ⌝ }
     ensures { λ _. ⌜ EntryUsed (sideOf side) (now (list .entry)) entry (now (uses .entry)) (now (uses .exit)) ⌝ }
@@ -96,7 +96,7 @@ fn count_entry(side: Side, list: &[u16], entry: usize, uses: &mut [u8; PORTS_MOS
     uses[x] = uses[x] + 1;
 }
 
-// EntryUsed the entries of a slot, from nothing counted.
+// Counts the entries of a slot, from nothing counted.
 fn count_slot(
     side: Side,
     ports: usize,
