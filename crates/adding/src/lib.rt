@@ -1,4 +1,6 @@
-// Add: one more cell of a flow in a frame that is on air, by the exchange of two slots.
+//! Add: one more cell of a flow in a frame that is on air, by the exchange of two slots.
+#![tactic(auto)]
+
 ghost use Rattle.std.specs.Prelude.{◌≡◌, ◌<◌};
 ghost use Rattle.rules.specs.Words.{Within};
 ghost use Rattle.rules.specs.Flows.{flows, input};

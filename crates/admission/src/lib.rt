@@ -1,4 +1,6 @@
-// Admit: every load in one pass over the list, and the refusals that are decided from it.
+//! Admit: every load in one pass over the list, and the refusals that are decided from it.
+#![tactic(auto)]
+
 ghost use Rattle.std.specs.Prelude.{◌≡◌, ◌<◌, length};
 ghost use Rattle.calls.specs.Refusals.{lowest_above, lowest_past, answered, admitted};
 ghost use Rattle.checks.specs.Fits.{ListFits};

@@ -1,4 +1,6 @@
-// The answers of Service count and of Depth as numbers, written where the caller asks.
+//! The answers of Service count and of Depth as numbers, written where the caller asks.
+#![tactic(auto)]
+
 ghost use Rattle.calls.specs.Service.{service};
 ghost use Rattle.calls.specs.Depth.{depth};
 ghost use Rattle.numbers.specs.Numbers.{Values2, Replied};

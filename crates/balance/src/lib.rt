@@ -1,4 +1,6 @@
-// Balance: the first block whose halves differ by more than one cell, in frames of flows, whose cells are counted by the flows alone.
+//! Balance: the first block whose halves differ by more than one cell, in frames of flows, whose cells are counted by the flows alone.
+#![tactic(auto)]
+
 ghost use Rattle.std.specs.Prelude.{◌≡◌, not, ◌+◌, ◌*◌, ◌≤◌, ◌<◌, length, [], ◌∷◌};
 ghost use Rattle.rules.specs.Words.{near, first};
 ghost use Rattle.rules.specs.Frames.{levels};

@@ -1,4 +1,6 @@
-// Widths and digits: bytes and numbers of 16 bits made wide, and the binary digits of words.
+//! Widths and digits: bytes and numbers of 16 bits made wide, and the binary digits of words.
+#![tactic(auto)]
+
 ghost use Rattle.std.specs.Prelude.{◌≡◌, ◌<◌, ◌≤◌, eqb};
 ghost use Rattle.bits.specs.Digits.{digit, PutAt, FlippedAt};
 

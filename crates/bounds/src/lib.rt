@@ -1,1 +1,2 @@
-// Bounds beyond demand 3: definitions (specs/) and their laws (proofs/), no code.
+//! Bounds beyond demand 3: definitions (specs/) and their laws (proofs/), no code.
+#![tactic(auto)]

@@ -1,4 +1,6 @@
-// Build: the refusals in their order, then the frame.
+//! Build: the refusals in their order, then the frame.
+#![tactic(auto)]
+
 ghost use Rattle.std.specs.Prelude.{◌≡◌};
 ghost use Rattle.rules.specs.OddShares.{settled};
 ghost use Rattle.calls.specs.Build.{outcome, built, frame_after};

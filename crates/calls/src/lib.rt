@@ -1,4 +1,5 @@
-// The answers that the calls share. Their numbers and values are given in specs/Refusals.antt.
+//! The answers that the calls share. Their numbers and values are given in specs/Refusals.antt.
+#![tactic(auto)]
 
 // A refusal, with what it carries.
 #[derive(Drop)]

@@ -1,4 +1,6 @@
-// The conditions of the refusals that several calls share.
+//! The conditions of the refusals that several calls share.
+#![tactic(auto)]
+
 ghost use Rattle.std.specs.Prelude.{◌≡◌, not, ◌*◌, ◌<◌, ◌≤◌, eqb, length};
 ghost use Rattle.rules.specs.Words.{within};
 ghost use Rattle.rules.specs.Flows.{flows, other};

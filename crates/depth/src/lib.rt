@@ -1,4 +1,6 @@
-// Depth: how far from its share a flow, an input or an output can get, and how deep a buffer to order for it.
+//! Depth: how far from its share a flow, an input or an output can get, and how deep a buffer to order for it.
+#![tactic(auto)]
+
 ghost use Rattle.std.specs.Prelude.{◌≡◌, [], ◌∷◌, ◌+◌, ◌-◌, ◌*◌, ◌≤◌, ◌<◌, max};
 ghost use Rattle.rules.specs.Flows.{load};
 ghost use Rattle.rules.specs.Frames.{levels};

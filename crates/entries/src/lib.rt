@@ -1,4 +1,6 @@
-// Entries of a frame: cleared; the first wrong one, and the first port of the other side that is used twice in a slot.
+//! Entries of a frame: cleared; the first wrong one, and the first port of the other side that is used twice in a slot.
+#![tactic(auto)]
+
 pub mod usable;
 
 ghost use Rattle.std.specs.Prelude.{◌≡◌, not, ◌*◌, ◌≤◌, ◌<◌, length, replicate};

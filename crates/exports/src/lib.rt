@@ -1,5 +1,7 @@
-// The C interface: numbers, slices and the limits of links only. Each answer is document 01's number, 0 for none, and up to two
-// values, of Admit, Build and Add up to three; a count's second is signed.
+//! The C interface: numbers, slices and the limits of links only. Each answer is document 01's number, 0 for none, and up to two
+//! values, of Admit, Build and Add up to three; a count's second is signed.
+#![tactic(auto)]
+
 ghost use Rattle.std.specs.Prelude.{◌≡◌};
 ghost use Rattle.calls.specs.Refusals.{admitted};
 ghost use Rattle.calls.specs.Build.{built, frame_after};

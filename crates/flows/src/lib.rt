@@ -1,4 +1,6 @@
-// A list of flows: how many it has, and the numbers of each, by one stride.
+//! A list of flows: how many it has, and the numbers of each, by one stride.
+#![tactic(auto)]
+
 ghost use Rattle.std.specs.Prelude.{◌≡◌, [], ◌∷◌, ◌*◌, ◌<◌, ◌≤◌, length};
 ghost use Rattle.std.proofs.lemmas.List.Edits.{sets};
 ghost use Rattle.rules.specs.Flows.{stride, flows, number_of, links, port_of};

@@ -1,4 +1,6 @@
-// The sheet program: a reservation sheet on standard input, the frame or one refusal on standard output.
+//! The sheet program: a reservation sheet on standard input, the frame or one refusal on standard output.
+#![tactic(auto)]
+
 ghost use Rattle.std.specs.Prelude.{◌<◌, length};
 ghost use Rattle.io.specs.Counts.{IsPrefixLen};
 

@@ -1,4 +1,6 @@
-// Groups: who is joined by partnership favours the two halves in turn. A count has 0 until it is settled.
+//! Groups: who is joined by partnership favours the two halves in turn. A count has 0 until it is settled.
+#![tactic(auto)]
+
 ghost use Rattle.std.specs.Prelude.{◌≡◌, ◌≤◌, replicate};
 ghost use Rattle.rules.specs.Flows.{inputs, links};
 ghost use Rattle.planes.specs.Tables.{Wide, lookup, tabled};

@@ -1,4 +1,6 @@
-// Slots of a frame in which the ports of a flow are idle.
+//! Slots of a frame in which the ports of a flow are idle.
+#![tactic(auto)]
+
 ghost use Rattle.std.specs.Prelude.{◌≡◌, ◌≤◌, ◌<◌};
 ghost use Rattle.rules.specs.Words.{Within};
 ghost use Rattle.rules.specs.Flows.{flows, input, output};

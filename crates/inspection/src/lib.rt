@@ -1,4 +1,6 @@
-// Inspect: a frame from anywhere, of either side, is clean, or has a first fault.
+//! Inspect: a frame from anywhere, of either side, is clean, or has a first fault.
+#![tactic(auto)]
+
 ghost use Rattle.std.specs.Prelude.{◌≡◌, ◌<◌};
 ghost use Rattle.rules.specs.Words.{first};
 ghost use Rattle.rules.specs.Flows.{flows};

@@ -1,4 +1,6 @@
-// What is printed on a line: bytes, words, numbers, and the line of a refusal.
+//! What is printed on a line: bytes, words, numbers, and the line of a refusal.
+#![tactic(auto)]
+
 ghost use Rattle.std.specs.Prelude.{◌≡◌, [], ◌∷◌, ◌+◌, ◌≤◌, ◌<◌, length};
 ghost use Rattle.calls.specs.Refusals.{refusal};
 ghost use Rattle.sheets.specs.Text.{decimal};

@@ -1,4 +1,6 @@
-// Document 01's number of each answer, with the values that it carries, and the side that a number means.
+//! Document 01's number of each answer, with the values that it carries, and the side that a number means.
+#![tactic(auto)]
+
 ghost use Rattle.std.specs.Prelude.{◌≡◌};
 ghost use Rattle.calls.specs.Refusals.{refusal, answered};
 ghost use Rattle.calls.specs.Build.{outcome};

@@ -1,4 +1,6 @@
-// Counts at up to 528 positions as planes of bits: plane b has digit b of every count, 64 counts to a word, 9 words to a plane.
+//! Counts at up to 528 positions as planes of bits: plane b has digit b of every count, 64 counts to a word, 9 words to a plane.
+#![tactic(auto)]
+
 pub mod gather;
 pub mod store;
 pub mod words;

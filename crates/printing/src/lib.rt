@@ -1,4 +1,6 @@
-// The printing of a frame.
+//! The printing of a frame.
+#![tactic(auto)]
+
 ghost use Rattle.std.specs.Prelude.{◌≡◌, ◌≤◌, length};
 ghost use Rattle.lines.specs.Lines.{Printed, PrintedIn};
 ghost use Rattle.sheets.specs.Sheet.{print_cells, print_slots, print_frame};

@@ -1,1 +1,2 @@
-// Queues, waits, rows and lines: definitions (specs/) and their laws (proofs/), no code.
+//! Queues, waits, rows and lines: definitions (specs/) and their laws (proofs/), no code.
+#![tactic(auto)]

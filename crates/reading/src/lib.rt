@@ -1,4 +1,6 @@
-// The reading of a sheet: what its lines ask for.
+//! The reading of a sheet: what its lines ask for.
+#![tactic(auto)]
+
 ghost use Rattle.std.specs.Prelude.{◌≡◌, [], ◌≤◌, ◌<◌, length, drop};
 ghost use Rattle.sheets.specs.Text.{lines};
 ghost use Rattle.sheets.specs.Sheet.{read_ports, read_pairs};

@@ -1,1 +1,2 @@
-// Words, flows, frames and the splitting rules: definitions (specs/) and their laws (proofs/), no code.
+//! Words, flows, frames and the splitting rules: definitions (specs/) and their laws (proofs/), no code.
+#![tactic(auto)]

@@ -1,4 +1,6 @@
-// Recursively balanced scheduling: the counts of a block are split between its halves, down to single slots.
+//! Recursively balanced scheduling: the counts of a block are split between its halves, down to single slots.
+#![tactic(auto)]
+
 mod positions;
 mod slots;
 

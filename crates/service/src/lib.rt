@@ -1,4 +1,6 @@
-// Service count: the cells of a run of a frame that repeats, and how far ahead they are.
+//! Service count: the cells of a run of a frame that repeats, and how far ahead they are.
+#![tactic(auto)]
+
 ghost use Rattle.std.specs.Prelude.{◌≡◌, ◌+◌, ◌-◌, ◌*◌, ◌≤◌, min, ltb, pos, ◌-ℤ◌, length};
 ghost use Rattle.rules.specs.Words.{bit};
 ghost use Rattle.rules.specs.Flows.{port_on};

@@ -1,4 +1,6 @@
-// The sheet: what a list of bytes asks for, and what is printed for it.
+//! The sheet: what a list of bytes asks for, and what is printed for it.
+#![tactic(auto)]
+
 ghost use Rattle.std.specs.Prelude.{◌≡◌, ◌*◌, length, take};
 ghost use Rattle.rules.specs.Flows.{stride};
 ghost use Rattle.sheets.specs.Sheet.{loads, overloaded, read_sheet, response};

@@ -1,4 +1,6 @@
-// The split: which half of a block each odd count favours, by the rules, over planes of counts.
+//! The split: which half of a block each odd count favours, by the rules, over planes of counts.
+#![tactic(auto)]
+
 mod partners;
 
 ghost use Rattle.std.specs.Prelude.{◌≡◌, length};

@@ -1,4 +1,6 @@
-// Tallies: the cells of each flow, input, output and link in a run of slots, and their total. An entry is counted by its flow alone.
+//! Tallies: the cells of each flow, input, output and link in a run of slots, and their total. An entry is counted by its flow alone.
+#![tactic(auto)]
+
 ghost use Rattle.std.specs.Prelude.{◌≡◌, ◌+◌, ◌≤◌, ◌<◌, get_or, set, replicate};
 ghost use Rattle.rules.specs.Words.{bit};
 ghost use Rattle.rules.specs.Flows.{total};

@@ -1,4 +1,6 @@
-// Words and numbers of a line.
+//! Words and numbers of a line.
+#![tactic(auto)]
+
 ghost use Rattle.std.specs.Prelude.{◌≡◌, [], ◌≤◌, ◌<◌, length, drop};
 ghost use Rattle.text.specs.Places.{starts, DigitAt, Limit, NumberOf, LineOf};
 

@@ -1,4 +1,6 @@
-// Turn: a frame by the other side, written to a second buffer.
+//! Turn: a frame by the other side, written to a second buffer.
+#![tactic(auto)]
+
 ghost use Rattle.std.specs.Prelude.{◌≡◌, ◌≤◌, length};
 ghost use Rattle.rules.specs.Flows.{flows, other};
 ghost use Rattle.calls.specs.Refusals.{answered};

@@ -1,4 +1,6 @@
-// Slot view: a slot's own part of the caller's frame.
+//! Slot view: a slot's own part of the caller's frame.
+#![tactic(auto)]
+
 ghost use Rattle.std.specs.Prelude.{◌≡◌};
 ghost use Rattle.calls.specs.Refusals.{answered};
 ghost use Rattle.calls.specs.Service.{view_number, view_start, view_size, viewed};

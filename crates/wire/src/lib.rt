@@ -1,1 +1,2 @@
-// The wire and demand 3: definitions (specs/) and their laws (proofs/), no code.
+//! The wire and demand 3: definitions (specs/) and their laws (proofs/), no code.
+#![tactic(auto)]
