@@ -19,7 +19,7 @@ use Rattle.calls.specs.declared.Answer.{Answer}
 use Rattle.calls.specs.declared.Answer.TheVariants.{Accepted, Refused}
 use Rattle.calls.proofs.Reports.{report_then, report_stops, clear_then, first_reported, clear_some, refusal_number, within_known}
 use Rattle.calls.proofs.Demand2.{well_clear, past_load}
-use Rattle.slots.proofs.Slots.{usable_clear}
+use Rattle.usable_frames.proofs.Slots.{usable_clear}
 use Rattle.checks.specs.Lists.{ListAnswer}
 use Rattle.checks.proofs.Listed.{list_refused, list_well, frame_fits}
 use Rattle.entries.proofs.Told.{bad_reported, bad_usable}

@@ -11,7 +11,7 @@ use Rattle.rules.proofs.Cases.{by_lt, both_true}
 use Rattle.rules.proofs.Searches.{first_found, first_before}
 use Rattle.calls.specs.Refusals.{none_holds}
 use Rattle.calls.proofs.Reports.{report_clear}
-use Rattle.slots.specs.Usable.{Usable}
+use Rattle.usable_frames.specs.Usable.{Usable}
 use Rattle.checks.specs.Fits.{FlowFrame}
 use Rattle.checks.proofs.Fits.{well_fits}
 use Rattle.exchange.specs.Exchange.{port_to, cell_put}

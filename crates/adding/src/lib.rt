@@ -5,7 +5,7 @@ ghost use Rattle.std.specs.Prelude.{◌≡◌, ◌<◌};
 ghost use Rattle.rules.specs.Words.{Within};
 ghost use Rattle.rules.specs.Flows.{flows, input};
 ghost use Rattle.calls.specs.Added.{add_numbers};
-ghost use Rattle.slots.specs.Usable.{Usable};
+ghost use Rattle.usable_frames.specs.Usable.{Usable};
 ghost use Rattle.checks.specs.Fits.{FrameFits, FlowFrame};
 ghost use Rattle.exchange.specs.Exchange.{cell_put};
 ghost use Rattle.exchange.specs.Swaps.{moved_by, swapped, swaps};

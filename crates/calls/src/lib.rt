@@ -2,7 +2,7 @@
 #![tactic(auto)]
 
 // A refusal, with what it carries.
-#[derive(Drop)]
+#[derive(Clone, Copy)]
 pub enum Refusal {
     Ports,
     Slots,
@@ -42,21 +42,21 @@ pub enum Refusal {
 }
 
 // What Admit answers.
-#[derive(Drop)]
+#[derive(Clone, Copy)]
 pub enum Answer {
     Accepted,
     Refused(Refusal),
 }
 
 // What Build answers: with the frame, how many odd counts were settled for it.
-#[derive(Drop)]
+#[derive(Clone, Copy)]
 pub enum Built {
     Accepted { settled: usize },
     Refused(Refusal),
 }
 
 // The side of a frame: a slot has one entry for each port of it.
-#[derive(Drop)]
+#[derive(Clone, Copy)]
 pub enum Side {
     Input,
     Output,
@@ -64,7 +64,7 @@ pub enum Side {
 
 // What Inspect answers; slots, ports, flows and the first slot of a block are numbered from 1. A wrong entry stands at a port of the
 // frame's own side, and a port that is used twice is one of the other side.
-#[derive(Drop)]
+#[derive(Clone, Copy)]
 pub enum Inspection {
     Clean,
     WrongEntry { slot: usize, port: usize },
@@ -75,7 +75,7 @@ pub enum Inspection {
 }
 
 // Whom Service count counts for, numbered from 1.
-#[derive(Drop)]
+#[derive(Clone, Copy)]
 pub enum Who {
     Flow(usize),
     Input(usize),
@@ -84,28 +84,28 @@ pub enum Who {
 
 // What a run had of a flow or a port, and how far ahead that is: slots × cells, less the run's length × the cells of one
 // whole frame, below 0 where the run is behind.
-#[derive(Drop)]
+#[derive(Clone, Copy)]
 pub struct Count {
     pub cells: usize,
     pub lead: i64,
 }
 
 // What Service count answers.
-#[derive(Drop)]
+#[derive(Clone, Copy)]
 pub enum Service {
     Counted(Count),
     Refused(Refusal),
 }
 
 // What Depth answers: how far from its share a run can get, in parts of 1 / slots of a cell, and the cells to order for an even source.
-#[derive(Drop)]
+#[derive(Clone, Copy)]
 pub enum Depth {
     Bound { parts: usize, cells: usize },
     Refused(Refusal),
 }
 
 // What Add answers: the slot that the cell was put into, the other slot that changed, 0 where there is none, and how many cells were moved.
-#[derive(Drop)]
+#[derive(Clone, Copy)]
 pub enum Added {
     Accepted {
         slot: usize,

@@ -8,8 +8,8 @@ use Rattle.rules.specs.Flows.{Side}
 use Rattle.calls.specs.Refusals.{report, none_holds}
 use Rattle.calls.specs.Inspect.{wrong_entry, port_twice, bad_entries}
 use Rattle.calls.specs.Demand2.{WellFormed}
-use Rattle.slots.specs.Usable.{Usable}
-use Rattle.slots.proofs.Slots.{usable}
+use Rattle.usable_frames.specs.Usable.{Usable}
+use Rattle.usable_frames.proofs.Slots.{usable}
 use Rattle.checks.specs.Fits.{FrameFits}
 
 -- two checks that report the same

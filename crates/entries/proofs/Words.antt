@@ -18,7 +18,7 @@ use Rattle.calls.specs.Inspect.{bad_entries}
 use Rattle.calls.specs.Answers.{Throughout, EntryRight, PortOnce}
 use Rattle.calls.proofs.Reports.{passes_clear, clear_passes}
 use Rattle.calls.proofs.Faults.{place_of, entries_search, twice_search}
-use Rattle.slots.proofs.Slots.{slot_size, slot_at, other_cells}
+use Rattle.usable_frames.proofs.Slots.{slot_size, slot_at, other_cells}
 use Rattle.bits.specs.Digits.{digit}
 use Rattle.bits.proofs.Digits.{digit_most, digit_none, digit_or, digit_sum, digit_shifted, digits_same, if_same, if_other}
 use Rattle.checks.specs.Fits.{ListFits, FrameFits}

@@ -15,7 +15,7 @@ use Rattle.calls.specs.Service.{bad_who}
 use Rattle.calls.specs.declared.Who.TheVariants.{Flow}
 use Rattle.calls.proofs.Reports.{Tells, range_tells, clear_then, clear_parts, passes_clear, clear_passes, report_clear, frame_tells}
 use Rattle.calls.proofs.Demand2.{well_clear, clear_well}
-use Rattle.slots.proofs.Slots.{usable, usable_clear}
+use Rattle.usable_frames.proofs.Slots.{usable, usable_clear}
 use Rattle.exchange.specs.Exchange.{cell_put}
 use Rattle.exchange.specs.Add.{idle, lowest_idle, lowest_both, no_idle, add_checks, add_accepts, added, addition, add_answer, add_leaves}
 use Rattle.exchange.specs.Promises.{Asked}

@@ -22,7 +22,7 @@ use Rattle.calls.proofs.Demand2.{past_frame}
 use Rattle.calls.proofs.Faults.{entries_search, twice_search}
 use Rattle.calls.proofs.Answers.{exactly}
 use Rattle.calls.proofs.Answered.{frame_reported, frame_low, by_frame}
-use Rattle.slots.proofs.Slots.{usable_clear}
+use Rattle.usable_frames.proofs.Slots.{usable_clear}
 use Rattle.exchange.specs.Exchange.{port_to, cell_put, Exchanges, Exchanged}
 use Rattle.exchange.specs.Add.{idle, lowest_idle, lowest_both, add_checks, add_accepts, added, addition, add_answer, add_leaves}
 use Rattle.exchange.specs.Promises.{Busy, OneBusy, Asked, Adds, refused, flow_12, entry_16, twice_16, input_17, output_18, one_slot, two_slots, AddByCases}

@@ -17,9 +17,9 @@ use Rattle.rules.proofs.Searches.{first_found, first_before}
 use Rattle.rules.proofs.Flows.{by_entry}
 use Rattle.calls.proofs.Demand2.{ported_on}
 use Rattle.calls.proofs.Faults.{place_of}
-use Rattle.slots.specs.Usable.{Usable}
-use Rattle.slots.proofs.Sound.{once_sum, flow_of, one_goes}
-use Rattle.slots.proofs.Slots.{slot_at, slot_sound}
+use Rattle.usable_frames.specs.Usable.{Usable}
+use Rattle.usable_frames.proofs.Sound.{once_sum, flow_of, one_goes}
+use Rattle.usable_frames.proofs.Slots.{slot_at, slot_sound}
 use Rattle.exchange.specs.Exchange.{entry_at, port_to, cell_put, exchange}
 use Rattle.exchange.specs.Add.{idle, lowest_idle, lowest_both}
 use Rattle.exchange.specs.Swaps.{goes_to, lowest_to, swaps}

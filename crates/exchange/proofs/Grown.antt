@@ -14,9 +14,9 @@ use Rattle.rules.specs.Frames.{is_flow_of, right, cells, cells_on, run_of}
 use Rattle.rules.proofs.Cases.{by_eq, from_one}
 use Rattle.rules.proofs.Sums.{sum_ext, sum_add, sum_at, sum_two, sum_rows}
 use Rattle.rules.proofs.Flows.{is_flow_of_class, right_counts}
-use Rattle.slots.specs.Usable.{Usable}
-use Rattle.slots.proofs.Sound.{once_sum, by_flow}
-use Rattle.slots.proofs.Slots.{slot_size, slot_at, other_cells}
+use Rattle.usable_frames.specs.Usable.{Usable}
+use Rattle.usable_frames.proofs.Sound.{once_sum, by_flow}
+use Rattle.usable_frames.proofs.Slots.{slot_size, slot_at, other_cells}
 use Rattle.exchange.specs.Exchange.{entry_at, put_at, port_to}
 use Rattle.exchange.proofs.Steps.{Once}
 use Rattle.exchange.proofs.Puts.{put_size, put_same, put_slot, put_input}

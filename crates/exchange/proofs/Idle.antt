@@ -16,7 +16,7 @@ use Rattle.rules.proofs.Sums.{sum_ext, sum_zero, sum_one, sum_has}
 use Rattle.rules.proofs.Searches.{first_high, first_found, first_before}
 use Rattle.rules.proofs.Flows.{is_flow_of_class}
 use Rattle.rules.proofs.Cells.{cells_slot}
-use Rattle.slots.proofs.Slots.{slot_size, slot_at, other_cells}
+use Rattle.usable_frames.proofs.Slots.{slot_size, slot_at, other_cells}
 use Rattle.exchange.specs.Exchange.{entry_at, port_to}
 use Rattle.exchange.specs.Add.{idle}
 use Rattle.exchange.specs.Swaps.{output_number, goes_to, lowest_to}

@@ -21,8 +21,8 @@ use Rattle.rules.proofs.WithCells.{with_flows, with_right, with_counted, flow_lo
 use Rattle.calls.proofs.Reports.{clear_none}
 use Rattle.calls.proofs.Faults.{place_of}
 use Rattle.calls.proofs.Demand2.{ported_on}
-use Rattle.slots.specs.Usable.{Usable}
-use Rattle.slots.proofs.Slots.{legal_usable}
+use Rattle.usable_frames.specs.Usable.{Usable}
+use Rattle.usable_frames.proofs.Slots.{legal_usable}
 use Rattle.exchange.specs.Exchange.{port_to, Exchanged}
 use Rattle.exchange.specs.Add.{idle, lowest_idle, lowest_both, add_checks, add_accepts, added, addition, add_leaves}
 use Rattle.exchange.specs.Promises.{Chosen, OnlyThose, StaysUsable, OneCellMore, with_one_more, StaysLegal, FitsAdds, FewMoved, AddedWith0}

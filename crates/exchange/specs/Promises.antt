@@ -5,7 +5,7 @@ use Rattle.rules.specs.Flows.{flows, port_of, counts_of, with_cells, Side, input
 use Rattle.rules.specs.Frames.{cells, run_of, Legal}
 use Rattle.calls.specs.Demand2.{WellFormed}
 use Rattle.calls.specs.Answers.{Exactly, FrameRefused, Throughout, EntryRight, PortOnce, FirstNot}
-use Rattle.slots.specs.Usable.{Usable}
+use Rattle.usable_frames.specs.Usable.{Usable}
 use Rattle.exchange.specs.Exchange.{port_to, cell_put, Exchanges}
 use Rattle.exchange.specs.Add.{added, add_accepts, add_answer, add_leaves}
 

@@ -38,7 +38,7 @@ fn one_if(counts: bool) -> usize
 
 // How a count reads entries: those that are a number, wherever they stand; those at one place of each slot that are not 0; those that are
 // flows of an input, or of an output, wherever they stand. The last two are apart so that each loop knows where the port stands.
-#[derive(Drop)]
+#[derive(Clone, Copy)]
 enum Way {
     Number(usize),
     Place(usize),

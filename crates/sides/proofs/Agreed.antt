@@ -24,8 +24,8 @@ use Rattle.calls.proofs.Blocks.{block_same}
 use Rattle.calls.proofs.Clean.{past_two, built_clean}
 use Rattle.calls.proofs.Answers.{exactly}
 use Rattle.calls.proofs.Answered.{frame_reported, frame_low, by_frame}
-use Rattle.slots.specs.Usable.{Usable}
-use Rattle.slots.proofs.Slots.{usable, usable_clear, legal_usable}
+use Rattle.usable_frames.specs.Usable.{Usable}
+use Rattle.usable_frames.proofs.Slots.{usable, usable_clear, legal_usable}
 use Rattle.sides.specs.Turn.{by_side, bad_second, turn_checks, turn_accepts, turn_answer, second_after}
 use Rattle.sides.specs.Agreement.{TurnedTwice, InspectAgrees, CountAgrees, BuiltTurns, TurnedWith0, Turns, refused, second_15, entry_14, twice_14, accepted as turned-0, TurnByCases}
 use Rattle.sides.proofs.Turned.{by_size, turned_usable, turned_back, run_cells, repeated_cells, frame_cells, turned_by, only_turned}

@@ -13,7 +13,7 @@ use Rattle.rules.proofs.Cases.{by_bool, by_lt}
 use Rattle.rules.proofs.Sums.{sum_ext, sum_zero, sum_one, sum_swap}
 use Rattle.rules.proofs.Searches.{first_is, first_none, first_found, first_before}
 use Rattle.rules.proofs.Flows.{is_flow_of_class, by_entry, right_flow}
-use Rattle.slots.proofs.Sound.{Sound, once_sum, by_flow, flow_of, one_goes}
+use Rattle.usable_frames.proofs.Sound.{Sound, once_sum, by_flow, flow_of, one_goes}
 use Rattle.sides.specs.Turn.{entry_of}
 
 module _ {side to : Side} {ports : ℕ} {list slot : List ℕ} (g : Sound side to ports list slot) where

@@ -15,9 +15,9 @@ use Rattle.rules.proofs.Sums.{sum_ext}
 use Rattle.rules.proofs.Cells.{cells_slot, run_all}
 use Rattle.rules.proofs.Runs.{cells_slots, cells_repeated}
 use Rattle.rules.proofs.Flows.{map_length, map_at, other_side, other_twice, by_entry, right_counts}
-use Rattle.slots.specs.Usable.{Usable}
-use Rattle.slots.proofs.Sound.{Sound, flow_of}
-use Rattle.slots.proofs.Slots.{slot_size, slot_at, places_same, other_cells, slot_sound}
+use Rattle.usable_frames.specs.Usable.{Usable}
+use Rattle.usable_frames.proofs.Sound.{Sound, flow_of}
+use Rattle.usable_frames.proofs.Slots.{slot_size, slot_at, places_same, other_cells, slot_sound}
 use Rattle.sides.specs.Turn.{BySide, entry_of, by_side}
 use Rattle.sides.proofs.Slots.{by_port, entry_flow, sound_other, sums_same, entry_back}
 

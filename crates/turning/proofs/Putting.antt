@@ -15,8 +15,8 @@ use Rattle.checks.specs.Fits.{ListFits}
 use Rattle.checks.specs.Places.{place_on}
 use Rattle.checks.proofs.Fits.{well_fits, side_number, side_is}
 use Rattle.sides.specs.Turn.{by_side}
-use Rattle.slots.specs.Usable.{Usable}
-use Rattle.slots.proofs.Sound.{flow_of, one_goes, at_most}
+use Rattle.usable_frames.specs.Usable.{Usable}
+use Rattle.usable_frames.proofs.Sound.{flow_of, one_goes, at_most}
 use Rattle.sides.proofs.Turned.{one_sound, only_turned}
 use Rattle.turning.specs.Put.{put}
 

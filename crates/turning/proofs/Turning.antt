@@ -14,7 +14,7 @@ use Rattle.rules.specs.Frames.{run_of}
 use Rattle.rules.proofs.Cases.{by_lt}
 use Rattle.rules.proofs.Levels.{power_most}
 use Rattle.sides.specs.Turn.{by_side}
-use Rattle.slots.specs.Usable.{Usable}
+use Rattle.usable_frames.specs.Usable.{Usable}
 use Rattle.sides.proofs.Turned.{by_size, new_size, slot_usable, slot_turned}
 
 -- The first s slots are by the other side.

@@ -7,7 +7,7 @@ ghost use Rattle.calls.specs.Refusals.{answered};
 ghost use Rattle.calls.specs.Sides.{side_of};
 ghost use Rattle.checks.specs.Fits.{ListFits};
 ghost use Rattle.sides.specs.Turn.{by_side, turn_answer, second_after};
-ghost use Rattle.slots.specs.Usable.{Usable};
+ghost use Rattle.usable_frames.specs.Usable.{Usable};
 ghost use Rattle.turning.specs.Put.{put};
 
 use calls::{Answer, Refusal, Side};

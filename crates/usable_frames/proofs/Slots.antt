@@ -20,8 +20,8 @@ use Rattle.calls.proofs.Reports.{passes_clear, clear_passes}
 use Rattle.calls.proofs.Demand2.{ported_on}
 use Rattle.calls.proofs.Faults.{place_of, entries_search, twice_search}
 use Rattle.calls.proofs.Clean.{legal_entries}
-use Rattle.slots.specs.Usable.{Usable}
-use Rattle.slots.proofs.Sound.{Sound}
+use Rattle.usable_frames.specs.Usable.{Usable}
+use Rattle.usable_frames.proofs.Sound.{Sound}
 
 -- ---- entries of a slot
 module _ (ports slots : ℕ) (entries : List ℕ) (size : length entries ≡ slots * ports) (s : ℕ) (h : s < slots) where
