@@ -142,7 +142,10 @@ def turn(crate_dir, key, data):
     args = arguments(inside[:-1])
     where = {}
     others = []
+    unfold = "".join(b + "\n" for b in blocks if b.startswith("unfolding "))
     for b in blocks:
+        if b.startswith("unfolding "):
+            continue
         if b is spec or b.startswith("--") or re.match(r"pub \S+_spec : ", b):
             continue
         name = re.match(r"(?:abbrev |pub )*(\S+)", b).group(1)
@@ -158,7 +161,7 @@ def turn(crate_dir, key, data):
         m = re.fullmatch(r"\(λ (\S+)(?: κs)?\.\s(.*)\)", arg, re.S)
         if m:
             text = f.body(m.group(2).strip(), m.group(1))
-            if text in PLAIN:
+            if text in PLAIN and not (unfold and goal.startswith("returns")):
                 continue
         elif arg in where and len(where[arg]) <= 2:
             block = "\n".join(where[arg])
@@ -171,7 +174,7 @@ def turn(crate_dir, key, data):
             others.append(arg)
         else:
             raise Unknown("the answer " + arg[:80])
-        answers.append(f"pub {goal} : goal.{goal}\n{goal} c = {text}")
+        answers.append(f"pub {goal} : goal.{goal}\n{unfold}{goal} c = {text}")
     for name in others:
         where.pop(name, None)
     for name, bs in where.items():
