@@ -165,7 +165,7 @@ def turn(crate_dir, key, data):
                 continue
         elif arg in where and len(where[arg]) <= 2:
             block = "\n".join(where[arg])
-            m = re.match(r"%s : tie\.[^\n]*\n%s (\S+) =(.*)" % ((re.escape(arg),) * 2), block, re.S)
+            m = re.match(r"%s : tie\.[^\n]*\n%s (\S+)(?: κs)? =(.*)" % ((re.escape(arg),) * 2), block, re.S)
             if not m:
                 raise Unknown("the answer " + arg)
             text = f.body(m.group(2).strip(), m.group(1))

@@ -1,0 +1,26 @@
+use Prim.Native.Nat.{◌-◌}
+use Rattle.std.proofs.Common.{rules}
+use native.Mathlib.Omega.{arith}
+use Rattle.entries.proofs.Found.{slots_start, entries_on, entries_found, entries_row, entries_fits, slots_end, whole_fits}
+use Rattle.entries.proofs.first_wrong.Goals as goal
+
+pub loop-s-init : goal.loop-s-init
+loop-s-init c = (omega arith, slots_start _ _ _)
+
+pub overflow_mul-result : goal.overflow_mul-result
+overflow_mul-result c = search (rules, entries_row)
+
+pub overflow_add-result : goal.overflow_add-result
+overflow_add-result c = search (rules, entries_fits)
+
+pub returns-then-x-ports : goal.returns-then-x-ports
+returns-then-x-ports c = search (rules, entries_found)
+
+pub loop-s-preserved : goal.loop-s-preserved
+loop-s-preserved c = (omega arith, search (rules, entries_on))
+
+pub overflow_mul-result-2 : goal.overflow_mul-result-2
+overflow_mul-result-2 c = search (rules, whole_fits)
+
+pub returns : goal.returns
+returns c = search (rules, slots_end)

@@ -1,0 +1,10 @@
+use Prim.Native.Nat.{◌-◌}
+use Rattle.rules.proofs.Searches.{Passed}
+use Rattle.idle.proofs.Found.{both_idle}
+use Rattle.idle.proofs.lowest_both.Given as goal
+
+abbrev pub invariant-loop-s : goal.invariant-loop-s
+invariant-loop-s l = Passed (both_idle l.ports l.list l.frame l.flow) 0 l.slots l.s
+
+abbrev pub decreases-loop-s : goal.decreases-loop-s
+decreases-loop-s l = l.slots - l.s
