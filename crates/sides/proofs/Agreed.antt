@@ -1,34 +1,33 @@
 -- Turn, Inspect and Service count of a frame and of what Turn leaves.
-use Prim.Native.Nat.{ℕ, suc, ◌-◌, ◌<◌}
+use Prim.Native.Nat.{ℕ, suc, ◌-◌, ◌*◌, ◌<◌}
 use mathlib.Core.Path.{◌≡◌, refl, sym, ap, ap₂, ◌∙◌, subst}
-use mathlib.Core.List.{List, [], ◌∷◌}
+use mathlib.Core.List.{List, [], ◌∷◌, ◌++◌}
 use mathlib.Core.Bool.{true, false, not}
 use native.Mathlib.Omega.{arith}
 use lib.Dec.{eqb, ltb}
 use lib.ListN.{length, get_or}
 use borrow.Author.Tests.{eqb-true, eq-eqb, not-false}
 use Rattle.rules.specs.Flows.{flows, Side, input, other, flow, load}
-use Rattle.rules.specs.Frames.{cells_on}
+use Rattle.rules.specs.Frames.{cells_on, LegalOn}
 use Rattle.rules.proofs.Cases.{by_bool}
 use Rattle.rules.proofs.Searches.{first_ext}
 use Rattle.rules.proofs.Flows.{other_twice}
 use Rattle.calls.specs.Refusals.{Check, report, accepted, list_checks, bad_frame}
+use Rattle.calls.specs.Demand2.{WellFormed}
 use Rattle.calls.specs.Build.{frame_after}
-use Rattle.calls.specs.Inspect.{wrong_entry, wrong_count, flow_count, bad_entries}
+use Rattle.calls.specs.Inspect.{wrong_entry, wrong_count, flow_count, unbalanced_block, bad_entries}
 use Rattle.calls.specs.Service.{class_of, lead_on, count_checks, service}
 use Rattle.calls.specs.declared.Who.{Who}
 use Rattle.calls.proofs.Reports.{Tells, clear_then, clear_parts, passes_clear, clear_passes, report_clear, clear_none, clear_some, frame_tells, broken, by_fact}
 use Rattle.calls.proofs.Demand2.{well_clear, clear_well, past_frame, accepts_is, build_sound}
 use Rattle.calls.proofs.Faults.{entries_search, twice_search}
 use Rattle.calls.proofs.Blocks.{block_same}
-use Rattle.calls.proofs.Clean.{past_two, built_clean}
+use Rattle.calls.proofs.Clean.{legal_entries, past_two, built_clean}
 use Rattle.calls.proofs.Answers.{exactly}
 use Rattle.calls.proofs.Answered.{frame_reported, frame_low, by_frame}
-use Rattle.usable_frames.specs.Usable.{Usable}
-use Rattle.usable_frames.proofs.Slots.{usable, usable_clear, legal_usable}
-use Rattle.sides.specs.Turn.{by_side, bad_second, turn_checks, turn_accepts, turn_answer, second_after}
+use Rattle.sides.specs.Turn.{by_side, Turnable, bad_second, turn_checks, turn_accepts, turn_answer, second_after}
 use Rattle.sides.specs.Agreement.{TurnedTwice, InspectAgrees, CountAgrees, BuiltTurns, TurnedWith0, Turns, refused, second_15, entry_14, twice_14, accepted as turned-0, TurnByCases}
-use Rattle.sides.proofs.Turned.{by_size, turned_usable, turned_back, run_cells, repeated_cells, frame_cells, turned_by, only_turned}
+use Rattle.sides.proofs.Turned.{by_size, turned_turnable, turned_back, run_cells, repeated_cells, frame_cells, turned_by, only_turned}
 
 -- 15: the two buffers have one length
 second_tells : (entries second : List ℕ) → Tells (bad_second entries second) (length second ≡ length entries)
@@ -40,41 +39,50 @@ module _ (side : Side) (ports slots : ℕ) (list entries second : List ℕ) wher
   abbrev last_checks : List Check
   last_checks = bad_second entries second ∷ bad_entries 14 side ports slots list entries
 
-  pub accepts_usable : turn_accepts side ports slots list entries second ≡ true → Usable side ports slots list entries × (length second ≡ length entries)
+  pub accepts_turnable : turn_accepts side ports slots list entries second ≡ true → Turnable side ports slots list entries × (length second ≡ length entries)
   unfolding turn_checks
-  accepts_usable e =
+  accepts_turnable e =
       let parts = clear_parts (list_checks ports slots list) (bad_frame ports slots entries ∷ last_checks) e in
       let p = clear_passes (bad_frame ports slots entries ∷ last_checks) parts.1 in (
-        usable 14 side ports slots list entries (clear_well ports slots list parts.0) ((frame_tells ports slots entries).known p.0)
-            (passes_clear (bad_entries 14 side ports slots list entries) p.1.1),
+        record {
+          well = clear_well ports slots list parts.0;
+          size = (frame_tells ports slots entries).known p.0;
+          each_right = (entries_search side ports slots list entries).tells.known p.1.1.0;
+          each_once = (twice_search side ports slots list entries).tells.known p.1.1.1.0;
+        },
         (second_tells entries second).known p.1.0,
       )
 
-  pub usable_accepts : Usable side ports slots list entries → length second ≡ length entries → turn_accepts side ports slots list entries second ≡ true
+  pub turnable_accepts : Turnable side ports slots list entries → length second ≡ length entries → turn_accepts side ports slots list entries second ≡ true
   unfolding turn_checks
-  usable_accepts t e =
+  turnable_accepts t e =
       clear_then (list_checks ports slots list) (bad_frame ports slots entries ∷ last_checks) (well_clear ports slots list t.well)
-      ∙ passes_clear (bad_frame ports slots entries ∷ last_checks)
-      ((frame_tells ports slots entries).met t.size, ((second_tells entries second).met e, clear_passes (bad_entries 14 side ports slots list entries) (usable_clear 14 side ports slots list entries t)))
+      ∙ passes_clear (bad_frame ports slots entries ∷ last_checks) (
+        (frame_tells ports slots entries).met t.size,
+        (
+          (second_tells entries second).met e,
+          ((entries_search side ports slots list entries).tells.met t.each_right, ((twice_search side ports slots list entries).tells.met t.each_once, tt)),
+        ),
+      )
 
 -- ---- turned twice
 pub turned_twice : TurnedTwice
 turned_twice side ports slots list entries second third e size =
-    let a = accepts_usable side ports slots list entries second e in
+    let a = accepts_turnable side ports slots list entries second e in
     let t = a.0 in
     let new = by_side (other side) ports list entries in
     let again : turn_accepts (other side) ports slots list new third ≡ true
-    = usable_accepts (other side) ports slots list new third (turned_usable t) (size ∙ sym (by_size (other side) ports slots list entries t.size)) in
+    = turnable_accepts (other side) ports slots list new third (turned_turnable t) (size ∙ sym (by_size (other side) ports slots list entries t.size)) in
     rw e (again, rw again (subst (λ (z : Side). by_side z ports list new ≡ entries) (sym (other_twice side)) (turned_back t)))
 
 -- ---- Inspect
 pub inspect_agrees : InspectAgrees
 unfolding wrong_count
 inspect_agrees side ports slots list entries second e =
-    let t = (accepts_usable side ports slots list entries second e).0 in
+    let t = (accepts_turnable side ports slots list entries second e).0 in
     let to = other side in
     let new = by_side to ports list entries in
-    let u = turned_usable t in
+    let u = turned_turnable t in
     let count : ℕ → Check = λ f. (ltb f (flows list), 103 ∷ suc f ∷ []) in
     let flows_same : flow_count to ports list new ≡ flow_count side ports list entries
     = ap count (first_ext _ _ (flows list) 0 (λ f _ l. ap (λ z. not (eqb z (load (flow f) list))) (frame_cells t (flow f)))) in
@@ -94,7 +102,7 @@ count_checks_same ports slots list v w who start len e = rw e
 pub count_agrees : CountAgrees
 unfolding service lead_on
 count_agrees side ports slots list entries second e who start len =
-    let t = (accepts_usable side ports slots list entries second e).0 in
+    let t = (accepts_turnable side ports slots list entries second e).0 in
     let to = other side in
     let new = by_side to ports list entries in
     rw e (rw (
@@ -104,11 +112,17 @@ count_agrees side ports slots list entries second e who start len =
     ))
 
 -- ---- Build and Turn
+-- a legal frame turns
+legal_turnable : {side : Side} {ports slots : ℕ} {list entries : List ℕ} → WellFormed ports slots list → LegalOn side ports slots list entries
+    → Turnable side ports slots list entries
+legal_turnable {side} {ports} {slots} {list} {entries} w l =
+    record { well = w; size = l.size; each_right = legal_entries side ports slots list entries w l.size l; each_once = l.once }
+
 pub built_turns : BuiltTurns
 built_turns ports slots list limits buffer second e size =
     let frame = frame_after ports slots list limits buffer in
     let legal = (build_sound ports slots list limits buffer e).0 in
-    let yes = usable_accepts input ports slots list frame second (legal_usable (accepts_is ports slots list limits buffer e).well legal) (size ∙ sym legal.size) in
+    let yes = turnable_accepts input ports slots list frame second (legal_turnable (accepts_is ports slots list limits buffer e).well legal) (size ∙ sym legal.size) in
     (yes, inspect_agrees input ports slots list frame second yes ∙ built_clean ports slots list limits buffer e)
 
 -- ---- the number of acceptance
@@ -146,8 +160,8 @@ module _ (side : Side) (ports slots : ℕ) (list entries second : List ℕ) wher
       (λ d. rw ((second_tells entries second).met s, d))
       (λ d. rw ((second_tells entries second).met s, d, broken (twice_search side ports slots list entries).tells b)))
   only given (turned-0 w e s r o new b) =
-      let t : Usable side ports slots list entries = record { well = w; size = e; each_right = r; each_once = o } in
-      let yes = usable_accepts side ports slots list entries second t s in
+      let t : Turnable side ports slots list entries = record { well = w; size = e; each_right = r; each_once = o } in
+      let yes = turnable_accepts side ports slots list entries second t s in
       ap₂ (λ (a b : List ℕ). (a, b)) (sym (report_clear (turn_checks side ports slots list entries second) accepted yes)) (only_turned t new b ∙ rw yes)
 
 pub turn_by_cases : TurnByCases

@@ -5,6 +5,8 @@ use Rattle.rules.specs.Flows.{Side, other, on_side, port_of, port_on}
 use Rattle.rules.specs.Frames.{is_flow_of, run_of}
 use Rattle.calls.specs.Refusals.{Check, report, none_holds, accepted, list_checks, bad_frame}
 use Rattle.calls.specs.Inspect.{bad_entries}
+use Rattle.calls.specs.Demand2.{WellFormed}
+use Rattle.calls.specs.Answers.{Throughout, EntryRight, PortOnce}
 
 -- What it is to have a frame's entries by a side: in each slot every flow that stands in the frame stands at its port of that side, and a
 -- port of which no flow stands there is idle.
@@ -24,6 +26,14 @@ entry_of side ports list slot x = get_or slot (first (λ i. is_flow_of (port_on 
 unfoldable pub by_side : Side → ℕ → List ℕ → List ℕ → List ℕ
 by_side side ports list entries =
     map (λ q. entry_of side ports list (run_of ports (q / ports) 1 entries) (q % ports)) (up_from 0 (length entries))
+
+-- What Turn accepts, with a second buffer of its length: a frame of a well-formed list in which no entry is wrong and no slot uses a port
+-- of the other side twice.
+pub record Turnable (side : Side) (ports slots : ℕ) (list entries : List ℕ) : Type 0 where
+  pub well : WellFormed ports slots list
+  pub size : length entries ≡ slots * ports
+  pub each_right : Throughout slots ports (EntryRight side ports list entries)
+  pub each_once : Throughout slots ports (PortOnce side ports list entries)
 
 -- 15: the second buffer's length differs from the frame's.
 abbrev pub bad_second : List ℕ → List ℕ → Check

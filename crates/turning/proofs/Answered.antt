@@ -1,27 +1,30 @@
 -- What Turn answers and leaves, refusal by refusal.
-use Prim.Native.Nat.{ℕ, ◌*◌}
+use Prim.Native.Nat.{ℕ, ◌*◌, ◌≤◌, ◌<◌}
 use mathlib.Core.Path.{◌≡◌, refl, sym, ap, ◌∙◌}
 use mathlib.Core.Logic.{◌≢◌}
 use mathlib.Core.List.{List, [], ◌∷◌}
 use mathlib.Core.Bool.{Bool, true, false, not}
+use native.Mathlib.Omega.{arith}
 use lib.Dec.{eqb}
 use lib.ListN.{length, get_or}
-use borrow.Author.Tests.{eq-eqb, ne_eqb}
+use borrow.Author.Tests.{lt-ltb, le-ltb, eq-eqb, ne_eqb}
+use Rattle.rules.specs.Words.{first}
 use Rattle.rules.specs.Flows.{Side, other}
-use Rattle.calls.specs.Refusals.{Check, none_holds, refusal, accepted, answered, bad_frame}
-use Rattle.calls.specs.Inspect.{bad_entries}
+use Rattle.calls.specs.Refusals.{Check, refusal, accepted, answered, bad_frame}
+use Rattle.calls.specs.Inspect.{is_wrong, used_twice, wrong_entry, bad_entries}
 use Rattle.calls.specs.declared.Refusal.{Refusal}
 use Rattle.calls.specs.declared.Refusal.TheVariants.{FrameLength, SecondLength, Entries}
 use Rattle.calls.specs.declared.Answer.{Answer}
 use Rattle.calls.specs.declared.Answer.TheVariants.{Accepted, Refused}
-use Rattle.calls.proofs.Reports.{report_clear, report_then, passes_clear, first_reported, clear_some, refusal_number}
+use Rattle.calls.proofs.Reports.{report_clear, first_reported, clear_some, refusal_number}
+use Rattle.calls.specs.Demand2.{WellFormed}
 use Rattle.calls.proofs.Demand2.{past_load}
+use Rattle.calls.proofs.Faults.{entries_search, twice_search}
 use Rattle.checks.specs.Lists.{ListAnswer}
 use Rattle.checks.specs.Fits.{FrameFits}
 use Rattle.checks.proofs.Listed.{list_refused, list_well, frame_fits}
-use Rattle.sides.specs.Turn.{by_side, bad_second, turn_checks, turn_answer, second_after}
-use Rattle.sides.proofs.Agreed.{usable_accepts}
-use Rattle.entries.proofs.Told.{bad_reported, bad_usable}
+use Rattle.sides.specs.Turn.{by_side, Turnable, bad_second, turn_checks, turn_answer, second_after}
+use Rattle.sides.proofs.Agreed.{turnable_accepts}
 
 -- the answer is Turn's, and so are the entries of the second buffer
 pub record Done (side : Side) (ports slots : ℕ) (list frame second answer entries : List ℕ) : Type 0 where
@@ -31,6 +34,18 @@ pub record Done (side : Side) (ports slots : ℕ) (list frame second answer entr
 pub done : (side : Side) (ports slots : ℕ) (list frame second answer entries : List ℕ) → Done side ports slots list frame second answer entries
     → (answer ≡ turn_answer side ports slots list frame second) × (entries ≡ second_after side ports slots list frame second)
 done side ports slots list frame second answer entries d = (d.answers, d.leaves)
+
+-- what holds where no entry is found to be wrong and no port to be used twice
+pub turnable : (side : Side) {ports slots : ℕ} {list frame : List ℕ} → WellFormed ports slots list → FrameFits ports slots frame
+    → {q : ℕ} → q ≡ first (is_wrong side ports list frame) 0 (slots * ports) → length frame ≤ q
+    → {p : ℕ} → p ≡ first (used_twice side ports list frame) 0 (slots * ports) → length frame ≤ p → Turnable side ports slots list frame
+turnable side {ports} {slots} {list} {frame} well framed {q} found none {p} twice once =
+    record {
+      well = well;
+      size = framed.size;
+      each_right = (entries_search side ports slots list frame).tells.known (le-ltb _ (slots * ports) (omega (arith, found, framed.size)));
+      each_once = (twice_search side ports slots list frame).tells.known (le-ltb _ (slots * ports) (omega (arith, twice, framed.size)));
+    }
 
 -- the tests after those of the list
 abbrev rest : Side → ℕ → ℕ → List ℕ → List ℕ → List ℕ → List Check
@@ -66,19 +81,29 @@ module _ (side : Side) {ports slots : ℕ} {list : List ℕ} (frame second : Lis
             refused SecondLength (first_reported 1 (rest side ports slots list frame second) accepted (passed_frame, tt) (ap not (ne_eqb (length second) (length frame) n))
             ∙ sym (past_load ports slots list (list_well is well) (rest side ports slots list frame second) accepted))
 
-        module _ (same : length second ≡ length frame) {bad : Bool} (told : bad ≡ not (none_holds (bad_entries 14 side ports slots list frame))) where
+        module _ (same : length second ≡ length frame) (q : ℕ) (found : q ≡ first (is_wrong side ports list frame) 0 (slots * ports)) where
           passed_second : (bad_second frame second).0 ≡ false
           passed_second = ap not (eq-eqb (length second) (length frame) same)
 
-          pub entries_done : bad ≡ true → Done side ports slots list frame second (14 ∷ []) second
+          pub wrong_done : q < length frame → Done side ports slots list frame second (14 ∷ []) second
           unfolding turn_checks
-          entries_done h =
-              let lengths : List Check = bad_frame ports slots frame ∷ bad_second frame second ∷ [] in
-              refused Entries (sym (past_load ports slots list (list_well is well) (rest side ports slots list frame second) accepted
-              ∙ report_then lengths (bad_entries 14 side ports slots list frame) accepted (passes_clear lengths (passed_frame, (passed_second, tt)))
-              ∙ bad_reported 14 side ports slots list frame told h accepted))
+          wrong_done h =
+              refused Entries (first_reported 2 (rest side ports slots list frame second) accepted (passed_frame, (passed_second, tt)) (lt-ltb _ (slots * ports) (omega (arith, found, framed.size)))
+              ∙ sym (past_load ports slots list (list_well is well) (rest side ports slots list frame second) accepted))
 
-          pub turns : bad ≡ false → {entries : List ℕ} → entries ≡ by_side (other side) ports list frame → Done side ports slots list frame second (0 ∷ []) entries
-          turns none e =
-              let yes = usable_accepts side ports slots list frame second (bad_usable side (list_well is well) framed told none) same in
-              record { answers = sym (report_clear (turn_checks side ports slots list frame second) accepted yes); leaves = e ∙ rw yes }
+          module _ (none : length frame ≤ q) where
+            passed_wrong : (wrong_entry side ports slots list frame).0 ≡ false
+            passed_wrong = le-ltb _ (slots * ports) (omega (arith, found, framed.size))
+
+            module _ (p : ℕ) (twice : p ≡ first (used_twice side ports list frame) 0 (slots * ports)) where
+              pub twice_done : p < length frame → Done side ports slots list frame second (14 ∷ []) second
+              unfolding turn_checks
+              twice_done h =
+                  refused Entries (first_reported 3 (rest side ports slots list frame second) accepted (passed_frame, (passed_second, (passed_wrong, tt))) (lt-ltb _ (slots * ports) (omega (arith, twice, framed.size)))
+                  ∙ sym (past_load ports slots list (list_well is well) (rest side ports slots list frame second) accepted))
+
+              module _ (once : length frame ≤ p) where
+                pub turns : {entries : List ℕ} → entries ≡ by_side (other side) ports list frame → Done side ports slots list frame second (0 ∷ []) entries
+                turns e =
+                    let yes = turnable_accepts side ports slots list frame second (turnable side (list_well is well) framed found none twice once) same in
+                    record { answers = sym (report_clear (turn_checks side ports slots list frame second) accepted yes); leaves = e ∙ rw yes }

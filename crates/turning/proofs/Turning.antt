@@ -1,21 +1,20 @@
 -- Slots turned one after the other, and what Turn then answers.
 use Prim.Native.Nat.{ℕ, suc, ◌+◌, ◌-◌, ◌*◌, ◌≤◌, ◌<◌}
-use mathlib.Core.Path.{◌≡◌, sym, ap, ◌∙◌}
+use mathlib.Core.Path.{◌≡◌, refl, sym, ap, ◌∙◌}
 use mathlib.Core.List.{List, ◌++◌}
 use native.Mathlib.Omega.{arith}
 use native.Mathlib.Nat.{mul-le-mul, mul-le-mul_right}
 use mir.Syntax.{w64}
 use mir.Val.{Fits}
-use lib.ListN.{length, get_or, take, drop, length-take, get_or-append}
+use lib.ListN.{length, get_or, take, drop, length-take, length-drop, get_or-append}
 use lib.Seq.{get_or-take, get_or-append-add, ext_get_or}
 use borrow.Rule.Slice.PartMut.{put_mid, post_of, same_len_mid, mid_len}
 use Rattle.rules.specs.Flows.{Side, other}
 use Rattle.rules.specs.Frames.{run_of}
 use Rattle.rules.proofs.Cases.{by_lt}
 use Rattle.rules.proofs.Levels.{power_most}
-use Rattle.sides.specs.Turn.{by_side}
-use Rattle.usable_frames.specs.Usable.{Usable}
-use Rattle.sides.proofs.Turned.{by_size, new_size, slot_usable, slot_turned}
+use Rattle.sides.specs.Turn.{by_side, Turnable}
+use Rattle.sides.proofs.Turned.{by_size, new_size, slot_turnable, slot_turned}
 
 -- The first s slots are by the other side.
 pub record Turned (side : Side) (ports slots : ℕ) (list frame : List ℕ) (s : ℕ) (second : List ℕ) : Type 0 where
@@ -23,7 +22,7 @@ pub record Turned (side : Side) (ports slots : ℕ) (list frame : List ℕ) (s :
   pub size : length second ≡ slots * ports
   pub done : (q : ℕ) → q < s * ports → get_or second q 0 ≡ get_or (by_side (other side) ports list frame) q 0
 
-module _ (side : Side) (ports slots : ℕ) (list frame : List ℕ) (t : Usable side ports slots list frame) where
+module _ (side : Side) (ports slots : ℕ) (list frame : List ℕ) (t : Turnable side ports slots list frame) where
   pub turned_start : (second : List ℕ) → length second ≡ length frame → Turned side ports slots list frame 0 second
   turned_start second e = record { most = omega arith; size = e ∙ t.size; done = λ q h. absurd (omega arith) }
 
@@ -60,8 +59,8 @@ module _ (side : Side) (ports slots : ℕ) (list frame : List ℕ) (t : Usable s
     unfolding run_of
     part_is = let e : s * ports + ports - s * ports ≡ 1 * ports = omega arith in rw e
 
-    pub part_usable : Usable side ports 1 list part
-    part_usable = rw part_is (slot_usable t s h)
+    pub part_turnable : Turnable side ports 1 list part
+    part_turnable = rw part_is (slot_turnable t s h)
 
     module _ (second : List ℕ) (g : Turned side ports slots list frame s second) where
       pub second_ends : s * ports + ports ≤ length second
@@ -72,7 +71,7 @@ module _ (side : Side) (ports slots : ℕ) (list frame : List ℕ) (t : Usable s
 
       module _ (new : List ℕ) (is : new ≡ by_side (other side) ports list part) where
         new_length : length new ≡ ports
-        new_length = ap length is ∙ by_size (other side) ports 1 list part part_usable.size ∙ part_usable.size ∙ omega arith
+        new_length = ap length is ∙ by_size (other side) ports 1 list part part_turnable.size ∙ part_turnable.size ∙ omega arith
 
         abbrev put : List ℕ
         put = put_mid (s * ports) (s * ports + ports - s * ports) second new

@@ -6,13 +6,12 @@ ghost use Rattle.rules.specs.Flows.{flows, other};
 ghost use Rattle.calls.specs.Refusals.{answered};
 ghost use Rattle.calls.specs.Sides.{side_of};
 ghost use Rattle.checks.specs.Fits.{ListFits};
-ghost use Rattle.sides.specs.Turn.{by_side, turn_answer, second_after};
-ghost use Rattle.usable_frames.specs.Usable.{Usable};
+ghost use Rattle.sides.specs.Turn.{by_side, Turnable, turn_answer, second_after};
 ghost use Rattle.turning.specs.Put.{put};
 
 use calls::{Answer, Refusal, Side};
 use checks::place_across;
-use entries::usable::bad_entries;
+use entries::{first_twice, first_wrong};
 use flows::number_of;
 
 // Puts an entry at its flow's port of the other side, if it is not 0.
@@ -29,7 +28,7 @@ fn put_entry(side: Side, list: &[u16], entry: u16, new: &mut [u16])
 
 // A slot by the other side.
 fn turn_slot(side: Side, ports: usize, list: &[u16], slot: &[u16], new: &mut [u16])
-    requires { Usable (side_of side) ports 1 list.now slot.now × (length new.old ≡ ports) }
+    requires { Turnable (side_of side) ports 1 list.now slot.now × (length new.old ≡ ports) }
     ensures { new.new ≡ by_side (other (side_of side)) ports list.now slot.now }
 {
     entries::clear(new);
@@ -49,7 +48,7 @@ fn turn_frame(
     frame: &[u16],
     second: &mut [u16],
 )
-    requires { Usable (side_of side) ports slots list.now frame.now × (length second.old ≡ length frame.now) }
+    requires { Turnable (side_of side) ports slots list.now frame.now × (length second.old ≡ length frame.now) }
     ensures { second.new ≡ by_side (other (side_of side)) ports list.now frame.now }
 {
     let mut s: usize = 0;
@@ -82,7 +81,10 @@ pub fn turn(
     if second.len() != frame.len() {
         return Answer::Refused(Refusal::SecondLength);
     }
-    if bad_entries(side, ports, slots, list, frame) {
+    if first_wrong(side, ports, slots, list, frame) < frame.len() {
+        return Answer::Refused(Refusal::Entries);
+    }
+    if first_twice(side, ports, slots, list, frame) < frame.len() {
         return Answer::Refused(Refusal::Entries);
     }
     turn_frame(side, ports, slots, list, frame, second);

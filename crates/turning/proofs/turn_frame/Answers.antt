@@ -1,6 +1,6 @@
 use Prim.Native.Nat.{◌-◌}
 use Rattle.std.proofs.Common.{rules}
-use Rattle.turning.proofs.Turning.{turned_start, turned_on, turned_end, from_fits, end_fits, offset_fits, frame_ends, second_ends, part_usable, part_length}
+use Rattle.turning.proofs.Turning.{turned_start, turned_on, turned_end, from_fits, end_fits, offset_fits, frame_ends, second_ends, part_turnable, part_length}
 use Rattle.turning.proofs.turn_frame.Goals as goal
 
 pub loop-s-init : goal.loop-s-init
@@ -25,7 +25,7 @@ pub slice_bounds-turn_slot-end-in-loop-s : goal.slice_bounds-turn_slot-end-in-lo
 slice_bounds-turn_slot-end-in-loop-s c = search (rules, second_ends)
 
 pub turn_slot-requires : goal.turn_slot-requires
-turn_slot-requires c = (search (rules, part_usable), search (rules, part_length))
+turn_slot-requires c = (search (rules, part_turnable), search (rules, part_length))
 
 pub loop-s-preserved : goal.loop-s-preserved
 loop-s-preserved c = search (rules, turned_on)
