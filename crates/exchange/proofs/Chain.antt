@@ -1,5 +1,5 @@
 -- The frame of two slots in which Add moves as many cells as it can, for each number of ports above 1: every displaced cell displaces the next.
-use Prim.Native.Nat.{ℕ, suc, ◌+◌, ◌*◌, ◌-◌}
+use Prim.Native.Nat.{ℕ, suc, ◌*◌, ◌-◌}
 use mathlib.Core.List.{List, [], ◌∷◌, ◌++◌}
 use Rattle.rules.specs.Words.{up_from}
 

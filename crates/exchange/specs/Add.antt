@@ -1,5 +1,5 @@
 -- Add: one more cell of a flow in a frame of the input side.
-use Rattle.std.specs.Prelude.{ℕ, suc, ◌+◌, ◌*◌, ◌-◌, List, [], ◌∷◌, ◌++◌, Bool, not, eqb, ltb}
+use Rattle.std.specs.Prelude.{ℕ, suc, ◌+◌, ◌*◌, List, [], ◌∷◌, ◌++◌, Bool, not, eqb, ltb}
 use Rattle.rules.specs.Words.{if, both, first}
 use Rattle.rules.specs.Flows.{Side, input, output, port_on}
 use Rattle.rules.specs.Frames.{cells, run_of}

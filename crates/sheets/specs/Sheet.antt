@@ -1,6 +1,5 @@
 -- The sheet: what the program prints for each list of bytes.
-use Rattle.std.specs.Prelude.{ℕ, suc, zero, ◌+◌, ◌-◌, List, [], ◌∷◌, ◌++◌, not, eqb, ltb, leb}
-use Prim.Native.String as string
+use Rattle.std.specs.Prelude.{ℕ, suc, zero, List, [], ◌∷◌, ◌++◌, not, eqb, ltb, leb}
 use lib.ListN.{length}
 use Rattle.rules.specs.Words.{if, both, within}
 use Rattle.rules.specs.Flows.{flows}

@@ -1,7 +1,7 @@
 -- Turn, Inspect and Service count of a frame and of what Turn leaves.
-use Prim.Native.Nat.{ℕ, suc, ◌-◌, ◌*◌, ◌<◌}
+use Prim.Native.Nat.{ℕ, suc, ◌-◌, ◌<◌}
 use mathlib.Core.Path.{◌≡◌, refl, sym, ap, ap₂, ◌∙◌, subst}
-use mathlib.Core.List.{List, [], ◌∷◌, ◌++◌}
+use mathlib.Core.List.{List, [], ◌∷◌}
 use mathlib.Core.Bool.{true, false, not}
 use native.Mathlib.Omega.{arith}
 use lib.Dec.{eqb, ltb}
@@ -15,7 +15,7 @@ use Rattle.rules.proofs.Flows.{other_twice}
 use Rattle.calls.specs.Refusals.{Check, report, accepted, list_checks, bad_frame}
 use Rattle.calls.specs.Demand2.{WellFormed}
 use Rattle.calls.specs.Build.{frame_after}
-use Rattle.calls.specs.Inspect.{wrong_entry, wrong_count, flow_count, unbalanced_block, bad_entries}
+use Rattle.calls.specs.Inspect.{wrong_entry, wrong_count, flow_count, bad_entries}
 use Rattle.calls.specs.Service.{class_of, lead_on, count_checks, service}
 use Rattle.calls.specs.declared.Who.{Who}
 use Rattle.calls.proofs.Reports.{Tells, clear_then, clear_parts, passes_clear, clear_passes, report_clear, clear_none, clear_some, frame_tells, broken, by_fact}

@@ -2,13 +2,12 @@
 use Prim.Native.Nat.{ℕ, suc, zero, ◌-◌, ◌≤◌, ◌<◌}
 use mathlib.Core.Path.{◌≡◌, refl, sym, ap, ◌∙◌}
 use mathlib.Core.List.{List}
-use mathlib.Core.Bool.{Bool, true, false, true≢false}
+use mathlib.Core.Bool.{Bool, true, false}
 use native.Mathlib.Omega.{arith}
-use lib.Dec.{eqb}
 use lib.ListN.{length, get_or, get_or-eq_default}
 use borrow.Author.Tests.{eqb-true, eq-eqb, ne_eqb}
-use Rattle.rules.specs.Words.{if, both, bit, first, sum_to}
-use Rattle.rules.specs.Flows.{flows, Side, on_side, port_of, Class, port_on, is_of}
+use Rattle.rules.specs.Words.{if, bit, first, sum_to}
+use Rattle.rules.specs.Flows.{flows, Side, on_side, port_of, port_on, is_of}
 use Rattle.rules.specs.Frames.{is_flow, is_flow_of, right_on}
 use Rattle.rules.proofs.Cases.{by_bool, by_eq, by_lt, both_true, within_true}
 use Rattle.rules.proofs.Sums.{sum_more, sum_none, sum_ext, sum_zero, sum_one, sum_swap, sum_has_two}

@@ -1,5 +1,5 @@
 -- The steps of a split, as functions of the lists that they are lent.
-use Rattle.std.specs.Prelude.{ℕ, suc, zero, ◌+◌, ◌-◌, ◌%◌, ◌≤◌, ◌<◌, ◌≡◌, ◌≢◌, List, [], ◌∷◌, ◌++◌, Bool, true, false, eqb, length, get_or, set, take}
+use Rattle.std.specs.Prelude.{ℕ, suc, zero, ◌+◌, ◌%◌, ◌≤◌, ◌<◌, ◌≡◌, ◌≢◌, List, [], ◌∷◌, ◌++◌, Bool, true, false, eqb, length, get_or, set, take}
 use Rattle.rules.specs.Words.{if, bit, up_from, keep, Every}
 use Rattle.rules.specs.Flows.{End, inputs, links, output_of}
 use Rattle.rules.specs.Rules.{odd, single}

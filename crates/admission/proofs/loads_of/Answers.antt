@@ -1,4 +1,3 @@
-use Prim.Native.Nat.{◌-◌}
 use mathlib.Core.Path.{refl}
 use Rattle.std.proofs.Common.{rules}
 use Rattle.admission.proofs.Adding.{summed_start, summed_in, input_from_one, input_low, summed_output, summed_link, in_fits, out_fits, line_fits, summed_on, summed_end}

@@ -1,4 +1,3 @@
-use Prim.Native.Nat.{◌-◌}
 use mathlib.Core.Path.{refl}
 use Rattle.rules.proofs.Searches.{passed_start, passed_end}
 use Rattle.balance.proofs.Blocks.{far_on, far_found}

@@ -1,4 +1,3 @@
-use Prim.Native.Nat.{◌-◌}
 use Rattle.rules.proofs.Searches.{passed_start, passed_done}
 use Rattle.balance.proofs.Blocks.{block_ends, half_fits, block_fits, number_on, number_found}
 use Rattle.std.proofs.Common.{rules}

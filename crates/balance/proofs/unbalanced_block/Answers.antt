@@ -1,4 +1,3 @@
-use Prim.Native.Nat.{◌-◌}
 use Rattle.balance.proofs.Blocks.{depths_start, depths_on, depths_found, depths_none, blocks_room, size_fits, count_fits, start_fits, number_fits}
 use Rattle.std.proofs.Common.{rules}
 use Rattle.balance.proofs.unbalanced_block.Goals as goal

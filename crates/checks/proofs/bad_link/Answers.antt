@@ -1,4 +1,3 @@
-use Prim.Native.Nat.{◌-◌}
 use Rattle.std.proofs.Common.{rules}
 use Rattle.checks.proofs.Ports.{trying_start, trying_in, trying_found, trying_on, trying_end, link_outside}
 use Rattle.checks.proofs.bad_link.Goals as goal

@@ -1,4 +1,3 @@
-use Prim.Native.Nat.{◌-◌}
 use native.Mathlib.Omega.{arith}
 use Rattle.std.proofs.Common.{rules}
 use Rattle.checks.proofs.Searching.{climbing_start, climbing_low, climbing_on, climbing_found, climbing_none}

@@ -1,4 +1,3 @@
-use Prim.Native.Nat.{◌-◌}
 use Rattle.std.proofs.Common.{rules}
 use Rattle.entries.proofs.Cleared.{cleared_start, cleared_on, cleared_end}
 use Rattle.entries.proofs.clear.Goals as goal

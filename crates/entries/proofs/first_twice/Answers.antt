@@ -1,4 +1,3 @@
-use Prim.Native.Nat.{◌-◌}
 use Rattle.std.proofs.Common.{rules}
 use native.Mathlib.Omega.{arith}
 use Rattle.entries.proofs.Found.{slots_start, ports_on, ports_found, ports_row, ports_fits, slots_end, whole_fits}

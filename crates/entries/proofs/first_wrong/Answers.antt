@@ -1,4 +1,3 @@
-use Prim.Native.Nat.{◌-◌}
 use Rattle.std.proofs.Common.{rules}
 use native.Mathlib.Omega.{arith}
 use Rattle.entries.proofs.Found.{slots_start, entries_on, entries_found, entries_row, entries_fits, slots_end, whole_fits}

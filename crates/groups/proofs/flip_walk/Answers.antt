@@ -1,4 +1,3 @@
-use Prim.Native.Nat.{◌-◌}
 use Rattle.std.proofs.Common.{rules}
 use native.Mathlib.Omega.{arith}
 use Rattle.groups.proofs.Walked.{flipping_start, flipping_at, flipping_stop, flipping_at_2, flipping_on, flipping_end}

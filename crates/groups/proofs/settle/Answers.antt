@@ -1,4 +1,3 @@
-use Prim.Native.Nat.{◌-◌}
 use Rattle.std.proofs.Common.{rules}
 use native.Mathlib.Omega.{arith}
 use Rattle.groups.proofs.Settled.{next_start, settled_start, reaches_next, settled_on, settled_end}

@@ -1,4 +1,3 @@
-use Prim.Native.Nat.{◌-◌}
 use Rattle.std.proofs.Common.{rules}
 use Rattle.rules.proofs.Searches.{passed_start, passed_done}
 use Rattle.entries.proofs.Found.{from_fits, place_low, place_fits, offset_fits}

@@ -1,4 +1,3 @@
-use Prim.Native.Nat.{◌-◌}
 use Rattle.std.proofs.Common.{rules}
 use Rattle.inspection.proofs.Counted.{counting_start, counting_in, counting_low, counting_on, counting_found, counting_end}
 use Rattle.inspection.proofs.first_wrong_count.Goals as goal

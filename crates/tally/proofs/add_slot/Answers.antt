@@ -1,4 +1,3 @@
-use Prim.Native.Nat.{◌-◌}
 use Rattle.tally.proofs.Tallies.{slot_start, slot_on, slot_end, slot_room, cells_start, cells_on_next, cells_fit, total_fits, entry_flow}
 use Rattle.std.proofs.Common.{rules}
 use native.Mathlib.Omega.{arith}

@@ -1,4 +1,3 @@
-use Prim.Native.Nat.{◌-◌}
 use Rattle.tally.proofs.Tallies.{tally_start, tally_on, tally_end, tally_room, part_ends, part_readable, from_fits, end_fits, offset_fits}
 use Rattle.std.proofs.Common.{rules}
 use native.Mathlib.Omega.{arith}

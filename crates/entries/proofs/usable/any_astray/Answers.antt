@@ -1,4 +1,3 @@
-use Prim.Native.Nat.{◌-◌}
 use Rattle.std.proofs.Common.{rules}
 use Rattle.entries.proofs.Read.{own_start, own_on, own_found, own_end}
 use Rattle.entries.proofs.usable.any_astray.Goals as goal

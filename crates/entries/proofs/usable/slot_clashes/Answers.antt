@@ -1,4 +1,3 @@
-use Prim.Native.Nat.{◌-◌}
 use Rattle.std.proofs.Common.{rules}
 use Rattle.entries.proofs.Found.{from_fits, place_low, place_fits, offset_fits}
 use Rattle.entries.proofs.Read.{entry_word, slot_start, sum_fits, slot_on, slot_end}

@@ -1,4 +1,3 @@
-use Prim.Native.Nat.{◌-◌}
 use Rattle.std.proofs.Common.{rules}
 use Rattle.entries.proofs.Read.{frame_start, frame_on, frame_found, frame_end}
 use Rattle.entries.proofs.usable.words_clash.Goals as goal

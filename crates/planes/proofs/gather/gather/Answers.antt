@@ -1,4 +1,3 @@
-use Prim.Native.Nat.{◌-◌}
 use Rattle.std.proofs.Common.{rules}
 use native.Mathlib.Omega.{arith}
 use Rattle.planes.proofs.Placed.{gathering_start, gathering_room, gathering_on, gathering_end}

@@ -1,4 +1,3 @@
-use Prim.Native.Nat.{◌-◌}
 use Rattle.std.proofs.Common.{rules}
 use Rattle.planes.proofs.Stored.{loading_start, loading_in, loading_low, loading_few, loading_on, loading_end}
 use Rattle.planes.proofs.store.store_list.Goals as goal

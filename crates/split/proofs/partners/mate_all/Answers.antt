@@ -1,4 +1,3 @@
-use Prim.Native.Nat.{◌-◌}
 use Rattle.std.proofs.Common.{rules}
 use native.Mathlib.Omega.{arith}
 use Rattle.split.proofs.Mated.{mating_start, next_low, next_at_inputs, next_at_links, mating_on, mating_end}

@@ -1,4 +1,3 @@
-use Prim.Native.Nat.{◌-◌}
 use Rattle.std.proofs.Common.{rules}
 use native.Mathlib.Omega.{arith}
 use Rattle.split.proofs.Joined.{joining_start, comes_low, partner_low, joining_on, joining_end}
