@@ -8,8 +8,7 @@
  * is the first number of the version, and its calls have the symbol version FRAME_BUILDER_N. So a program is never given the calls of
  * another N. A call that comes with a later version N.M has the symbol version FRAME_BUILDER_N.M, and its comment below names N.M. So a
  * program that makes it does not start with an older library. Of the C library the calls need memset and nothing else. examples/table7.c
- * shows how the calls are used, examples/links.c how links and limits are, examples/turn.c how the sides of a frame are, and examples/add.c
- * how a cell is added to a frame.
+ * shows how the calls are used, examples/links.c how links and limits are, and examples/turn.c how the sides of a frame are.
  *
  * WORDS. Ports and slots are numbered from 1, inputs and outputs separately. An output drives up to four links, 1 to 4. A flow is so many
  * cells per frame from an input to one link of an output; a pair of ports may have several. A list is the reserved flows as 16-bit numbers,
@@ -19,33 +18,31 @@
  * ports are not looked at. For a link as fast as its output the limit may be slots or any number above. A frame is slots x ports 16-bit
  * entries, slot 1 first. A block is the whole frame, or either half of a block of 2 or more slots. A slice is a list, a frame or Turn's
  * second buffer as a call is lent it: a pointer, and how many 16-bit numbers there are. A lent number is one that a call is lent to write
- * to: *first, *second, *third, *slot, *other, *moved, *start, *size and *cells, each a size_t, and *lead, an int64_t.
+ * to: *first, *second, *third, *start, *size and *cells, each a size_t, and *lead, an int64_t.
  *
  * SIDES. A frame has a side. On the input side a slot has one entry per input: the number of the flow that the input sends a cell of, or 0
  * for idle. On the output side a slot has one entry per output: the number of the flow that the output takes a cell of, or 0 for idle.
- * Build makes frames on the input side, Add takes them on that side alone, and Turn writes a frame by the other side. Inspect, Turn and
- * Service count are told the side of the frame that they are lent, as a number: 0 is the input side, and every other number is the output
- * side. A port of the frame's side is an input where the frame is on the input side, and an output where it is on the output side. A port
- * of the other side is an output in the first case, and an input in the second.
+ * Build makes frames on the input side, and Turn writes a frame by the other side. Inspect, Turn and Service count are told the side of the
+ * frame that they are lent, as a number: 0 is the input side, and every other number is the output side. A port of the frame's side is an
+ * input where the frame is on the input side, and an output where it is on the output side. A port of the other side is an output in the
+ * first case, and an input in the second.
  *
  * ANSWERS. Every call takes any numbers and slices of any length. It tries its refusals, and Inspect then its faults, in the order of its
  * table below, and returns the number of the first whose condition holds, or 0 if none does. It writes its lent numbers whatever it
- * answers: the values of the answer, and 0 where the answer has none. No list and no limits are ever written. Three slices are: the frame
- * that Build is lent, the one that Add is lent, and Turn's second buffer. An accepted Build leaves the list's frame in the first, every
- * entry of it. An accepted Add leaves the frame with a cell more in the second, where it writes one slot or two. An accepted Turn leaves
- * the frame by the other side in the third, every entry of it. A refused call leaves every entry as it was. All this is proved.
+ * answers: the values of the answer, and 0 where the answer has none. No list and no limits are ever written. Two slices are: the frame
+ * that Build is lent, and Turn's second buffer. An accepted Build leaves the list's frame in the first, and an accepted Turn the frame by
+ * the other side in the second, every entry of it. A refused call leaves every entry as it was. All this is proved.
  *
  * POINTERS. The caller sees to it that
  * - a slice's pointer points to as many 16-bit numbers as its length says, that of the limits to all FRAME_BUILDER_LIMITS of them, and a
  *   lent number's to one number;
  * - each is aligned as C asks of its type;
  * - what a call writes overlaps nothing else lent in the same call. So *first, *second and *third are three numbers even where none is
- *   looked at, and so are *slot, *other and *moved; *cells and *lead are two, Build's frame has no byte of the list or of the limits, Add's
- *   frame has none of the list, and Turn's second buffer has none of the list or of the frame. What is only read may overlap, as a list and
- *   Inspect's frame;
+ *   looked at, *cells and *lead two, Build's frame has no byte of the list or of the limits, and Turn's second buffer has none of the list
+ *   or of the frame. What is only read may overlap, as a list and Inspect's frame;
  * - no pointer is null, but for that of a slice of length 0. Nothing is read or written there. A list of length 0 has no flows, and its
  *   frame is all 0; a frame of length 0 is refused, since no switch has one, and so is a second buffer of length 0.
- * What a call writes needs no value before, but for Add's frame, which is read too. No call keeps a pointer.
+ * What a call writes needs no value before. No call keeps a pointer.
  *
  * THREADS, SIGNALS, STACK. A call keeps no state, allocates nothing, makes no system call, waits for nothing and leaves errno alone. Any
  * number of calls may run at once, in threads and in signal handlers, as long as nobody else uses meanwhile what one of them writes. A call
@@ -64,7 +61,7 @@
 #include <stdint.h>
 
 /* The version of the project. It stands in this line alone; whatever else says the version reads it from here. */
-#define FRAME_BUILDER_VERSION "6.1.0"
+#define FRAME_BUILDER_VERSION "6.0.0"
 
 /* Sizes. */
 #define FRAME_BUILDER_MAX_PORTS 16
@@ -104,9 +101,6 @@
 #define FRAME_BUILDER_REFUSED_RUN_LENGTH 13
 #define FRAME_BUILDER_REFUSED_ENTRIES 14
 #define FRAME_BUILDER_REFUSED_SECOND_LENGTH 15
-#define FRAME_BUILDER_REFUSED_FRAME_ENTRIES 16
-#define FRAME_BUILDER_REFUSED_INPUT_FULL 17
-#define FRAME_BUILDER_REFUSED_OUTPUT_FULL 18
 #define FRAME_BUILDER_REFUSED_TOO_MANY_FLOWS 21 /* the sheet program has it too */
 #define FRAME_BUILDER_REFUSED_FLOW_PORT 22
 #define FRAME_BUILDER_REFUSED_FLOW_LINK 23
@@ -152,12 +146,6 @@ static inline const char *frame_builder_text(size_t number)
         return "an entry of the frame is wrong, or a port is used twice in a slot";
     case FRAME_BUILDER_REFUSED_SECOND_LENGTH:
         return "the second buffer's length differs from the frame's";
-    case FRAME_BUILDER_REFUSED_FRAME_ENTRIES:
-        return "an entry is wrong, or an output is used twice in a slot";
-    case FRAME_BUILDER_REFUSED_INPUT_FULL:
-        return "the flow's input has no idle slot";
-    case FRAME_BUILDER_REFUSED_OUTPUT_FULL:
-        return "the flow's output has no idle slot";
     case FRAME_BUILDER_REFUSED_TOO_MANY_FLOWS:
         return "there are more than 512 flows";
     case FRAME_BUILDER_REFUSED_FLOW_PORT:
@@ -286,50 +274,6 @@ size_t frame_builder_inspect(size_t side, size_t ports, size_t slots, const uint
  */
 size_t frame_builder_turn(size_t side, size_t ports, size_t slots, const uint16_t *list, size_t list_length, const uint16_t *frame,
                           size_t frame_length, uint16_t *second, size_t second_length);
-
-/* Add, since version 6.1: puts one more cell of a flow into a frame that is on air, without building it anew, by the exchange of Slepian
- * and Duguid. The frame is on the input side, and may have come from anywhere.
- *
- * If a slot has both the flow's input and its output idle, the lowest such slot gets the cell, and no cell is moved. Otherwise there are
- * two slots: the lowest in which the input is idle, and the lowest in which the output is idle. The cell goes into the first, where it
- * displaces the cell that goes to the same output. Each displaced cell goes to the other of the two slots, and displaces there the cell
- * that comes from its input or goes to its output, until nothing collides. Two flows of one output collide whatever their links are. *slot
- * is the slot that the cell was put into. *other is the second slot that changed, or 0 where there is one slot only. *moved is how many
- * cells were moved from one of the two to the other. They are at most 2 x ports - 3, so that there are never more than 29, and none with
- * one port.
- *
- * No other slot changes. The frame stays free of wrong entries, and no output is used twice in a slot. The flow has one entry more, and
- * every other flow as many as before. So a frame that is legal for a list is then legal for the list with that flow's cells one higher.
- * Such a frame is never refused where that list fits: where no input's and no output's load is above slots in it. All this is proved.
- *
- * Add looks neither at the cells of the list nor at the limits of links. Whoever adds has Admit accept the list with one cell more first,
- * and keeps that list from then on, for Inspect and for the next Build. Nobody else may use the frame while Add runs. So whoever carries it
- * meanwhile carries a copy, and takes over the changed slots afterwards.
- *
- * Add does not keep the frame balanced. From an accepted Add until the next accepted Build, Inspect may answer FAULT_UNBALANCED_BLOCK, and
- * what is proved of the frames of Build does not cover the frame: neither the accuracy rule, nor the bounds of leads at Service count, nor
- * what Depth answers. The next Build, of the list with the cells added, makes a frame that all of it covers again.
- *
- * A frame is refused with REFUSED_FRAME_ENTRIES where it has a wrong entry, or an output twice in a slot. Inspect, told the input side,
- * says which entry or which output: FAULT_WRONG_ENTRY or FAULT_PORT_TWICE. Any other frame is taken, also one that has a flow in the wrong
- * number of slots or an unbalanced block. REFUSED_FLOW_OR_PORT is about the flow.
- *
- *     answer                  *slot                    *other                              *moved             frame
- *     ACCEPTED                the slot of the cell     the second slot that changed, or 0  the cells moved    with the cell
- *     REFUSED_PORTS           0                        0                                   0                  as it was
- *     REFUSED_SLOTS           0                        0                                   0                  as it was
- *     REFUSED_LIST_LENGTH     0                        0                                   0                  as it was
- *     REFUSED_TOO_MANY_FLOWS  0                        0                                   0                  as it was
- *     REFUSED_FLOW_PORT       0                        0                                   0                  as it was
- *     REFUSED_FLOW_LINK       0                        0                                   0                  as it was
- *     REFUSED_FRAME_LENGTH    0                        0                                   0                  as it was
- *     REFUSED_FLOW_OR_PORT    0                        0                                   0                  as it was
- *     REFUSED_FRAME_ENTRIES   0                        0                                   0                  as it was
- *     REFUSED_INPUT_FULL      0                        0                                   0                  as it was
- *     REFUSED_OUTPUT_FULL     0                        0                                   0                  as it was
- */
-size_t frame_builder_add(size_t ports, size_t slots, const uint16_t *list, size_t list_length, uint16_t *frame, size_t frame_length,
-                         size_t flow, size_t *slot, size_t *other, size_t *moved);
 
 /* Slot view: which part of the caller's frame is the slot. It begins at frame + *start and has *size entries. It is the same part on either
  * side, so that Slot view is not told the side.

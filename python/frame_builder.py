@@ -22,15 +22,11 @@ idle. On the output side a slot has one number per output: that of the flow that
     [3, 2, 0, 0]
     >>> inspect(4, 4, flows, by_output, side=Side.OUTPUT) is None
     True
-    >>> add(4, 4, flows + [Flow(2, 3, 1)], frame, flow=6)
-    Added(slot=1, other=None, moved=0)
-    >>> slot_view(4, 4, frame, 1).tolist()
-    [1, 6, 0, 5]
 
-SIDES. A frame of build is on the input side, so is one that add changes, and turn returns a frame by the other side. The functions inspect,
-turn, count_flow, count_input and count_output are told the side of the frame that they are given: the argument side is Side.INPUT or
-Side.OUTPUT, and is Side.INPUT where it is left out. Any whole number does as well: 0 is the input side, and every other number is the
-output side. The ports that a slot has numbers of are those of the frame's side, and the others are those of the other side.
+SIDES. A frame of build is on the input side, and turn returns a frame by the other side. The functions inspect, turn, count_flow,
+count_input and count_output are told the side of the frame that they are given: the argument side is Side.INPUT or Side.OUTPUT, and is
+Side.INPUT where it is left out. Any whole number does as well: 0 is the input side, and every other number is the output side. The ports
+that a slot has numbers of are those of the frame's side, and the others are those of the other side.
 
 ANSWERS. A call that cannot be answered raises Refused, which has the number and the text of the refusal and its values. It raises the first
 refusal of its own order that holds. A refused call leaves everything as it was. Inspect returns a fault, and does not raise it.
@@ -43,7 +39,7 @@ ARRAYS. The arguments flows, limits and frame are lists, tuples or buffers:
   16-bit numbers is used without a copy where it is contiguous, aligned and can be written. One with single bytes is taken as the memory of
   such numbers, two bytes to a number, the low byte first. The numbers of any other buffer are copied as those of a list are.
 
-What is written, the argument frame of build and of add and the argument into of turn, is a list, or a buffer that is used without a copy.
+What is written, the argument frame of build and the argument into of turn, is a list, or a buffer that is used without a copy.
 
 A number that is not whole raises TypeError. One that is negative, or too large for its place, raises ValueError. None is cut off.
 
@@ -106,9 +102,6 @@ REFUSED_FLOW_OR_PORT = 12
 REFUSED_RUN_LENGTH = 13
 REFUSED_ENTRIES = 14
 REFUSED_SECOND_LENGTH = 15
-REFUSED_FRAME_ENTRIES = 16
-REFUSED_INPUT_FULL = 17
-REFUSED_OUTPUT_FULL = 18
 REFUSED_TOO_MANY_FLOWS = 21
 REFUSED_FLOW_PORT = 22
 REFUSED_FLOW_LINK = 23
@@ -134,9 +127,6 @@ _TEXTS = {
     REFUSED_RUN_LENGTH: "the run is longer than 1,000,000 slots",
     REFUSED_ENTRIES: "an entry of the frame is wrong, or a port is used twice in a slot",
     REFUSED_SECOND_LENGTH: "the second buffer's length differs from the frame's",
-    REFUSED_FRAME_ENTRIES: "an entry is wrong, or an output is used twice in a slot",
-    REFUSED_INPUT_FULL: "the flow's input has no idle slot",
-    REFUSED_OUTPUT_FULL: "the flow's output has no idle slot",
     REFUSED_TOO_MANY_FLOWS: "there are more than 512 flows",
     REFUSED_FLOW_PORT: "a flow's input or output is outside 1 to ports",
     REFUSED_FLOW_LINK: "a flow's link is outside 1 to 4",
@@ -201,17 +191,6 @@ class Built(NamedTuple):
 
     frame: object
     settled: int
-
-
-class Added(NamedTuple):
-    """What add answers: the slot that the cell was put into, the second slot that changed, and how many cells were moved between the two.
-
-    Where one slot alone changed, other is None and no cell was moved.
-    """
-
-    slot: int
-    other: Optional[int]
-    moved: int
 
 
 class Count(NamedTuple):
@@ -342,7 +321,6 @@ _SIGNATURES = {
     "build": ((*_SHAPE, *_SLICE, _NUMBERS, *_SLICE), (_SIZE, _SIZE, _SIZE)),
     "inspect": (_FRAME, (_SIZE, _SIZE)),
     "turn": ((*_FRAME, *_SLICE), ()),
-    "add": ((*_SHAPE, *_SLICE, *_SLICE, _SIZE), (_SIZE, _SIZE, _SIZE)),
     "slot_view": ((*_SHAPE, *_SLICE, _SIZE), (_SIZE, _SIZE)),
     "count_flow": (_COUNTED, (_SIZE, ctypes.c_int64)),
     "count_input": (_COUNTED, (_SIZE, ctypes.c_int64)),
@@ -353,7 +331,7 @@ _SIGNATURES = {
 }
 
 # The version that each call came with, where that is not the first of CALLS.
-_SINCE = {"add": "6.1"}
+_SINCE = {}
 
 _SONAME = f"libframe_builder.so.{CALLS}"
 _VARIABLE = "FRAME_BUILDER_LIBRARY"
@@ -627,15 +605,10 @@ def _entries(ports, slots):
 
 
 def _fill(ports, slots, flows, limits, frame):
-    """What Build answers. It fills memory."""
+    """What Build answers. It fills memory, which an accepted list then has its numbers from."""
     shape, numbers, most = _shape(ports, slots), _list(flows), _limits(limits, slots)
     written = _written(frame, "frame")
     answer = _ask("build", shape, _slice(_apart(numbers, written)), [_apart(most, written)], _slice(written))
-    return _taken_over(answer, written, frame)
-
-
-def _taken_over(answer, written, frame):
-    """The answer of a call that wrote memory. A list has its numbers from there where the call was accepted."""
     if answer[0] == ACCEPTED and isinstance(frame, list):
         frame[:] = written
     return answer
@@ -697,48 +670,13 @@ def turn(ports: int, slots: int, flows, frame, side: int = Side.INPUT, into=None
 
 
 def _fill_turned(ports, slots, flows, frame, side, into):
-    """What Turn answers. It fills memory."""
+    """What Turn answers. It fills memory, which an accepted list then has its numbers from."""
     told, shape, numbers, entries = _size(side, "side"), _shape(ports, slots), _list(flows), _read(frame, "frame")
     written = _written(into, "into")
     answer = _ask("turn", [told], shape, _slice(_apart(numbers, written)), _slice(_apart(entries, written)), _slice(written))
-    return _taken_over(answer, written, into)
-
-
-def add(ports: int, slots: int, flows, frame, flow: int) -> Added:
-    """Puts one more cell of a flow into a frame that is on air, without building it anew: returns Added.
-
-    The frame is on the input side, and is a list or a buffer that is changed in place. If a slot has both the flow's input and its output
-    idle, the lowest such slot gets the cell. Otherwise it goes into the lowest slot in which the input is idle. Cells that are then in the
-    way are moved between that slot and the lowest in which the output is idle, at most 2 x ports - 3 of them. No other slot changes, the
-    flow has one entry more, and every other flow as many as before. So a frame that is legal for a list is then legal for the list with
-    that flow's cells one higher, and is never refused where that list fits. All this is proved. A refusal leaves the frame as it was.
-
-    Neither the cells of flows nor any limits are looked at. Whoever adds has admit accept the list with one cell more first, and keeps that
-    list for inspect and for the next build. Until that build the frame may be unbalanced, fault 104, and what count_flow and depth_flow say
-    of frames that build made does not hold of it.
-
-    Refusals, in their order: 1, 2, 3, 21, 22, 23, 4, 12, 16, 17, 18. A frame is refused with 16 where inspect finds 101 or 102 in it.
-
-    >>> flows = [Flow(1, 1, 1), Flow(1, 2, 1), Flow(2, 1, 1)]
-    >>> frame = [0, 3, 2, 0]
-    >>> add(2, 2, flows, frame, flow=1)
-    Added(slot=1, other=2, moved=1)
-    >>> frame
-    [1, 0, 2, 3]
-    >>> add(2, 2, flows, frame, flow=1)
-    Traceback (most recent call last):
-    frame_builder.Refused: refused 17: the flow's input has no idle slot
-    """
-    slot, other, moved = _accepted(*_put_cell(ports, slots, flows, frame, _size(flow, "flow")))
-    return Added(slot, other or None, moved)
-
-
-def _put_cell(ports, slots, flows, frame, flow):
-    """What Add answers. It changes memory, which has the numbers of a list before."""
-    shape, numbers = _shape(ports, slots), _list(flows)
-    written = _read(frame, "frame") if isinstance(frame, list) else _written(frame, "frame")
-    answer = _ask("add", shape, _slice(_apart(numbers, written)), _slice(written), [flow])
-    return _taken_over(answer, written, frame)
+    if answer[0] == ACCEPTED and isinstance(into, list):
+        into[:] = written
+    return answer
 
 
 def slot_view(ports: int, slots: int, frame, slot: int):

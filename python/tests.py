@@ -16,7 +16,7 @@ import threading
 import unittest
 
 import frame_builder
-from frame_builder import Added, Count, Depth, Fault, Flow, Refused, Side, add, admit, build, count_flow, count_input, count_output
+from frame_builder import Count, Depth, Fault, Flow, Refused, Side, admit, build, count_flow, count_input, count_output
 from frame_builder import depth_flow, depth_input, depth_output, inspect, slot_view, turn
 
 TOP = os.path.dirname(os.path.dirname(os.path.abspath(__file__)))
@@ -27,9 +27,6 @@ TABLE7 = [Flow(1, 1, 2), Flow(1, 2, 2), Flow(4, 1, 1), Flow(4, 2, 1), Flow(4, 4,
 TABLE7_NUMBERS = [number for flow in TABLE7 for number in flow]
 TABLE7_FRAME = [1, 0, 0, 5, 2, 0, 0, 3, 1, 0, 0, 4, 2, 0, 0, 5]
 TABLE7_BY_OUTPUT = [1, 0, 0, 5, 3, 2, 0, 0, 1, 4, 0, 0, 0, 2, 0, 5]
-
-# The same frame without the last cell of flow 5.
-TABLE7_LESS = TABLE7_FRAME[:15] + [0]
 
 # Numbers for the output side.
 OUTPUTS = (Side.OUTPUT, 1, 2, 256, 2**32, 2**64 - 1, True)
@@ -68,7 +65,7 @@ class Header(unittest.TestCase):
 
     def test_text_of_no_answer(self):
         (said,) = re.findall(r"default:\s+return \"(.*)\";", self.HEADER)
-        for number in (9, 19, 25, 100, 105, -1, 2**64):
+        for number in (9, 16, 25, 100, 105, -1, 2**64):
             self.assertEqual(frame_builder.text(number), said)
 
     def test_every_later_version(self):
@@ -213,35 +210,6 @@ class Answers(unittest.TestCase):
         for into in ([9] * 16, array.array("H", [9] * 16)):
             self.refused(14, turn, 4, 4, TABLE7, TABLE7_FRAME, Side.OUTPUT, into)
             self.assertEqual(list(into), [9] * 16)
-
-    def test_add(self):
-        frame = list(TABLE7_LESS)
-        self.assertEqual(add(4, 4, TABLE7, frame, flow=5), Added(4, None, 0))
-        self.assertEqual(frame, TABLE7_FRAME)
-        # A flow for each pair, and three cells that are in the way of one from input 1 to output 1.
-        flows = [Flow(input_, output, 0, link=output) for input_ in (1, 2, 3) for output in (1, 2, 3)]
-        frame = [0, 4, 8, 3, 5, 0]
-        self.assertEqual(add(3, 2, flows, frame, flow=1), Added(1, 2, 3))
-        self.assertEqual(frame, [1, 5, 0, 3, 4, 8])
-
-    def test_refused_adds(self):
-        self.refuses_list(add, TABLE7_FRAME, 1)
-        self.refused(4, add, 4, 4, TABLE7, TABLE7_FRAME[1:], 0)
-        self.refused(4, add, 4, 4, TABLE7, [], 1)
-        for flow in (0, 6, 2**64 - 1):
-            self.refused(12, add, 4, 4, TABLE7, [9] * 16, flow)
-        self.refused(12, add, 4, 4, [], [0] * 16, 1)
-        self.refused(16, add, 4, 4, TABLE7, [9] * 16, 1)
-        self.refused(16, add, 4, 4, TABLE7, list(TABLE7_BY_OUTPUT), 1)
-        flows = [Flow(1, 2, 1), Flow(2, 2, 1, link=2)]
-        self.refused(16, add, 2, 1, flows, [1, 2], 1)
-        self.refused(17, add, 2, 1, flows, [1, 0], 1)
-        self.refused(18, add, 2, 1, flows, [1, 0], 2)
-
-    def test_refused_add_keeps_the_frame(self):
-        for frame in (list(TABLE7_FRAME), array.array("H", TABLE7_FRAME)):
-            self.refused(17, add, 4, 4, TABLE7, frame, 5)
-            self.assertEqual(list(frame), TABLE7_FRAME)
 
     def test_slot_view(self):
         for slot in range(1, 5):
@@ -394,12 +362,6 @@ class Arrays(unittest.TestCase):
                 self.assertIs(turn(4, 4, TABLE7, TABLE7_FRAME, into=form), form)
                 self.assertEqual(memoryview(form).tobytes(), array.array("H", TABLE7_BY_OUTPUT).tobytes())
 
-    def test_frame_that_is_changed(self):
-        for name, form in list(buffers(TABLE7_LESS)):
-            with self.subTest(name):
-                self.assertEqual(add(4, 4, TABLE7, form, 5), Added(4, None, 0))
-                self.assertEqual(memoryview(form).tobytes(), array.array("H", TABLE7_FRAME).tobytes())
-
     def test_list_that_is_written(self):
         frame = [None] * 16
         self.assertIs(build(4, 4, TABLE7, frame=frame).frame, frame)
@@ -413,8 +375,6 @@ class Arrays(unittest.TestCase):
             if name != "list":
                 with self.subTest(name), self.assertRaisesRegex(TypeError, "^frame has to be a list, or"):
                     build(4, 4, TABLE7, frame=form)
-                with self.subTest(name), self.assertRaisesRegex(TypeError, "^frame has to be a list, or"):
-                    add(4, 4, TABLE7, form, 1)
         for name, form in other_forms([0] * 16):
             if name != "list":
                 with self.subTest(name), self.assertRaisesRegex(TypeError, "^into has to be a list, or"):
@@ -425,9 +385,6 @@ class Arrays(unittest.TestCase):
         build(4, 4, TABLE7, frame=memoryview(memory)[16:32])
         self.assertEqual(memory.tolist(), [7] * 16 + TABLE7_FRAME + [7] * 16)
         turn(4, 4, TABLE7, memoryview(memory)[16:32], into=memoryview(memory)[32:])
-        self.assertEqual(memory.tolist(), [7] * 16 + TABLE7_FRAME + TABLE7_BY_OUTPUT)
-        memory[31] = 0
-        add(4, 4, TABLE7, memoryview(memory)[16:32], 5)
         self.assertEqual(memory.tolist(), [7] * 16 + TABLE7_FRAME + TABLE7_BY_OUTPUT)
 
     def test_frame_that_is_turned_in_place(self):
@@ -455,10 +412,6 @@ class Arrays(unittest.TestCase):
         self.assertEqual(build(1, 4, flows, frame=flows), (array.array("H", [1, 0, 1, 0]), 2))
         limits = array.array("H", frame_builder.slots_each(64))
         self.assertEqual(build(1, 64, [Flow(1, 1, 64)], limits, limits).frame.tolist(), [1] * 64)
-        # Four cells of the flow, and a list of the same numbers behind which there are idle slots.
-        memory = memoryview(array.array("H", [1, 1, 1, 1, 0, 0, 0, 0]))
-        self.assertEqual(add(1, 8, memory[:4], memory, 1), Added(5, None, 0))
-        self.assertEqual(memory.tolist(), [1, 1, 1, 1, 1, 0, 0, 0])
 
     def test_what_is_written_is_apart(self):
         memory = memoryview(array.array("H", range(12)))
@@ -474,7 +427,6 @@ class Arrays(unittest.TestCase):
             lambda flows, frame: inspect(4, 8, flows, frame),
             lambda flows, frame: turn(4, 8, flows, frame),
             lambda flows, frame: turn(4, 8, flows, [0] * 16, into=frame),
-            lambda flows, frame: add(4, 8, flows, frame, 1),
             lambda flows, frame: slot_view(4, 8, frame, 1),
             lambda flows, frame: count_flow(4, 8, flows, frame, 1, 1, 1),
         ):
@@ -496,8 +448,6 @@ class Arrays(unittest.TestCase):
             inspect(4, 4, TABLE7, bytes(31))
         with self.assertRaisesRegex(ValueError, "into has 31 bytes, which are no whole number of 16-bit numbers"):
             turn(4, 4, TABLE7, TABLE7_FRAME, into=bytearray(31))
-        with self.assertRaisesRegex(ValueError, "frame has 31 bytes, which are no whole number of 16-bit numbers"):
-            add(4, 4, TABLE7, bytearray(31), 1)
         with self.assertRaisesRegex(ValueError, "flows has 7 bytes"):
             admit(4, 4, bytearray(7))
 
@@ -517,8 +467,6 @@ class Numbers(unittest.TestCase):
                         call(*arguments, TABLE7)
             with self.assertRaisesRegex(error, "^slot is "):
                 slot_view(4, 4, TABLE7_FRAME, bad)
-            with self.assertRaisesRegex(error, "^flow is "):
-                add(4, 4, TABLE7, TABLE7_FRAME, bad)
             for call, name in ((count_flow, "flow"), (count_input, "input"), (count_output, "output")):
                 for place, named in enumerate((name, "start", "length")):
                     run = [1, 1, 1]
@@ -544,8 +492,6 @@ class Numbers(unittest.TestCase):
                 inspect(4, 4, TABLE7, TABLE7_FRAME[:15] + [bad])
             with self.assertRaisesRegex(error, r"^frame\[15\] is "):
                 turn(4, 4, TABLE7, TABLE7_FRAME[:15] + [bad])
-            with self.assertRaisesRegex(error, r"^frame\[15\] is "):
-                add(4, 4, TABLE7, TABLE7_FRAME[:15] + [bad], 1)
 
     def test_numbers_of_buffers(self):
         for typecode, bad in (("h", -1), ("I", 65536), ("q", -65535)):
@@ -564,8 +510,6 @@ class Numbers(unittest.TestCase):
                 inspect(4, 4, TABLE7, nothing)
             with self.assertRaisesRegex(TypeError, "^frame is .*, and has to be a list, a tuple or a buffer"):
                 turn(4, 4, TABLE7, nothing)
-            with self.assertRaisesRegex(TypeError, "^frame has to be a list, or"):
-                add(4, 4, TABLE7, nothing, 1)
         for flow in ((1, 1), (1, 1, 1, 1, 1), "ab", {}, 3):
             with self.assertRaisesRegex(TypeError, "^flow 2 is .*, and has to be a Flow, or a tuple of its three or four numbers"):
                 admit(4, 4, [Flow(1, 1, 1), flow])
@@ -681,36 +625,6 @@ class Frames(unittest.TestCase):
                     )
                 self.assertIsNone(inspect(ports, slots, flows, turned, Side.OUTPUT))
                 self.assertEqual(turn(ports, slots, flows, turned, Side.OUTPUT), frame)
-
-    def added_as_admitted(self, ports, slots, flows, frame, number):
-        """Adds a cell of a flow, if admit accepts the list with that cell: returns the list that the frame then carries."""
-        flow, before = flows[number - 1], frame.tolist()
-        more = [*flows[: number - 1], flow._replace(cells=flow.cells + 1), *flows[number:]]
-        try:
-            admit(ports, slots, more)
-        except Refused as overload:
-            with self.assertRaises(Refused) as raised:
-                add(ports, slots, flows, frame, number)
-            self.assertEqual(raised.exception.number, {5: 17, 6: 18}[overload.number])
-            self.assertEqual(frame.tolist(), before)
-            return flows
-        added = add(ports, slots, flows, frame, number)
-        changed = [place for place, entry in enumerate(frame) if entry != before[place]]
-        self.assertLessEqual({place // ports + 1 for place in changed}, {added.slot, added.other})
-        self.assertEqual((frame[(added.slot - 1) * ports + flow.input - 1], added.moved > 0), (number, added.other is not None))
-        self.assertEqual(added.moved, sum(before[place] > 0 for place in changed))
-        self.assertLessEqual(added.moved, max(0, 2 * ports - 3))
-        fault = inspect(ports, slots, more, frame)
-        self.assertIn(fault and fault.number, (None, frame_builder.FAULT_UNBALANCED_BLOCK))
-        return more
-
-    def test_random_adds(self):
-        for seed in range(100):
-            ports, slots, flows = random_case(seed)
-            frame, chance = build(ports, slots, flows).frame, random.Random(seed)
-            with self.subTest(seed=seed):
-                for _ in range(20 if flows else 0):
-                    flows = self.added_as_admitted(ports, slots, flows, frame, chance.randint(1, len(flows)))
 
     def test_random_counts(self):
         for seed in range(100):

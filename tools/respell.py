@@ -3,6 +3,7 @@
 
 usage: tools/respell.py names          in every .antt file, and in the clauses and ghost items of every .rt file, below crates/
        tools/respell.py edits COMMIT   in every must-fail edit, by what became of the files since COMMIT, at which the edits still applied
+       tools/respell.py pages COMMIT   in the code spans of the .md files, the names that COMMIT's files declared
 
 Names are whole words. A name is turned if a file of specs/ or proofs/ declares it and no file brings it in from the kit's library. Types keep
 their spelling; so do functions of src/, which may share a name with a definition. CHOSEN has the names that would fall together with another one, and what they are called instead.
@@ -213,12 +214,29 @@ def turn_edits(root, commit):
     print(f"respell: {left} edits are left")
 
 
+def turn_pages(root, commit):
+    def git(*words):
+        return subprocess.run(["git", *words], cwd=root, capture_output=True, text=True, check=True).stdout
+
+    declared = set()
+    for path in git("ls-tree", "-r", "--name-only", commit, "crates").split():
+        if path.endswith(".antt"):
+            for m in DECLARED.finditer("".join(t for t, quiet in parts(git("show", f"{commit}:{path}"), "--") if not quiet)):
+                declared.update(m.group(2).split())
+    turn = {n: CHOSEN.get(n, snake(n)) for n in declared if ODD.fullmatch(n)}
+    for path in git("ls-files", "*.md").split():
+        was = read(os.path.join(root, path))
+        write(os.path.join(root, path), re.sub(r"`[^`\n]+`", lambda m: WORD.sub(lambda w: turn.get(w.group(0), w.group(0)), m.group(0).replace("`", " ")[1:-1]).join("``"), was), was)
+
+
 def main(argv):
     root = subprocess.run(["git", "rev-parse", "--show-toplevel"], capture_output=True, text=True, check=True).stdout.strip()
     if argv == ["names"]:
         turn_names(root)
     elif len(argv) == 2 and argv[0] == "edits":
         turn_edits(root, argv[1])
+    elif len(argv) == 2 and argv[0] == "pages":
+        turn_pages(root, argv[1])
     else:
         print(__doc__)
         return 2

@@ -1,6 +1,6 @@
 /* Holds the calls to what the header says of them: the texts, every answer with what the lent numbers and the frames then hold, the sides
- * of a frame, cells added until nothing fits, the counts of links and of the total, slices of length 0, slices and limits beside memory that
- * must not be touched, and two threads at once. The last line is 'N passed, M failed'.
+ * of a frame, the counts of links and of the total, slices of length 0, slices and limits beside memory that must not be touched, and two
+ * threads at once. The last line is 'N passed, M failed'.
  */
 #define _GNU_SOURCE
 #include <errno.h>
@@ -55,9 +55,6 @@ static const size_t numbers[] = {
     FRAME_BUILDER_REFUSED_RUN_LENGTH,
     FRAME_BUILDER_REFUSED_ENTRIES,
     FRAME_BUILDER_REFUSED_SECOND_LENGTH,
-    FRAME_BUILDER_REFUSED_FRAME_ENTRIES,
-    FRAME_BUILDER_REFUSED_INPUT_FULL,
-    FRAME_BUILDER_REFUSED_OUTPUT_FULL,
     FRAME_BUILDER_REFUSED_TOO_MANY_FLOWS,
     FRAME_BUILDER_REFUSED_FLOW_PORT,
     FRAME_BUILDER_REFUSED_FLOW_LINK,
@@ -67,7 +64,7 @@ static const size_t numbers[] = {
     FRAME_BUILDER_FAULT_FLOW_COUNT,
     FRAME_BUILDER_FAULT_UNBALANCED_BLOCK,
     9, /* no answer, as those below */
-    19,
+    16,
     20,
     25,
     100,
@@ -104,7 +101,7 @@ static size_t side = FRAME_BUILDER_INPUT_SIDE;
 
 /* Answers. */
 
-enum call { ADMIT, BUILD, ADD, INSPECT, SLOT_VIEW, DEPTH_FLOW, DEPTH_INPUT, DEPTH_OUTPUT, COUNT_FLOW, COUNT_INPUT, COUNT_OUTPUT };
+enum call { ADMIT, BUILD, INSPECT, SLOT_VIEW, DEPTH_FLOW, DEPTH_INPUT, DEPTH_OUTPUT, COUNT_FLOW, COUNT_INPUT, COUNT_OUTPUT };
 
 /* What a call is lent. */
 struct lent {
@@ -113,7 +110,7 @@ struct lent {
     size_t list_length;
     const uint16_t *limits;
     uint16_t *frame;
-    size_t frame_length, slot, length, whose; /* slot: Service count's start; whose: its flow or port, Depth's, and Add's flow */
+    size_t frame_length, slot, length, whose; /* slot: Service count's start; whose: its flow or port, and Depth's */
 };
 
 /* Each lent number stands between two that must stay. */
@@ -133,8 +130,6 @@ static size_t make_call(enum call call, const struct lent *l, struct numbers *n)
     case BUILD:
         return frame_builder_build(l->ports, l->slots, l->list, l->list_length, l->limits, l->frame, l->frame_length, first, second,
                                    third);
-    case ADD:
-        return frame_builder_add(l->ports, l->slots, l->list, l->list_length, l->frame, l->frame_length, l->whose, first, second, third);
     case INSPECT:
         return frame_builder_inspect(side, l->ports, l->slots, l->list, l->list_length, l->frame, l->frame_length, first, second);
     case SLOT_VIEW:
@@ -157,20 +152,20 @@ static size_t make_call(enum call call, const struct lent *l, struct numbers *n)
     }
 }
 
-/* The call answers with these numbers and writes nothing else beside them. A count's second value is its lead; only Admit, Build and Add
- * have a third. */
+/* The call answers with these numbers and writes nothing else beside them. A count's second value is its lead; only Admit and Build have a
+ * third. */
 static int answers_three(enum call call, const struct lent *lent, size_t number, size_t first, int64_t second, size_t third)
 {
     struct numbers n = {UNSET, UNSET, UNSET, UNSET, UNSET, UNSET_LEAD, UNSET, UNSET, UNSET};
     errno = ERRNO;
     size_t got = make_call(call, lent, &n);
-    size_t expected = call < COUNT_FLOW ? (size_t)second : UNSET, last = call <= ADD ? third : UNSET;
+    size_t expected = call < COUNT_FLOW ? (size_t)second : UNSET, last = call <= BUILD ? third : UNSET;
     int64_t lead = call < COUNT_FLOW ? UNSET_LEAD : second;
     return got == number && n.first == first && n.second == expected && n.lead == lead && n.third == last && n.before == UNSET
            && n.between == UNSET && n.beside == UNSET && n.after == UNSET && n.behind == UNSET && errno == ERRNO;
 }
 
-/* The same of an answer without a third value, which only a link's load and what Add accepts have. */
+/* The same of an answer other than a link's load, which alone has a third value. */
 static int answers(enum call call, const struct lent *lent, size_t number, size_t first, int64_t second)
 {
     return answers_three(call, lent, number, first, second, 0);
@@ -563,94 +558,6 @@ static const struct turned turned_by_output[] = {
     {"turn by output: a frame of the input side", {4, 4, LIST(table7), FRAME(built), 0, 0, 0}, 16, 14, NULL},
 };
 
-/* What Add is lent, its answer with what it writes, and what an accepted call leaves in the frame. The limits and the run are not looked
- * at. */
-struct added {
-    const char *what;
-    struct lent lent;
-    size_t number, slot, other, moved;
-    const uint16_t *frame;
-};
-
-/* A flow for each pair in matrix order: 4 x (input - 1) + output is that of a pair. Three have cells, which Add does not look at. */
-static const uint16_t pairs[] = {1, 1, 0, 1, 1, 2, 0, 2, 1, 3, 65535, 3, 1, 4, 0, 4, 2, 1, 9, 1, 2, 2, 0, 2, 2, 3, 0, 3, 2, 4, 0, 4,
-                                 3, 1, 0, 4, 3, 2, 0, 3, 3, 3, 65535, 2, 3, 4, 0, 1, 4, 1, 0, 4, 4, 2, 0, 3, 4, 3, 0, 2, 4, 4, 0, 1};
-
-/* Input 1 is idle in slots 2 and 4, and output 1 in slot 3 alone. All cells of slots 2 and 3 but one are in the way of flow 1. */
-static uint16_t in_the_way[SLOTS * PORTS] = {2, 5, 0, 0, 0, 5, 10, 15, 4, 6, 11, 0, 0, 5, 0, 0};
-static uint16_t out_of_the_way[SLOTS * PORTS] = {2, 5, 0, 0, 1, 6, 11, 0, 4, 5, 10, 15, 0, 5, 0, 0};
-
-/* The same with the slots in another order, so that output 1 is idle before input 1 is. */
-static uint16_t output_first[SLOTS * PORTS] = {4, 6, 11, 0, 2, 5, 0, 0, 0, 5, 10, 15, 3, 0, 0, 0};
-static uint16_t output_first_after[SLOTS * PORTS] = {4, 5, 10, 15, 2, 5, 0, 0, 1, 6, 11, 0, 3, 0, 0, 0};
-
-/* One cell is in the way, and then two; what stands beside them stays. */
-static uint16_t one_in_the_way[SLOTS * PORTS] = {0, 5, 12, 15, 2, 0, 12, 15, 2, 0, 0, 0, 2, 5, 0, 0};
-static uint16_t one_moved[SLOTS * PORTS] = {1, 0, 12, 15, 2, 5, 12, 15, 2, 0, 0, 0, 2, 5, 0, 0};
-static uint16_t two_in_the_way[SLOTS * PORTS] = {0, 5, 12, 0, 2, 7, 12, 0, 2, 5, 0, 0, 2, 5, 0, 0};
-static uint16_t two_moved[SLOTS * PORTS] = {1, 7, 12, 0, 2, 5, 12, 0, 2, 5, 0, 0, 2, 5, 0, 0};
-
-/* In slots 2 and 4 both ports of flow 1 are idle. In slot 1 its input alone is, and then its output alone. */
-static uint16_t input_before[SLOTS * PORTS] = {0, 5, 0, 0, 0, 6, 11, 16, 2, 0, 0, 0, 0, 0, 0, 0};
-static uint16_t input_before_after[SLOTS * PORTS] = {0, 5, 0, 0, 1, 6, 11, 16, 2, 0, 0, 0, 0, 0, 0, 0};
-static uint16_t output_before[SLOTS * PORTS] = {2, 0, 0, 0, 0, 6, 11, 16, 0, 5, 0, 0, 0, 0, 0, 0};
-static uint16_t output_before_after[SLOTS * PORTS] = {2, 0, 0, 0, 1, 6, 11, 16, 0, 5, 0, 0, 0, 0, 0, 0};
-
-/* Flow 1 in every slot, and flows in slot 1 alone. */
-static uint16_t always_first[SLOTS * PORTS] = {1, 0, 0, 0, 1, 0, 0, 0, 1, 0, 0, 0, 1, 0, 0, 0};
-static uint16_t first_alone[SLOTS * PORTS] = {1, 0, 0, 0};
-static uint16_t second_alone[SLOTS * PORTS] = {0, 2, 0, 0};
-static uint16_t first_and_second[SLOTS * PORTS] = {1, 2, 0, 0};
-
-/* Two flows of output 1 on different links, and another flow of input 1. */
-static const uint16_t of_two_links[] = {1, 1, 1, 1, 2, 1, 1, 2, 1, 2, 1, 1};
-static uint16_t links_collide[SLOTS * PORTS] = {0, 2, 0, 0, 3, 0, 0, 0, 3, 2, 0, 0, 3, 2, 0, 0};
-static uint16_t links_apart[SLOTS * PORTS] = {1, 0, 0, 0, 3, 2, 0, 0, 3, 2, 0, 0, 3, 2, 0, 0};
-
-/* Every answer; the refusals are each with one that comes after it. */
-static const struct added additions[] = {
-    {"add: idle frame", {4, 4, LIST(pairs), FRAME(idle), 0, 0, 1}, 0, 1, 0, 0, first_alone},
-    {"add: cells and limits are not looked at", {4, 4, LIMITED(input_full, closed), FRAME(idle), 0, 0, 2}, 0, 1, 0, 0, second_alone},
-    {"add: 512 flows", {4, 4, too_many, MOST_FLOWS *OF_FLOW, unlimited, FRAME(idle), 0, 0, 1}, 0, 1, 0, 0, first_alone},
-    {"add: a flow that lacks a cell", {4, 4, LIST(table7), FRAME(miscounted), 0, 0, 5}, 0, 4, 0, 0, built},
-    {"add: input idle before", {4, 4, LIST(pairs), FRAME(input_before), 0, 0, 1}, 0, 2, 0, 0, input_before_after},
-    {"add: output idle before", {4, 4, LIST(pairs), FRAME(output_before), 0, 0, 1}, 0, 2, 0, 0, output_before_after},
-    {"add: one cell moved", {4, 4, LIST(pairs), FRAME(one_in_the_way), 0, 0, 1}, 0, 1, 2, 1, one_moved},
-    {"add: two cells moved", {4, 4, LIST(pairs), FRAME(two_in_the_way), 0, 0, 1}, 0, 1, 2, 2, two_moved},
-    {"add: the most cells moved", {4, 4, LIST(pairs), FRAME(in_the_way), 0, 0, 1}, 0, 2, 3, 5, out_of_the_way},
-    {"add: output idle in an earlier slot", {4, 4, LIST(pairs), FRAME(output_first), 0, 0, 1}, 0, 3, 1, 5, output_first_after},
-    {"add: links of one output collide", {4, 4, LIST(of_two_links), FRAME(links_collide), 0, 0, 1}, 0, 1, 2, 1, links_apart},
-    {"add: ports 0, and slots", {0, 3, LIST(table7), FRAME(idle), 0, 0, 1}, 1, 0, 0, 0, NULL},
-    {"add: ports 17, and slots", {17, 3, LIST(table7), FRAME(idle), 0, 0, 1}, 1, 0, 0, 0, NULL},
-    {"add: slots, and the list length", {4, 5, table7, 19, unlimited, FRAME(idle), 0, 0, 1}, 2, 0, 0, 0, NULL},
-    {"add: list length, and 513 flows", {4, 4, LIST(too_many_and_one), FRAME(idle), 0, 0, 1}, 3, 0, 0, 0, NULL},
-    {"add: 513 flows, and a flow's port", {4, 4, LIST(too_many), FRAME(idle), 0, 0, 1}, 21, 0, 0, 0, NULL},
-    {"add: a flow's port, and its link", {4, 4, LIST(outside), FRAME(idle), 0, 0, 1}, 22, 0, 0, 0, NULL},
-    {"add: a flow's link, and the frame length", {4, 4, LIST(link_0), idle, 15, 0, 0, 1}, 23, 0, 0, 0, NULL},
-    {"add: frame length, and flow 0", {4, 4, LIST(table7), built, 15, 0, 0, 0}, 4, 0, 0, 0, NULL},
-    {"add: flow 0, and a wrong entry", {4, 4, LIST(table7), FRAME(above), 0, 0, 0}, 12, 0, 0, 0, NULL},
-    {"add: flow 6, and an output twice", {4, 4, LIST(table7), FRAME(twice), 0, 0, 6}, 12, 0, 0, 0, NULL},
-    {"add: flow 65537", {4, 4, LIST(table7), FRAME(idle), 0, 0, 65537}, 12, 0, 0, 0, NULL},
-    {"add: a flow far outside", {4, 4, LIST(table7), FRAME(idle), 0, 0, SIZE_MAX}, 12, 0, 0, 0, NULL},
-    {"add: entry above the flows, and the input full", {4, 4, LIST(table7), FRAME(above), 0, 0, 1}, 16, 0, 0, 0, NULL},
-    {"add: entry of another input's flow", {4, 4, LIST(table7), FRAME(of_other), 0, 0, 1}, 16, 0, 0, 0, NULL},
-    {"add: output twice, and the input full", {4, 4, LIST(table7), FRAME(twice), 0, 0, 1}, 16, 0, 0, 0, NULL},
-    {"add: output twice, over two links", {4, 4, LIST(of_two_links), FRAME(first_and_second), 0, 0, 1}, 16, 0, 0, 0, NULL},
-    {"add: a frame of the output side", {4, 4, LIST(table7), FRAME(out_built), 0, 0, 1}, 16, 0, 0, 0, NULL},
-    {"add: any entries", {4, 4, LIST(table7), FRAME(crowded), 0, 0, 1}, 16, 0, 0, 0, NULL},
-    {"add: input full", {4, 4, LIST(table7), FRAME(built), 0, 0, 5}, 17, 0, 0, 0, NULL},
-    {"add: input full, unbalanced block", {4, 4, LIST(table7), FRAME(bunched), 0, 0, 1}, 17, 0, 0, 0, NULL},
-    {"add: input and output full", {4, 4, LIST(on_one), FRAME(always_first), 0, 0, 1}, 17, 0, 0, 0, NULL},
-    {"add: output full", {4, 4, LIST(on_one), FRAME(always_first), 0, 0, 4}, 18, 0, 0, 0, NULL},
-    {"add: output full, over two links", {4, 4, LIST(on_two), FRAME(in_order), 0, 0, 1}, 18, 0, 0, 0, NULL},
-    {"add: no flows", {4, 4, NO_LIST, FRAME(idle), 0, 0, 1}, 12, 0, 0, 0, NULL},
-    {"add: no flows, wrong entry", {4, 4, NO_LIST, FRAME(built), 0, 0, 0}, 12, 0, 0, 0, NULL},
-    {"add: no frame", {4, 4, LIST(table7), NO_FRAME, 0, 0, 1}, 4, 0, 0, 0, NULL},
-    {"add: nothing", {4, 4, NO_LIST, NO_FRAME, 0, 0, 1}, 4, 0, 0, 0, NULL},
-    {"add: nothing, ports 0", {0, 4, NO_LIST, NO_FRAME, 0, 0, 1}, 1, 0, 0, 0, NULL},
-    {"add: nothing, slots 0", {4, 0, NO_LIST, NO_FRAME, 0, 0, 1}, 2, 0, 0, 0, NULL},
-};
-
 static void fill_too_many(void)
 {
     for (size_t flow = 0; flow <= MOST_FLOWS; flow++) {
@@ -687,23 +594,16 @@ static struct fenced fence(void)
     return fenced;
 }
 
-/* The same with a pointer to memory that may not be used where the null pointer is. */
-static struct lent without_null(struct lent lent, uint16_t *forbidden)
-{
-    if (lent.list == NULL)
-        lent.list = forbidden;
-    if (lent.frame == NULL)
-        lent.frame = forbidden;
-    return lent;
-}
-
 /* One answer; a slice of length 0 has the null pointer and then one to memory that may not be used. */
 static void check_answer(const struct expected *e, uint16_t *forbidden)
 {
     struct lent lent = e->lent;
     for (int turn = 0; turn < 2; turn++) {
         check(e->call == BUILD ? builds(e, lent) : answers(e->call, &lent, e->number, e->first, e->second), e->what);
-        lent = without_null(lent, forbidden);
+        if (lent.list == NULL)
+            lent.list = forbidden;
+        if (lent.frame == NULL)
+            lent.frame = forbidden;
     }
 }
 
@@ -712,7 +612,7 @@ static int is_told_side(enum call call)
     return call == INSPECT || call >= COUNT_FLOW;
 }
 
-/* Every answer of every call but Turn and Add, with every number for its side. */
+/* Every answer of every call but Turn, with every number for its side. */
 static void check_answers(void)
 {
     uint16_t *forbidden = fence().end;
@@ -762,7 +662,10 @@ static void check_turned(const struct turned *table, size_t rows, uint16_t *forb
     for (size_t place = 0; place < rows; place++) {
         struct lent lent = table[place].lent;
         check(is_turned(table + place, &lent, NULL), table[place].what);
-        lent = without_null(lent, forbidden);
+        if (lent.list == NULL)
+            lent.list = forbidden;
+        if (lent.frame == NULL)
+            lent.frame = forbidden;
         check(is_turned(table + place, &lent, forbidden), table[place].what);
     }
 }
@@ -779,35 +682,6 @@ static void check_turn(void)
         check_turned(turned_by_output, COUNT_OF(turned_by_output), forbidden);
     }
     side = FRAME_BUILDER_INPUT_SIDE;
-}
-
-/* Add. */
-
-/* Add changes a copy of the frame as the table says, and no entry before or behind it. */
-static int is_added(const struct added *a, struct lent lent)
-{
-    uint16_t whole[1 + SLOTS * PORTS + 1], expected[COUNT_OF(whole)];
-    size_t bytes = lent.frame_length * sizeof *whole;
-    memset(whole, 0xaa, sizeof whole);
-    if (bytes > 0) {
-        memcpy(whole + 1, lent.frame, bytes);
-        lent.frame = whole + 1;
-    }
-    memcpy(expected, whole, sizeof whole);
-    if (a->number == FRAME_BUILDER_ACCEPTED)
-        memcpy(expected + 1, a->frame, bytes);
-    return answers_three(ADD, &lent, a->number, a->slot, (int64_t)a->other, a->moved) && memcmp(whole, expected, sizeof whole) == 0;
-}
-
-/* Every answer of Add, which is told no side. A slice of length 0 is as in the tables above. */
-static void check_add(void)
-{
-    uint16_t *forbidden = fence().end;
-    for (size_t place = 0; place < COUNT_OF(additions); place++) {
-        const struct added *a = additions + place;
-        check(is_added(a, a->lent), a->what);
-        check(is_added(a, without_null(a->lent, forbidden)), a->what);
-    }
 }
 
 /* Odd counts settled. */
@@ -897,72 +771,6 @@ static void fill_load(uint16_t *list, size_t ports, size_t slots, size_t each, s
     }
 }
 
-/* Cells added until nothing fits. */
-
-/* So many cells of the one slot or the two were moved as Add says, and no other slot has changed. */
-static int has_moved(const struct lent *lent, const uint16_t *before, const struct numbers *n)
-{
-    size_t found = 0;
-    for (size_t place = 0; place < lent->frame_length; place++) {
-        size_t slot = place / lent->ports + 1;
-        if (lent->frame[place] == before[place])
-            continue;
-        if (slot != n->first && slot != n->second)
-            return 0;
-        found += before[place] != 0;
-    }
-    return found == n->third && (found == 0 || found <= 2 * lent->ports - 3);
-}
-
-/* A cell of a flow is admitted and added. Add accepts what Admit does, and the frame is then legal for the list with that cell: it is clean,
- * or only unbalanced. What Admit refuses, Add refuses for the same port, and leaves the frame and the list as they were. */
-static int adds_as_admitted(struct lent *lent, uint16_t *list, size_t flow)
-{
-    static uint16_t before[MOST_FRAME];
-    struct numbers admitted = {0}, n = {0}, found = {0};
-    lent->whose = flow;
-    memcpy(before, lent->frame, lent->frame_length * sizeof *before);
-    list[(flow - 1) * OF_FLOW + 2]++;
-    size_t fits = make_call(ADMIT, lent, &admitted), number = make_call(ADD, lent, &n);
-    if (fits == FRAME_BUILDER_ACCEPTED) {
-        size_t fault = make_call(INSPECT, lent, &found);
-        return number == FRAME_BUILDER_ACCEPTED && (fault == FRAME_BUILDER_CLEAN || fault == FRAME_BUILDER_FAULT_UNBALANCED_BLOCK)
-               && has_moved(lent, before, &n);
-    }
-    list[(flow - 1) * OF_FLOW + 2]--;
-    return number == (fits == FRAME_BUILDER_REFUSED_INPUT_LOAD ? FRAME_BUILDER_REFUSED_INPUT_FULL : FRAME_BUILDER_REFUSED_OUTPUT_FULL)
-           && n.first == 0 && n.second == 0 && n.third == 0 && memcmp(before, lent->frame, lent->frame_length * sizeof *before) == 0;
-}
-
-/* Cells are added to an idle frame, of one flow after the other in any order, until it is full. Then each flow is refused. */
-static void check_until_full(size_t ports, size_t slots)
-{
-    static uint16_t list[MOST_PORTS * MOST_PORTS * OF_FLOW], frame[MOST_FRAME];
-    size_t flows = ports * ports, chance = ports + slots, cells = 0;
-    struct lent lent = {ports, slots, list, flows * OF_FLOW, unlimited, frame, slots * ports, 0, 0, 0};
-    int good = 1;
-    memset(frame, 0, sizeof frame);
-    for (size_t flow = 0; flow < flows; flow++)
-        put_flow(list, flow, flow / ports, flow % ports, 0);
-    for (size_t turn = 0; turn < 4 * flows * slots; turn++) {
-        chance = chance * 6364136223846793005u + 1442695040888963407u;
-        good &= adds_as_admitted(&lent, list, (chance >> 33) % flows + 1);
-    }
-    for (size_t flow = 1; flow <= flows; flow++)
-        for (size_t turn = 0; turn <= slots; turn++)
-            good &= adds_as_admitted(&lent, list, flow);
-    for (size_t place = 0; place < lent.frame_length; place++)
-        cells += frame[place] != 0;
-    check(good && cells == lent.frame_length, "cells are added until the frame is full");
-}
-
-static void check_adding(void)
-{
-    for (size_t ports = 1; ports <= MOST_PORTS; ports = ports < 4 ? ports + 1 : ports * 2)
-        for (size_t slots = 1; slots <= 16; slots *= 2)
-            check_until_full(ports, slots);
-}
-
 /* As many slots as flows at an input, every count 1: each cell is odd in a block of every size, so that the bound is reached. */
 static void check_settled(void)
 {
@@ -1000,30 +808,6 @@ static int turns_twice(struct lent lent, struct lent of_flow, size_t cells, uint
     return same;
 }
 
-/* In a full frame the flow's input is made idle in the first slot in which another sends to its output, and the output in the last. A cell
- * of the flow is then added, and others are moved between the two. With one port, or in two slots, there may be no such two. */
-static int exchanges(struct lent lent, size_t flow)
-{
-    static uint16_t before[MOST_FRAME];
-    const uint16_t *numbers = lent.list + (flow - 1) * OF_FLOW;
-    size_t ports = lent.ports, own = numbers[0] - 1, first = 0, last = 0;
-    struct numbers n = {0};
-    lent.whose = flow;
-    for (size_t place = 0; place < lent.frame_length; place++) {
-        size_t output = lent.list[(lent.frame[place] - 1) * OF_FLOW + 1];
-        if (output != numbers[1] || place % ports == own)
-            continue;
-        first = first == 0 ? place / ports + 1 : first;
-        last = place;
-    }
-    if (first == 0 || first == last / ports + 1)
-        return ports == 1 || lent.slots <= 2;
-    lent.frame[(first - 1) * ports + own] = lent.frame[last] = 0;
-    memcpy(before, lent.frame, lent.frame_length * sizeof *before);
-    return make_call(ADD, &lent, &n) == FRAME_BUILDER_ACCEPTED && n.first == first && n.second == last / ports + 1 && n.third > 0
-           && has_moved(&lent, before, &n);
-}
-
 /* All calls are accepted, with the cells of a full load in whole turns, on this list, of so many flows at each input, with these limits,
  * this frame and this second buffer. */
 static int all_accept(size_t ports, size_t slots, size_t each, uint16_t *list, const uint16_t *limits, uint16_t *frame, uint16_t *second)
@@ -1036,8 +820,7 @@ static int all_accept(size_t ports, size_t slots, size_t each, uint16_t *list, c
     size_t cells = length / slots * list[(flows - each) * OF_FLOW + 2];
     return answers(ADMIT, &lent, 0, 0, 0) && answers(BUILD, &lent, 0, settled(slots, list, flows), 0) && is_full(&lent, &of_flow, cells)
            && answers(SLOT_VIEW, &lent, 0, (slots - 1) * ports, (int64_t)ports) && turns_twice(lent, of_flow, cells, second)
-           && answers(DEPTH_INPUT, &lent, 0, 0, 1) && answers(DEPTH_OUTPUT, &lent, 0, 0, 1)
-           && answers(ADD, &of_flow, FRAME_BUILDER_REFUSED_INPUT_FULL, 0, 0) && exchanges(lent, flows);
+           && answers(DEPTH_INPUT, &lent, 0, 0, 1) && answers(DEPTH_OUTPUT, &lent, 0, 0, 1);
 }
 
 /* Limits that no load is above, in memory that may only be read. */
@@ -1299,13 +1082,11 @@ int main(void)
     check_texts();
     check_answers();
     check_turn();
-    check_add();
     check_sides();
     check_limits();
     check_sums();
     check_furthest();
     check_settled();
-    check_adding();
     check_bounds();
     check_overlap();
     check_own_limits();

@@ -19,7 +19,6 @@ VERSIONS(frame_builder_admit);
 VERSIONS(frame_builder_build);
 VERSIONS(frame_builder_inspect);
 VERSIONS(frame_builder_turn);
-VERSIONS(frame_builder_add);
 VERSIONS(frame_builder_slot_view);
 VERSIONS(frame_builder_count_flow);
 VERSIONS(frame_builder_count_input);
@@ -112,21 +111,6 @@ size_t __wrap_frame_builder_turn(size_t side, size_t ports, size_t slots, const 
     struct answer old = {old_frame_builder_turn(side, ports, slots, list, list_length, frame, frame_length, copy, second_length), 0, 0, 0};
     number = agreed("turn", (struct answer){number, 0, 0, 0}, old);
     return same_slice("turn", number, second, copy, second_length);
-}
-
-size_t __wrap_frame_builder_add(size_t ports, size_t slots, const uint16_t *list, size_t list_length, uint16_t *frame, size_t frame_length,
-                                size_t flow, size_t *slot, size_t *other, size_t *moved)
-{
-    struct answer old = {0, *slot, *other, *moved};
-    uint16_t *copy = copied(frame, frame_length);
-    size_t number = __real_frame_builder_add(ports, slots, list, list_length, frame, frame_length, flow, slot, other, moved);
-    if (!old_frame_builder_add) {
-        free(copy);
-        return number;
-    }
-    old.number = old_frame_builder_add(ports, slots, list, list_length, copy, frame_length, flow, &old.first, &old.second, &old.third);
-    number = agreed("add", (struct answer){number, *slot, *other, *moved}, old);
-    return same_slice("add", number, frame, copy, frame_length);
 }
 
 size_t __wrap_frame_builder_slot_view(size_t ports, size_t slots, const uint16_t *frame, size_t frame_length, size_t slot, size_t *start,

@@ -1,7 +1,7 @@
 /* Makes calls through the header, as records on standard input ask for them, and answers each on standard output.
  *
  * A record is a struct record, the limits where the call takes any, the list, the frame and the second buffer. An answer is a struct answer
- * and, after Build and Add, the frame, or after Turn the second buffer.
+ * and, after Build, the frame, or after Turn the second buffer.
  */
 #include <stdint.h>
 #include <stdio.h>
@@ -13,7 +13,7 @@
 #define MARGIN 64
 #define BUFFER 65536
 
-enum call { ADMIT, BUILD, INSPECT, SLOT_VIEW, COUNT_FLOW, COUNT_INPUT, COUNT_OUTPUT, DEPTH_FLOW, DEPTH_INPUT, DEPTH_OUTPUT, TURN, ADD };
+enum call { ADMIT, BUILD, INSPECT, SLOT_VIEW, COUNT_FLOW, COUNT_INPUT, COUNT_OUTPUT, DEPTH_FLOW, DEPTH_INPUT, DEPTH_OUTPUT, TURN };
 
 /* What a call may have written to and must not have. */
 enum harm { NONE, LIMITS, AROUND_LIMITS, LIST, AROUND_LIST, FRAME, AROUND_FRAME, SECOND, AROUND_SECOND };
@@ -25,7 +25,7 @@ struct record {
     uint64_t second_length; /* 0 of a call other than Turn */
     uint64_t slot;          /* Service count: the start */
     uint64_t length;
-    uint64_t whose; /* Service count and Depth: the flow or the port; Add: the flow */
+    uint64_t whose; /* Service count and Depth: the flow or the port */
 };
 
 struct answer {
@@ -94,12 +94,6 @@ static int same_margins(const struct lent *lent)
     return memcmp(lent->whole, lent->copy, MARGIN) == 0 && memcmp(lent->whole + end, lent->copy + end, MARGIN) == 0;
 }
 
-/* Build and Add write the frame. */
-static int writes_frame(uint64_t call)
-{
-    return call == BUILD || call == ADD;
-}
-
 static enum harm harm_done(uint64_t call, const struct slices *s)
 {
     if (!same_part(&s->limits))
@@ -110,7 +104,7 @@ static enum harm harm_done(uint64_t call, const struct slices *s)
         return LIST;
     if (!same_margins(&s->list))
         return AROUND_LIST;
-    if (!writes_frame(call) && !same_part(&s->frame))
+    if (call != BUILD && !same_part(&s->frame))
         return FRAME;
     if (!same_margins(&s->frame))
         return AROUND_FRAME;
@@ -168,8 +162,6 @@ static size_t make_call(const struct record *r, const struct slices *s, size_t *
         return frame_builder_depth_output(r->ports, r->slots, list, r->list_length, r->whose, first, second);
     case TURN:
         return frame_builder_turn(r->side, r->ports, r->slots, list, r->list_length, frame, r->frame_length, turned, r->second_length);
-    case ADD:
-        return frame_builder_add(r->ports, r->slots, list, r->list_length, frame, r->frame_length, r->whose, first, second, third);
     }
     int64_t lead = INT64_MAX;
     size_t number = count_of(r->call)(r->side, r->ports, r->slots, list, r->list_length, frame, r->frame_length, r->whose, r->slot,
@@ -186,12 +178,11 @@ static void respond(const struct record *record)
     slices.list = lend(record->list_length * sizeof(uint16_t));
     slices.frame = lend(record->frame_length * sizeof(uint16_t));
     slices.second = lend(record->second_length * sizeof(uint16_t));
-    size_t first = unwritten(record->call != TURN), second = first;
-    size_t third = unwritten(takes_limits(record->call) || record->call == ADD);
+    size_t first = unwritten(record->call != TURN), second = first, third = unwritten(takes_limits(record->call));
     size_t number = make_call(record, &slices, &first, &second, &third);
     struct answer answer = {number, first, second, third, harm_done(record->call, &slices)};
     fwrite(&answer, sizeof answer, 1, stdout);
-    if (writes_frame(record->call))
+    if (record->call == BUILD)
         fwrite(part_of(&slices.frame), 1, slices.frame.length, stdout);
     if (record->call == TURN)
         fwrite(part_of(&slices.second), 1, slices.second.length, stdout);

@@ -2,8 +2,8 @@
  *
  * Each call runs on a stack of its own that was painted before; how far down the paint is gone is what the call took, with its arguments,
  * its return address and a few words of make_call's own. Every number of ports and of slots is tried, with full loads of one flow for each
- * pair and of 512 flows and their frames on either side, with frames of each fault, with cells that Add moves and with each refusal. The
- * last line is 'N passed, M failed'.
+ * pair and of 512 flows and their frames on either side, with frames of each fault and with each refusal. The last line is 'N passed, M
+ * failed'.
  */
 #define _GNU_SOURCE
 #include <stdint.h>
@@ -25,7 +25,6 @@
 enum call {
     ADMIT,
     BUILD,
-    ADD,
     INSPECT,
     TURN,
     SLOT_VIEW,
@@ -39,12 +38,11 @@ enum call {
     CALLS
 };
 
-static const char *const names[CALLS] = {"admit",       "build",        "add",          "inspect",      "turn",
-                                         "slot_view",   "count_flow",   "count_input",  "count_output", "depth_flow",
-                                         "depth_input", "depth_output", "(5,000 bytes)"};
+static const char *const names[CALLS] = {"admit",       "build",        "inspect",    "turn",        "slot_view",    "count_flow",
+                                         "count_input", "count_output", "depth_flow", "depth_input", "depth_output", "(5,000 bytes)"};
 
 /* How many different answers each call has. */
-static const size_t answers[CALLS] = {10, 11, 12, 12, 10, 5, 11, 11, 11, 10, 10, 10, 1};
+static const size_t answers[CALLS] = {10, 11, 12, 10, 5, 11, 11, 11, 10, 10, 10, 1};
 
 /* The call to make, what it is lent, and its answer. */
 static struct {
@@ -85,9 +83,6 @@ static void make_call(void)
         break;
     case BUILD:
         asked.answer = frame_builder_build(ports, slots, list, list_length, limits, frame, frame_length, &first, &second, &third);
-        break;
-    case ADD:
-        asked.answer = frame_builder_add(ports, slots, list, list_length, frame, frame_length, flow, &first, &second, &third);
         break;
     case INSPECT:
         asked.answer = frame_builder_inspect(side, ports, slots, list, list_length, frame, frame_length, &first, &second);
@@ -140,19 +135,15 @@ static size_t taken(int paint)
     return (size_t)(top - room) - left;
 }
 
-/* The lowest byte that a call writes may be of one paint's colour, so there are two. What Add has added is taken back. */
+/* The lowest byte that a call writes may be of one paint's colour, so there are two. */
 static void measure(enum call call)
 {
     static const int paints[] = {0xaa, 0x55};
-    static uint16_t before[FRAME_ENTRIES];
     asked.call = call;
-    memcpy(before, asked.frame, sizeof before);
     for (size_t which = 0; which < 2; which++) {
         size_t bytes = taken(paints[which]);
         if (bytes > most[call])
             most[call] = bytes;
-        if (call == ADD)
-            memcpy(asked.frame, before, sizeof before);
     }
     if (asked.answer < NUMBERS)
         answered[call][asked.answer] = 1;
@@ -221,25 +212,9 @@ static uint16_t doubling(void)
     return 0;
 }
 
-/* A full frame in which the last flow's input is made idle in one slot and its output in another, so that Add moves cells. */
-static void measure_exchange(void)
-{
-    static uint16_t full[FRAME_ENTRIES];
-    size_t ports = asked.ports, output = asked.list[(asked.flow - 1) * OF_FLOW + 1], idle = 0;
-    memcpy(full, asked.frame, sizeof full);
-    for (size_t place = 0; place < asked.frame_length && idle < 2; place++) {
-        size_t of_last = place / ports * ports + ports - 1;
-        if (place != of_last && asked.list[(full[place] - 1) * OF_FLOW + 1] == output)
-            asked.frame[idle++ == 0 ? of_last : place] = 0;
-    }
-    measure(ADD);
-    memcpy(asked.frame, full, sizeof full);
-}
-
 /* What is looked at for faults. */
 static void measure_frame(void)
 {
-    measure(ADD);
     measure(INSPECT);
     measure(TURN);
 }
@@ -325,7 +300,6 @@ int main(void)
             for (int every = 0; every < 2; every++) {
                 ask_full(ports, slots, every ? FLOWS / ports : ports);
                 measure_all();
-                measure_exchange();
                 measure_faults();
                 measure(BUILD);
                 measure(TURN);

@@ -19,7 +19,7 @@ const VARIABLES: [&str; 6] = [
 ];
 
 /// The first two numbers of the first version that has the calls as this crate makes them. Later ones with the same first number have them.
-const CALLS: [u32; 2] = [6, 1];
+const CALLS: [u32; 2] = [6, 0];
 
 const ADVICE: &str = "\
 What to do, one of these:

@@ -1,5 +1,5 @@
 //! The C interface: numbers, slices and the limits of links only. Each answer is document 01's number, 0 for none, and up to two
-//! values, of Admit, Build and Add up to three; a count's second is signed.
+//! values, of Admit and Build up to three; a count's second is signed.
 #![tactic(auto)]
 
 ghost use Rattle.std.specs.Prelude.{◌≡◌};
@@ -9,7 +9,6 @@ ghost use Rattle.calls.specs.Inspect.{inspected};
 ghost use Rattle.calls.specs.Service.{view_number, view_start, view_size, service};
 ghost use Rattle.calls.specs.Depth.{depth};
 ghost use Rattle.sides.specs.Turn.{turn_number, second_after};
-ghost use Rattle.exchange.specs.Add.{add_answer, add_leaves};
 ghost use Rattle.numbers.specs.Numbers.{Values2, Values3, Replied};
 ghost use Rattle.numbers.specs.Sides.{side_numbered};
 
@@ -94,29 +93,6 @@ pub extern "C" fn frame_builder_turn(
     ensures second_after { second.new ≡ second_after (side_numbered side) ports slots list.now frame.now second.old }
 {
     let n = numbers::of_answer(turning::turn(side_of(side), ports, slots, list, frame, second));
-    n.number
-}
-
-// Add a cell of a flow to a frame of the input side.
-#[unsafe(no_mangle)]
-pub extern "C" fn frame_builder_add(
-    ports: usize,
-    slots: usize,
-    list: &[u16],
-    frame: &mut [u16],
-    flow: usize,
-    slot: &mut usize,
-    other: &mut usize,
-    moved: &mut usize,
-) -> usize
-    ensures values3 { Values3 (add_answer ports slots list.now frame.old flow) result
-        slot.new other.new moved.new }
-    ensures frame_after { frame.new ≡ add_leaves ports slots list.now frame.old flow }
-{
-    let n = numbers::of_added(adding::add(ports, slots, list, frame, flow));
-    *slot = n.first;
-    *other = n.second;
-    *moved = n.third;
     n.number
 }
 

@@ -1,10 +1,6 @@
-//! The loads of the benchmark, and frames to add cells to.
+//! The loads of the benchmark.
 
 #![forbid(unsafe_code)]
-
-mod addition;
-
-pub use addition::{additions_of, Addition};
 
 use frame_builder::{slots_each, Flow, Limits, Who};
 use loads::{full_load, full_load_of_flows, Call, Random, Shape};
@@ -47,15 +43,6 @@ impl Load {
         }
     }
 
-    /// The frame that Build leaves.
-    pub fn built(&self) -> Vec<u16> {
-        let Shape { ports, slots } = self.shape;
-        let mut frame = vec![0; self.shape.frame_length()];
-        let answer = frame_builder::build(ports, slots, &self.list, self.limits, &mut frame);
-        answer.expect("the load fits");
-        frame
-    }
-
     /// The last flow, the last input and the last output.
     pub fn last_of_each(&self) -> [Who; 3] {
         let ports = self.shape.ports;
@@ -87,11 +74,6 @@ fn over_links(outputs: usize, mut call: Call, random: &mut Random) -> Call {
 
 /// Random loads that give every port so many cells.
 pub fn loads_of(shape: Shape, cells: usize, flows: Flows) -> Vec<Load> {
-    loads_of_many(LOADS, shape, cells, flows)
-}
-
-/// So many of them, the same ones first.
-pub fn loads_of_many(number: usize, shape: Shape, cells: usize, flows: Flows) -> Vec<Load> {
     let [mut random, mut links] = [2_026, 2_027].map(Random::new);
     let mut load = || match flows {
         Flows::EachPair => full_load(shape, cells, &mut random),
@@ -102,5 +84,5 @@ pub fn loads_of_many(number: usize, shape: Shape, cells: usize, flows: Flows) ->
         }
         Flows::LastOutput => over_links(1, full_load(shape, cells, &mut random), &mut links),
     };
-    (0..number).map(|_| Load::of(shape, load())).collect()
+    (0..LOADS).map(|_| Load::of(shape, load())).collect()
 }

@@ -8,7 +8,7 @@ use std::hint::black_box;
 use std::process::ExitCode;
 use std::time::Instant;
 
-use bench::{additions_of, loads_of, Flows, Load};
+use bench::{loads_of, Flows, Load};
 use frame_builder::{Inspection, Side, Who};
 use loads::Shape;
 
@@ -24,9 +24,6 @@ const INSPECT_LIMIT: Option<f64> = Some(2.0);
 
 /// The most that Turn may take of the time of the Build that made the frame.
 const TURN_LIMIT: Option<f64> = Some(0.15);
-
-/// The most that Add may take of the time of a Build of a full frame.
-const ADD_LIMIT: Option<f64> = Some(0.04);
 
 /// The most that Depth may take of the time of a Build of the same list.
 const DEPTH_LIMIT: Option<f64> = Some(0.10);
@@ -266,62 +263,6 @@ fn turn_once(side: Side, load: &Load, frame: &[u16], second: &mut [u16]) {
     assert_eq!(black_box(answer), Ok(()));
 }
 
-/// How Add is timed: the frames that get a cell, how many cells are taken out of them first, and the builds that it is timed against.
-struct AddRow {
-    size: Size,
-    taken: usize,
-    against: Size,
-    limit: Option<f64>,
-}
-
-/// Frames that are full but for a few cells, so that each add is an exchange, and frames with room, against the build of a full frame; and the
-/// latter against their own builds.
-const ADDS: [AddRow; 3] = [
-    add_row(SIZES[0], 4, SIZES[0], ADD_LIMIT),
-    add_row(SIZES[1], 0, SIZES[0], ADD_LIMIT),
-    add_row(SIZES[1], 0, SIZES[1], None),
-];
-
-const fn add_row(size: Size, taken: usize, against: Size, limit: Option<f64>) -> AddRow {
-    AddRow {
-        size,
-        taken,
-        against,
-        limit,
-    }
-}
-
-impl AddRow {
-    fn name(&self) -> String {
-        let (cells, slots) = (self.against.cells, self.against.shape.slots);
-        let how = match self.taken {
-            0 if cells < slots => ", own build",
-            0 => ", full build",
-            _ => ", exchange",
-        };
-        self.size.name() + how
-    }
-
-    /// Times Add of a cell to built frames against builds.
-    fn timed(&self, repetitions: usize) -> Row {
-        let [loads, built] =
-            [self.size, self.against].map(|size| loads_of(size.shape, size.cells, size.flows));
-        let mut additions = additions_of(&loads, self.taken);
-        let mut places = (0..additions.len()).cycle();
-        let mut frame = vec![0; self.against.shape.frame_length()];
-        let mut next_right = in_turn(&built);
-        let left = || {
-            let addition = &mut additions[places.next().expect("there are frames")];
-            let added = black_box(addition.add_once());
-            addition.put_back(added);
-        };
-        let right = || {
-            build_once(next_right(), &mut frame);
-        };
-        compare(self.name(), self.limit, repetitions, left, right)
-    }
-}
-
 /// Times Depth of a flow, an input and an output in turn against builds of the same loads.
 fn depth_row(size: Size, repetitions: usize) -> Row {
     let loads = loads_of(size.shape, size.cells, size.flows);
@@ -409,10 +350,6 @@ fn main() -> ExitCode {
     let headings = ["turn", "turn median ns", "build median ns"];
     print_table(headings, NANOSECONDS, &turns);
     println!();
-    let adds = ADDS.map(|row| row.timed(repetitions));
-    let headings = ["add", "add median ns", "build median ns"];
-    print_table(headings, NANOSECONDS, &adds);
-    println!();
     let depths = [SIZES[0], SIZES[1]].map(|size| depth_row(size, repetitions));
     let headings = ["depth", "depth median ns", "build median ns"];
     print_table(headings, NANOSECONDS, &depths);
@@ -426,8 +363,7 @@ fn main() -> ExitCode {
     print_table(headings, MICROSECONDS, counts.as_flattened());
     println!();
     print_budget(repetitions);
-    let others = inspections.iter().chain(&turns).chain(&adds);
-    let others = others.chain(&depths);
+    let others = inspections.iter().chain(&turns).chain(&depths);
     let mut limited = builds.iter().chain(others);
     ExitCode::from(u8::from(limited.any(Row::is_above)))
 }

@@ -5,8 +5,8 @@ use std::process::{Child, ChildStdin, ChildStdout, Command, Stdio};
 use std::sync::Mutex;
 
 use crate::{
-    program, Added, Addition, Answer, Bounded, Built, Calls, Class, Count, Depth, Inspection,
-    Limits, Question, Refusal, Service, SheetProgram,
+    program, Answer, Bounded, Built, Calls, Class, Count, Depth, Inspection, Limits, Question,
+    Refusal, Service, SheetProgram,
 };
 
 /// The calls as `harness/c/calls.c` numbers them.
@@ -24,7 +24,6 @@ enum Call {
     DepthInput,
     DepthOutput,
     Turn,
-    Add,
 }
 
 /// A call as the C program reads it.
@@ -44,7 +43,7 @@ struct Record<'r> {
     /// Service count: the start.
     slot: u64,
     length: u64,
-    /// The flow or the port that is counted, or asked about; the flow that gets a cell.
+    /// The flow or the port that is counted, or asked about.
     whose: u64,
 }
 
@@ -111,8 +110,8 @@ impl InC {
         }
     }
 
-    /// The answer's number and its three values, a count's cells and lead, a depth's parts and cells, an add's two slots and the cells
-    /// moved; a frame or a second buffer lent for writing is written.
+    /// The answer's number and its three values, a count's cells and lead, a depth's parts and cells; a frame or a second buffer lent for
+    /// writing is written.
     fn make(&self, record: &[u8], written: &mut [u16]) -> [u64; 4] {
         let idle = self.idle.lock().expect("no thread panics here").pop();
         let mut process = idle.unwrap_or_else(|| Process::start(&self.program));
@@ -189,9 +188,6 @@ fn refusal_of(numbers: [u64; 4]) -> Refusal {
         [13, 0, 0, 0] => Refusal::RunLength,
         [14, 0, 0, 0] => Refusal::Entries,
         [15, 0, 0, 0] => Refusal::SecondLength,
-        [16, 0, 0, 0] => Refusal::FrameEntries,
-        [17, 0, 0, 0] => Refusal::InputFull,
-        [18, 0, 0, 0] => Refusal::OutputFull,
         [21, 0, 0, 0] => Refusal::TooManyFlows,
         [22, 0, 0, 0] => Refusal::FlowPort,
         [23, 0, 0, 0] => Refusal::FlowLink,
@@ -291,26 +287,6 @@ impl Calls for InC {
         };
         match self.make(&record.bytes(), second) {
             [0, 0, 0, 0] => Ok(()),
-            refused => Err(refusal_of(refused)),
-        }
-    }
-
-    fn add(&self, ports: u64, slots: u64, list: &[u16], frame: &mut [u16], flow: u64) -> Addition {
-        let record = Record {
-            call: Call::Add,
-            ports,
-            slots,
-            list,
-            frame,
-            whose: flow,
-            ..Record::default()
-        };
-        match self.make(&record.bytes(), frame) {
-            [0, slot, other, moved] => Ok(Added {
-                slot,
-                other: (other != 0).then_some(other),
-                moved,
-            }),
             refused => Err(refusal_of(refused)),
         }
     }

@@ -8,16 +8,13 @@ mod program;
 
 pub use in_c::InC;
 pub use library::Library;
-pub use reference::{Added, Class, Count, Depth, Inspection, Limits, Refusal, Side};
+pub use reference::{Class, Count, Depth, Inspection, Limits, Refusal, Side};
 
 /// What Admit and Turn answer.
 pub type Answer = Result<(), Refusal>;
 
 /// What Build answers: the odd counts settled.
 pub type Built = Result<u64, Refusal>;
-
-/// What Add answers.
-pub type Addition = Result<Added, Refusal>;
 
 /// What Service count answers.
 pub type Service = Result<Count, Refusal>;
@@ -64,9 +61,6 @@ pub trait Calls {
         frame: &[u16],
         second: &mut [u16],
     ) -> Answer;
-
-    /// Puts one more cell of a flow into a frame by inputs, or refuses and leaves that as it was.
-    fn add(&self, ports: u64, slots: u64, list: &[u16], frame: &mut [u16], flow: u64) -> Addition;
 
     /// The slot's own part of the frame, empty on refusal; the refusal's number goes to `number`.
     fn slot_view<'f>(
@@ -140,10 +134,6 @@ impl Calls for Reference {
         second: &mut [u16],
     ) -> Answer {
         reference::turn(Side::told(side), ports, slots, list, frame, second)
-    }
-
-    fn add(&self, ports: u64, slots: u64, list: &[u16], frame: &mut [u16], flow: u64) -> Addition {
-        reference::add(ports, slots, list, frame, flow)
     }
 
     fn slot_view<'f>(

@@ -3,8 +3,8 @@
 use frame_builder::{Fault, Flow, Side, Who};
 
 use crate::{
-    program, Added, Addition, Answer, Bounded, Built, Calls, Class, Count, Depth, InC, Inspection,
-    Limits, Question, Refusal, Service, SheetProgram, INPUT_SIDE,
+    program, Answer, Bounded, Built, Calls, Class, Count, Depth, InC, Inspection, Limits, Question,
+    Refusal, Service, SheetProgram, INPUT_SIDE,
 };
 
 /// The numbers of a flow in a list.
@@ -69,9 +69,6 @@ fn refusal_of(refusal: frame_builder::Refusal) -> Refusal {
         frame_builder::Refusal::RunLength => Refusal::RunLength,
         frame_builder::Refusal::Entries => Refusal::Entries,
         frame_builder::Refusal::SecondLength => Refusal::SecondLength,
-        frame_builder::Refusal::FrameEntries => Refusal::FrameEntries,
-        frame_builder::Refusal::InputFull => Refusal::InputFull,
-        frame_builder::Refusal::OutputFull => Refusal::OutputFull,
         frame_builder::Refusal::TooManyFlows => Refusal::TooManyFlows,
         frame_builder::Refusal::FlowPort => Refusal::FlowPort,
         frame_builder::Refusal::FlowLink => Refusal::FlowLink,
@@ -125,14 +122,6 @@ fn count_of(count: frame_builder::Count) -> Count {
     Count {
         cells: count.cells as u64,
         lead: count.lead,
-    }
-}
-
-fn added_of(added: frame_builder::Added) -> Added {
-    Added {
-        slot: added.slot as u64,
-        other: added.other.map(|slot| slot as u64),
-        moved: added.moved as u64,
     }
 }
 
@@ -208,16 +197,6 @@ impl Calls for Library {
         let answer = frame_builder::turn(side, ports, slots, flows, frame, second);
         lent.give_back(list);
         answer.map_err(refusal_of)
-    }
-
-    fn add(&self, ports: u64, slots: u64, list: &[u16], frame: &mut [u16], flow: u64) -> Addition {
-        let Some(lent) = Lent::of(list) else {
-            return self.in_c.add(ports, slots, list, frame, flow);
-        };
-        let [ports, slots, flow] = [ports, slots, flow].map(|n| n as usize);
-        let answer = frame_builder::add(ports, slots, lent.flows(), frame, flow);
-        lent.give_back(list);
-        answer.map(added_of).map_err(refusal_of)
     }
 
     fn slot_view<'f>(

@@ -46,7 +46,7 @@ pub use hostile::{
     LimitKind, HOSTILE,
 };
 pub use ill_formed::junk_number;
-pub use legal::{crowded_frame, legal_frame, longest_exchange, take_out};
+pub use legal::legal_frame;
 pub use links::Limits;
 pub use list::{
     flows_of, flows_of_matrix, list_of, Flow, Listing, FLOW_NUMBERS, LINKS, MOST_FLOWS,

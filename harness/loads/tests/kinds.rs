@@ -3,9 +3,9 @@
 use std::collections::BTreeSet;
 
 use loads::{
-    crowded_frame, damage, damage_by_outputs, flows_of, full_load, full_load_of_flows, legal_frame,
-    load, load_of_shape, longest_exchange, random_shape, sheet, uneven, Block, Call, Damage, Flow,
-    LoadKind, Random, Shape, SheetKind, Uneven, FLOW_NUMBERS, LINKS, MOST_FLOWS,
+    damage, damage_by_outputs, flows_of, full_load, full_load_of_flows, legal_frame, load,
+    load_of_shape, random_shape, sheet, uneven, Block, Call, Damage, Flow, LoadKind, Random, Shape,
+    SheetKind, Uneven, FLOW_NUMBERS, LINKS, MOST_FLOWS,
 };
 use reference::{Inspection, Side};
 
@@ -293,37 +293,6 @@ fn legal_frames_are_legal() {
     let found: BTreeSet<u64> = inspected.collect();
     assert!(found.contains(&103));
     assert!(!found.contains(&101) && !found.contains(&102), "{found:?}");
-}
-
-/// The same of frames that are nearly full: with a flow for each pair, all entries but those taken out are cells.
-#[test]
-fn crowded_frames_are_legal_and_full() {
-    let mut random = Random::new(18);
-    for _ in 0..300 {
-        let shape = random_shape(&mut random);
-        let call = load_of_shape(LoadKind::MatrixOrder, shape, &mut random);
-        let taken = random.place(shape.slots + 1);
-        let frame = crowded_frame(shape, &call, taken, &mut random);
-        let found = fault_of(Side::Input, &call, &frame);
-        assert!(found != 101 && found != 102, "{found}");
-        let idle = frame.iter().filter(|&&entry| entry == 0).count();
-        assert_eq!(idle, taken);
-    }
-}
-
-/// The reference moves as many cells as it says, for every number of ports and of slots.
-#[test]
-fn longest_exchanges_are_the_longest() {
-    let mut random = Random::new(19);
-    for (ports, k) in (2..=16).flat_map(|ports| (1..=10).map(move |k| (ports, k))) {
-        let shape = Shape {
-            ports,
-            slots: 1 << k,
-        };
-        let (call, mut frame, flow) = longest_exchange(shape, &mut random);
-        let added = reference::add(call.ports, call.slots, &call.list, &mut frame, flow);
-        assert_eq!(added.map(|added| added.moved), Ok(2 * ports as u64 - 3));
-    }
 }
 
 #[test]

@@ -34,12 +34,7 @@ pub fn inspect(side: Side, ports: u64, slots: u64, list: &[u16], frame: &[u16]) 
 }
 
 /// The earliest entry that is neither 0 nor a flow of the port at whose place it stands; frame order is slot order, then port order.
-pub(crate) fn wrong_entry(
-    side: Side,
-    ports: usize,
-    flows: &[Flow],
-    frame: &[u16],
-) -> Option<Inspection> {
+fn wrong_entry(side: Side, ports: usize, flows: &[Flow], frame: &[u16]) -> Option<Inspection> {
     let is_right = |place: usize, entry: u16| {
         let flow = numbered(flows, entry.into());
         entry == 0 || flow.is_some_and(|flow| side.port_of(flow) == (place % ports + 1) as u64)
@@ -53,12 +48,7 @@ pub(crate) fn wrong_entry(
 }
 
 /// The earliest slot that uses a port of this side twice, and its lowest such port.
-pub(crate) fn port_twice(
-    side: Side,
-    ports: usize,
-    flows: &[Flow],
-    frame: &[u16],
-) -> Option<Inspection> {
+fn port_twice(side: Side, ports: usize, flows: &[Flow], frame: &[u16]) -> Option<Inspection> {
     for (slot, entries) in (1..).zip(frame.chunks(ports)) {
         let sent = entries.iter().map(|&entry| numbered(flows, entry.into()));
         let used: Vec<u64> = sent.flatten().map(|flow| side.port_of(flow)).collect();

@@ -2,7 +2,6 @@
 
 #![forbid(unsafe_code)]
 
-mod add;
 mod admission;
 mod build;
 mod depth;
@@ -21,7 +20,6 @@ pub mod wait;
 pub mod wire;
 pub mod work;
 
-pub use add::{add, Added};
 pub use admission::admit;
 pub use build::build;
 pub use depth::{depth, Depth};

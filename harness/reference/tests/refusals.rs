@@ -4,8 +4,8 @@ mod ample;
 
 use ample::build;
 use reference::{
-    add, service_count, slot_view, slots_each, turn, Class, Count, Depth, Inspection, Limits,
-    Refusal, Side, LONGEST_RUN, MOST_FLOWS,
+    service_count, slot_view, slots_each, turn, Class, Count, Depth, Inspection, Limits, Refusal,
+    Side, LONGEST_RUN, MOST_FLOWS,
 };
 
 const HEADER: &str = include_str!("../../../include/frame_builder.h");
@@ -289,33 +289,6 @@ fn turn_order() {
     }
 }
 
-/// Every condition with a wrong entry besides, in a frame without an idle slot; then 16, 17 and 18.
-#[test]
-fn add_order() {
-    let refused = |ports, slots, list: &[u16], frame: &[u16], flow| {
-        let mut after = frame.to_vec();
-        let answer = add(ports, slots, list, &mut after, flow);
-        assert!(answer.is_ok() || after == frame, "written");
-        answer.map_err(Refusal::numbers).err()
-    };
-    assert_eq!(refused(17, 5, &not_whole(), &[99], 0), Some(vec![1]));
-    assert_eq!(refused(1, 5, &not_whole(), &[99], 0), Some(vec![2]));
-    assert_eq!(refused(1, 2, &not_whole(), &[99], 0), Some(vec![3]));
-    assert_eq!(refused(1, 2, &too_many(), &[99], 0), Some(vec![21]));
-    assert_eq!(refused(1, 2, &OUTSIDE, &[99], 0), Some(vec![22]));
-    assert_eq!(refused(1, 2, &LINK_OUTSIDE, &[99], 0), Some(vec![23]));
-    let list = [1, 1, 9, 1];
-    assert_eq!(refused(1, 2, &list, &[99], 0), Some(vec![4]));
-    assert_eq!(refused(1, 2, &list, &[99, 99], 0), Some(vec![12]));
-    assert_eq!(refused(1, 2, &list, &[99, 99], 2), Some(vec![12]));
-    assert_eq!(refused(1, 2, &list, &[1, 99], 1), Some(vec![16]));
-    assert_eq!(refused(1, 2, &list, &[1, 1], 1), Some(vec![17]));
-    let of_two = [1, 1, 9, 1, 2, 1, 9, 2];
-    assert_eq!(refused(2, 1, &of_two, &[1, 2], 1), Some(vec![16]));
-    assert_eq!(refused(2, 1, &of_two, &[0, 2], 1), Some(vec![18]));
-    assert_eq!(refused(1, 2, &list, &[1, 0], 1), None);
-}
-
 /// One flow for each pair of two ports, with two cells each.
 const EVERY_PAIR: [u16; 16] = [1, 1, 2, 1, 1, 2, 2, 1, 2, 1, 2, 1, 2, 2, 2, 1];
 
@@ -556,8 +529,5 @@ fn numbers_of_any_size_end_in_a_refusal() {
             turn(side, 1, number, &[], &[], &mut []),
             Err(Refusal::Slots)
         );
-        let added = add(number, number, &[], &mut [], number);
-        assert_eq!(added, Err(Refusal::Ports));
-        assert_eq!(add(1, 1, &[], &mut [0], number), Err(Refusal::FlowOrPort));
     }
 }

@@ -29,19 +29,6 @@ pub const TURN_OVER_LINKS: &str = "turn of a frame of a list over several links"
 /// It had several flows on some pair.
 pub const TURN_OF_A_PAIR: &str = "turn of a frame of several flows on a pair";
 
-/// A cell was put into a slot in which both its ports were idle.
-pub const NOT_EXCHANGED: &str = "add into a slot with both ports idle";
-/// No slot was so, and cells were moved between two.
-pub const EXCHANGED: &str = "add by an exchange of two slots";
-/// The same with a list that has cells on several links of some output.
-pub const ADD_OVER_LINKS: &str = "add by an exchange, of a list over several links";
-/// As many cells were moved as one can displace, which is named with the ports.
-pub const LONGEST_EXCHANGE: &str = "add that moves 2 x ports - 3 cells";
-/// Cells were added to an idle frame until every flow of its list was refused.
-pub const FILLED: &str = "idle frame filled by adds until each flow is refused";
-/// Add of a legal frame was held to Admit, and its frame to Inspect, with the frame's own cells and one more.
-pub const ROOM: &str = "add compared with admit and inspect of the frame's cells and one more";
-
 /// A list without flows was built.
 pub const NO_FLOWS: &str = "build of no flows";
 /// A list with as many flows as there may be was built.
@@ -190,8 +177,8 @@ impl Part {
     }
 }
 
-/// How many times each named thing happened, how deep queues stood, how far leads were from 0, how long cells waited, how many odd
-/// counts were settled, and how many cells adds moved.
+/// How many times each named thing happened, how deep queues stood, how far leads were from 0, how long cells waited, and how many
+/// odd counts were settled.
 #[derive(Clone, Debug, Default)]
 pub struct Hits {
     counts: BTreeMap<String, u64>,
@@ -206,8 +193,6 @@ pub struct Hits {
     waits: BTreeMap<(u32, Queued), Waited>,
     /// By k, the most odd counts that a build of 16 ports settled.
     settled: BTreeMap<u32, u64>,
-    /// By ports and the cells moved, how many adds moved so many.
-    moved: BTreeMap<(u64, u64), u64>,
 }
 
 impl Hits {
@@ -258,11 +243,6 @@ impl Hits {
         *most = settled.max(*most);
     }
 
-    /// An add with so many ports moved so many cells.
-    pub fn moved(&mut self, ports: u64, cells: u64) {
-        *self.moved.entry((ports, cells)).or_default() += 1;
-    }
-
     pub fn merge(&mut self, other: Hits) {
         for (name, count) in other.counts {
             *self.counts.entry(name).or_default() += count;
@@ -284,9 +264,6 @@ impl Hits {
         }
         for (k, settled) in other.settled {
             self.settle(k, settled);
-        }
-        for (moved, adds) in other.moved {
-            *self.moved.entry(moved).or_default() += adds;
         }
     }
 
@@ -319,15 +296,6 @@ impl Hits {
         self.settled.get(&k).copied()
     }
 
-    /// How many adds moved how many cells, with any ports that are asked for.
-    pub fn moved_with(&self, is_asked: impl Fn(u64) -> bool) -> BTreeMap<u64, u64> {
-        let mut by_cells = BTreeMap::new();
-        for ((_, cells), adds) in self.moved.iter().filter(|((ports, _), _)| is_asked(*ports)) {
-            *by_cells.entry(*cells).or_default() += adds;
-        }
-        by_cells
-    }
-
     /// How often something happened, by its name or by that of `name_at`.
     pub fn count(&self, name: &str) -> u64 {
         let mut at = self.counts_at.iter();
@@ -357,9 +325,7 @@ impl Hits {
         names.extend(SORTS_OF_LIST.map(str::to_string));
         names.extend([DAMAGED, DAMAGED_BY_OUTPUTS].map(str::to_string));
         names.extend([TURNED_BACK, TURN_OVER_LINKS, TURN_OF_A_PAIR].map(str::to_string));
-        names.extend([ADD_OVER_LINKS, FILLED, ROOM].map(str::to_string));
-        names.extend((2..=16).map(|ports| format!("{LONGEST_EXCHANGE}, {ports} ports")));
-        for call in ["build", "turn", "add"] {
+        for call in ["build", "turn"] {
             names.extend((1..=16).map(|ports| format!("{call} with {ports} ports")));
             names.extend((0..=10).map(|k| format!("{call} with {} slots", 1 << k)));
         }
@@ -413,7 +379,6 @@ pub fn outcomes() -> Vec<String> {
         names.extend(refusal_names(call, others));
     }
     names.extend(refusal_names("view", &[1, 2, 4, 11]));
-    names.extend(adds());
     names.extend(class_names("depth"));
     for (side, twice) in [(INPUT_SIDE, "output twice"), (OUTPUT_SIDE, "input twice")] {
         names.extend(inspections(&told("inspect", side), twice));
@@ -450,17 +415,6 @@ fn turns(call: &str) -> Vec<String> {
     names.extend(refusal_names(call, &[4, 15, 14]));
     names
         .extend(["a wrong entry", "a port twice"].map(|why| format!("{call} refusal 14 by {why}")));
-    names
-}
-
-/// Each answer of Add, with and without an exchange, 16 for either of its reasons.
-fn adds() -> Vec<String> {
-    let mut names = vec!["add accepted".to_string()];
-    names.extend([NOT_EXCHANGED, EXCHANGED].map(str::to_string));
-    names.extend(refusal_names("add", &OF_LIST));
-    names.extend(refusal_names("add", &[4, 12, 16, 17, 18]));
-    let reasons = ["a wrong entry", "an output twice"];
-    names.extend(reasons.map(|why| format!("add refusal 16 by {why}")));
     names
 }
 

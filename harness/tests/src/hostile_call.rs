@@ -9,7 +9,6 @@ use loads::{
     Shape, FLOW_NUMBERS, HOSTILE, LINKS, MOST_FLOWS,
 };
 
-use crate::add_case::{any_flow, damaged, nearly_full};
 use crate::build_case::over_links;
 use crate::hits::Hits;
 use crate::inspect_case::{block_of_frame, built, damage_on};
@@ -33,7 +32,6 @@ loads::kinds! {
         Count = "count",
         Depth = "depth",
         Turn = "turn",
-        Add = "add",
     }
 }
 
@@ -51,7 +49,6 @@ impl HostileKind {
                 "side", "ports", "slots", "start", "length", "flow", "input", "output",
             ],
             HostileKind::Depth => &["ports", "slots", "flow", "input", "output"],
-            HostileKind::Add => &["ports", "slots", "flow"],
         }
     }
 
@@ -69,9 +66,7 @@ impl HostileKind {
     pub fn slices(self) -> &'static [&'static str] {
         match self {
             HostileKind::Admit | HostileKind::Depth => &["list"],
-            HostileKind::Build | HostileKind::Inspect | HostileKind::Count | HostileKind::Add => {
-                &["list", "frame"]
-            }
+            HostileKind::Build | HostileKind::Inspect | HostileKind::Count => &["list", "frame"],
             HostileKind::View => &["frame"],
             HostileKind::Turn => &["list", "frame", "second"],
         }
@@ -135,14 +130,8 @@ fn good_call(kind: HostileKind, random: &mut Random) -> Given {
         HostileKind::Turn => random.entries(frame.len()),
         _ => Vec::new(),
     };
-    let class = match kind {
-        HostileKind::Add => Class::Flow {
-            number: any_flow(&call, &frame, random),
-        },
-        _ => random_class(call.ports, call.flows(), random),
-    };
     Given {
-        class,
+        class: random_class(call.ports, call.flows(), random),
         slot: random.between(1, call.slots),
         length: random.between(0, 3 * call.slots),
         side,
@@ -172,19 +161,9 @@ fn load_and_frame(kind: HostileKind, side: Side, random: &mut Random) -> (Call, 
     let frame = match kind {
         HostileKind::Admit | HostileKind::Depth => Vec::new(),
         HostileKind::Build => random.entries(call.frame_length),
-        HostileKind::Add if !random.one_in(4) => return crowded(shape, call, random),
         _ => any_frame(side, shape, &mut call, random),
     };
     (call, frame)
-}
-
-/// A list with a frame that is nearly full, half of them damaged.
-fn crowded(shape: Shape, call: Call, random: &mut Random) -> (Call, Vec<u16>) {
-    let frame = nearly_full(shape, &call, random);
-    match random.below(2) {
-        0 => damaged(shape, call, frame, random),
-        _ => (call, frame),
-    }
 }
 
 /// Either side, the output side by any number that tells it; the input side for a call that is told none.
@@ -231,10 +210,7 @@ impl Spoiler<'_> {
             given.slot = self.number("start", given.slot);
             given.length = self.number("length", given.length);
         }
-        if matches!(
-            self.kind,
-            HostileKind::Count | HostileKind::Depth | HostileKind::Add
-        ) {
+        if matches!(self.kind, HostileKind::Count | HostileKind::Depth) {
             given.class = self.class(given.class);
         }
     }

@@ -1,9 +1,8 @@
 //! Hostile cases: one call, made by each way there is to make it.
 
-use calls::{Calls, Class};
+use calls::Calls;
 use loads::{LengthKind, LimitKind, Random, HOSTILE};
 
-use crate::add_case::add_and_compare;
 use crate::build_case::{admit_and_compare, build_and_compare, lend};
 use crate::depth_case::depth_and_compare;
 use crate::hits::{outcomes, Hits};
@@ -100,12 +99,6 @@ fn make_call(
         HostileKind::Turn => {
             let mut second = lend(&given.second, random);
             turn_and_compare(calls, *side, call, &frame, &mut second, random, hits).map(|_| ())
-        }
-        HostileKind::Add => {
-            let Class::Flow { number } = given.class else {
-                return Err("a cell is added to a flow".into());
-            };
-            add_and_compare(calls, call, &mut frame, number, random, hits).map(|_| ())
         }
     }
 }

@@ -3,7 +3,6 @@
 use calls::{Calls, SheetProgram, Side};
 use loads::{Damage, LoadKind, Random, SheetKind, Uneven};
 
-use crate::add_case::{check_add, AddKind};
 use crate::build_case::{check_admit, check_build};
 use crate::chain_case::{check_chain, ChainKind};
 use crate::depth_case::check_depth;
@@ -54,7 +53,6 @@ pub enum Kind {
     Lead,
     Depth(LoadKind),
     Turn(TurnKind),
-    Add(AddKind),
 }
 
 impl Kind {
@@ -77,7 +75,6 @@ impl Kind {
         kinds.extend(inspections(Side::Output));
         kinds.extend(counts(Side::Output));
         kinds.extend(TurnKind::ALL.iter().copied().map(Kind::Turn));
-        kinds.extend(AddKind::ALL.iter().copied().map(Kind::Add));
         kinds
     }
 
@@ -97,7 +94,6 @@ impl Kind {
             Kind::Lead => ("lead", "built"),
             Kind::Depth(kind) => ("depth", kind.name()),
             Kind::Turn(kind) => ("turn", kind.name()),
-            Kind::Add(kind) => ("add", kind.name()),
         };
         format!("{call}/{given}")
     }
@@ -123,7 +119,6 @@ impl Kind {
             Kind::Lead => check_leads(candidate, random, hits),
             Kind::Depth(kind) => check_depth(candidate, kind, random, hits),
             Kind::Turn(kind) => check_turn(candidate, kind, random, hits),
-            Kind::Add(kind) => check_add(candidate, kind, random, hits),
         }
     }
 }

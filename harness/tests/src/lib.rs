@@ -2,7 +2,6 @@
 
 #![forbid(unsafe_code)]
 
-mod add_case;
 pub mod broken;
 mod build_case;
 mod chain_case;

@@ -9,8 +9,8 @@ use crate::hits::{Hits, Part, Queued, Used, Waited, BOUND_COMPARED, BOUND_REACHE
 /// The places of a row that have a column: one switch by itself, then the second to the fifth of a row.
 const PLACES: [usize; 5] = [1, 2, 3, 4, 5];
 
-/// A line for each thing that is counted for each k, then the tables of the bounds of loads, of the furthest leads, the deepest queues, the
-/// longest waits, the most odd counts settled and the cells that adds moved.
+/// A line for each thing that is counted for each k, then the tables of the bounds of loads, of the furthest leads, the deepest queues, the longest waits
+/// and the most odd counts settled.
 pub fn summary(hits: &Hits) -> Vec<String> {
     let mut lines: Vec<String> = FOR_EACH_K
         .iter()
@@ -22,8 +22,6 @@ pub fn summary(hits: &Hits) -> Vec<String> {
     lines.extend(waits(hits));
     lines.extend(paced_waits(hits));
     lines.extend(settled(hits));
-    lines.extend(moved(hits));
-    lines.extend(most_moved(hits));
     lines
 }
 
@@ -195,47 +193,6 @@ fn settled(hits: &Hits) -> Vec<String> {
     });
     let title = "most odd counts settled at 16 ports";
     let head = format!("{:>3} {:>9} {:>9} {:>9}", "k", "seen", "16 2^k k", "part");
-    table(title, head, rows)
-}
-
-/// How many adds moved how many cells, of all ports and of 16; nothing where there was no add.
-fn moved(hits: &Hits) -> Vec<String> {
-    let [all, of_16] = [1..=16, 16..=16].map(|ports| hits.moved_with(|n| ports.contains(&n)));
-    let total: u64 = all.values().sum();
-    let rows = all.iter().map(|(cells, adds)| {
-        let part = *adds as f64 / total as f64;
-        let of_16 = of_16.get(cells).copied().unwrap_or_default();
-        format!("{cells:>5} {adds:>9} {part:>9.4} {of_16:>9}")
-    });
-    let title = format!("cells moved by each of {total} adds");
-    let head = format!(
-        "{:>5} {:>9} {:>9} {:>9}",
-        "moved", "adds", "part", "16 ports"
-    );
-    table(&title, head, rows)
-}
-
-/// The most cells that an add moved, and how many they were in the mean of those that moved any, by ports; nothing where there was no add.
-fn most_moved(hits: &Hits) -> Vec<String> {
-    let rows = (1..=16).filter_map(|ports| {
-        let by_cells = hits.moved_with(|n| n == ports);
-        let most = by_cells.keys().last()?;
-        let exchanges: u64 = by_cells.range(1..).map(|(_, adds)| adds).sum();
-        let cells: u64 = by_cells.iter().map(|(cells, adds)| cells * adds).sum();
-        let mean = cells as f64 / exchanges.max(1) as f64;
-        let (adds, bound) = (
-            by_cells.values().sum::<u64>(),
-            (2 * ports).saturating_sub(3),
-        );
-        Some(format!(
-            "{ports:>5} {adds:>9} {exchanges:>9} {mean:>9.3} {most:>9} {bound:>9}"
-        ))
-    });
-    let title = "most cells moved by an add";
-    let head = format!(
-        "{:>5} {:>9} {:>9} {:>9} {:>9} {:>9}",
-        "ports", "adds", "exchanges", "mean", "most", "2n - 3"
-    );
     table(title, head, rows)
 }
 

@@ -12,9 +12,7 @@ const USAGE: &str = "versions PROGRAM input-side|both-sides [--count CASES_OF_EA
 const COUNT: u64 = 100_000;
 
 /// What the kinds of each call's cases begin with.
-const CALLS: [&str; 7] = [
-    "admit/", "build/", "inspect/", "view/", "count/", "depth/", "add/",
-];
+const CALLS: [&str; 6] = ["admit/", "build/", "inspect/", "view/", "count/", "depth/"];
 
 /// The same of the calls that are told the output side, and of Turn, which an older version may not have.
 const BY_OUTPUTS: [&str; 3] = ["inspect-by-outputs/", "count-by-outputs/", "turn/"];

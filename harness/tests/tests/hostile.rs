@@ -47,8 +47,6 @@ fn numbers_cut_to_32_bits() {
     sent_back!(service_count: cut_lead, "hostile/count", 4_000);
     sent_back!(depth: sixteen_bit_port, "hostile/depth", 12_000);
     sent_back!(turn: cut_side, "hostile/turn", 4_000);
-    sent_back!(add: sixteen_bit_flow, "hostile/add", 4_000);
-    sent_back!(add: cut_added_flow, "hostile/add", 12_000);
 }
 
 #[test]
@@ -77,21 +75,6 @@ fn second_buffers_of_other_lengths() {
     sent_back!(turn: entries_before_length, "hostile/turn");
     sent_back!(turn: second_before_first, "hostile/turn");
     sent_back!(turn: longer_second, "hostile/turn");
-}
-
-#[test]
-fn cells_added_in_another_way() {
-    sent_back!(add: highest_idle_slot, "hostile/add");
-    sent_back!(add: into_slot_of_output, "hostile/add");
-    sent_back!(add: entry_dropped, "hostile/add");
-    sent_back!(add: stopped_after_one_move, "hostile/add");
-    sent_back!(add: moved_one_short, "hostile/add");
-    sent_back!(add: links_for_outputs, "hostile/add");
-    sent_back!(add: doubled_output_accepted, "hostile/add", 4_000);
-    sent_back!(add: wrong_entry_accepted, "hostile/add");
-    sent_back!(add: output_before_input, "hostile/add", 4_000);
-    sent_back!(add: entries_before_flow, "hostile/add", 4_000);
-    sent_back!(add: written_before_refusal, "hostile/add", 4_000);
 }
 
 #[test]
@@ -175,6 +158,4 @@ fn a_whole_run_must_come_upon_every_answer() {
     assert!(report.never_hit.contains(&"it count refusal 13".into()));
     let by_outputs = "it turn by outputs refusal 15";
     assert!(report.never_hit.contains(&by_outputs.into()));
-    let by_exchange = "it add by an exchange of two slots";
-    assert!(report.never_hit.contains(&by_exchange.into()));
 }

@@ -47,7 +47,6 @@ fn a_whole_run_must_come_upon_everything() {
         "count refusal 13",
         "inspect by outputs unbalanced block of 1024",
         "turn by outputs refusal 21",
-        "add that moves 2 x ports - 3 cells, 16 ports",
     ] {
         assert!(report.never_hit.contains(&name.to_string()), "{name}");
     }

@@ -80,18 +80,6 @@ extern "C" {
         second: *mut u16,
         second_length: usize,
     ) -> usize;
-    fn frame_builder_add(
-        ports: usize,
-        slots: usize,
-        list: *const u16,
-        list_length: usize,
-        frame: *mut u16,
-        frame_length: usize,
-        flow: usize,
-        slot: &mut usize,
-        other: &mut usize,
-        moved: &mut usize,
-    ) -> usize;
     fn frame_builder_slot_view(
         ports: usize,
         slots: usize,
@@ -242,21 +230,6 @@ pub fn turn(
         number,
         ..Numbers::default()
     }
-}
-
-/// The cell's slot is the first value, the second slot that changed the second, and the cells moved the third.
-pub fn add(ports: usize, slots: usize, list: &[Flow], frame: &mut [u16], flow: usize) -> Numbers {
-    let (data, length) = numbers_of(list);
-    let (entries, size) = (frame.as_mut_ptr(), frame.len());
-    let mut given = Numbers::default();
-    let (slot, other, moved) = (&mut given.first, &mut given.second, &mut given.third);
-    // SAFETY: both slices are readable for their lengths, and the frame is writable and nobody else's.
-    given.number = unsafe {
-        frame_builder_add(
-            ports, slots, data, length, entries, size, flow, slot, other, moved,
-        )
-    };
-    given
 }
 
 /// Where the slot's part of the frame begins, and its size.

@@ -22,8 +22,8 @@
 //! A **frame** says what the switch does in 1, 2, 4, .. or 1,024 slots, after which it begins again. It is slots × ports entries, slot
 //! 1 first. A frame has a [**side**](Side). On the input side a slot has one entry per input: the number of the flow that the input sends a
 //! cell of, or 0 where it is idle. On the output side a slot has one entry per output: the number of the flow that the output takes a cell
-//! of, or 0 where it is idle. [`build`] makes frames on the input side, [`add`] takes them on that side alone, and [`turn`] writes a frame
-//! by the other side. The ports that a slot has entries of are those of the frame's side; the others are the ports of the other side.
+//! of, or 0 where it is idle. [`build`] makes frames on the input side, and [`turn`] writes a frame by the other side. The ports that a
+//! slot has entries of are those of the frame's side; the others are the ports of the other side.
 //!
 //! A frame is **balanced** if the cells of every flow, input, output and link, and all cells together, are spread evenly: a frame of two
 //! or more slots has two halves, which differ by at most one cell, each half is split again, and so on down to the slots. The frame, its
@@ -41,15 +41,13 @@
 //! | [`build`] | fills a frame, and says how much work that was | 1, 2, 21, 22, 23, 4, 5, 6, 24 |
 //! | [`inspect`] | looks over a frame that came from anywhere, on either side | 1, 2, 21, 22, 23, 4 |
 //! | [`turn`] | writes a frame by the other side | 1, 2, 21, 22, 23, 4, 15, 14 |
-//! | [`add`] | puts one more cell of a flow into a frame that is on air | 1, 2, 21, 22, 23, 4, 12, 16, 17, 18 |
 //! | [`slot_view`] | shows a slot's part of a frame | 1, 2, 4, 11 |
 //! | [`service_count`] | counts the cells of a flow, an input or an output in a run, with their lead | 1, 2, 21, 22, 23, 4, 11, 12, 13 |
 //! | [`depth`] | says how far from its share a flow, an input or an output can get, and how deep a buffer to order | 1, 2, 21, 22, 23, 5, 6, 12 |
 //!
 //! Every call takes any numbers and slices of any length, and none panics. One that cannot be answered is turned away with a
 //! [`Refusal`], the first in the table's order that holds. **A refusal leaves everything as it was**: above all, a refused [`build`]
-//! or [`add`] leaves every entry of the frame, so that the switch can go on with it, and a refused [`turn`] every entry of the second
-//! buffer.
+//! leaves every entry of the frame, so that the switch can go on with it, and a refused [`turn`] every entry of the second buffer.
 //!
 //! | size | |
 //! |---|---|
@@ -142,7 +140,7 @@
 //! 3. `rt staticlib exports`, which proves it and writes it, in the checkout that `FRAME_BUILDER_SOURCE` names, or in the one that
 //!    the crate stands in. It needs the Rattle kit.
 //!
-//! A variable that is set and leads to no library is an error, as is an installed one that is not whole, and one that is not of version 6.1
+//! A variable that is set and leads to no library is an error, as is an installed one that is not whole, and one that is not of version 6.0
 //! or a later 6.x, whose calls are other ones: nothing else is taken in its place. An empty variable is as one that is not set. Where no
 //! way leads to a library, the error says why each of them did not.
 //!
@@ -152,7 +150,6 @@
 #![deny(unsafe_code)]
 #![warn(missing_docs)]
 
-mod added;
 mod count;
 mod depth;
 #[allow(unsafe_code)]
@@ -165,7 +162,6 @@ mod refusal;
 mod side;
 mod who;
 
-pub use added::Added;
 pub use count::Count;
 pub use depth::Depth;
 pub use flow::{in_matrix_order, Flow};
@@ -352,62 +348,6 @@ pub fn turn(
     second: &mut [u16],
 ) -> Result<(), Refusal> {
     exported::turn(side, ports, slots, list, frame, second).answer()
-}
-
-/// Puts one more cell of a flow into a frame that is on air, without building it anew, and says [where](Added).
-///
-/// The frame is on the [input side](Side::Input), and may have come from anywhere. If a slot has both the flow's input and its output idle,
-/// the lowest such slot gets the cell. Otherwise there are two slots: the lowest in which the input is idle, and the lowest in which the
-/// output is idle. The cell goes into the first. Each cell that is then in the way goes to the other of the two slots, until nothing
-/// collides: the exchange of Slepian and Duguid. Two flows of one output collide whatever their links are.
-///
-/// No other slot changes. The frame stays free of [wrong entries](Fault::WrongEntry) and of [outputs that are used twice](Fault::PortTwice)
-/// in a slot. The flow has one entry more, and every other flow as many as before. So a frame that carries a list carries then the list
-/// with that flow's cells one higher, and it is never refused where no input and no output is asked for more cells in that list than there
-/// are slots. All this is proved.
-///
-/// Neither the cells of the list nor the limits of links are looked at. Whoever adds has [`admit`] accept the list with one cell more
-/// first, and keeps that list for [`inspect`] and for the next [`build`]. From an accepted call until that build the frame may be
-/// [unbalanced](Fault::UnbalancedBlock), and what is proved of frames that [`build`] made does not cover it: neither the bounds of a
-/// [lead](Count) nor what [`depth`] answers.
-///
-/// # Errors
-///
-/// Refusals 1, 2, 21, 22, 23, 4, 12, 16, 17 and 18, the first of them that holds; the frame then keeps every entry.
-///
-/// ```
-/// use frame_builder::{add, admit, build, inspect, slots_each, Added, Fault, Flow, Inspection, Refusal, Side};
-///
-/// let mut list = [Flow::new(1, 2, 2), Flow::new(2, 1, 1)];
-/// let limits = slots_each(4);
-/// let mut frame = [0; 8];
-/// build(2, 4, &list, limits, &mut frame)?;
-/// assert_eq!(frame, [1, 0, 0, 2, 1, 0, 0, 0]);
-///
-/// // One cell more of flow 2 fits, and slot 1 has both of its ports idle.
-/// list[1].cells += 1;
-/// admit(2, 4, &list, limits)?;
-/// assert_eq!(add(2, 4, &list, &mut frame, 2), Ok(Added { slot: 1, other: None, moved: 0 }));
-/// assert_eq!(frame, [1, 2, 0, 2, 1, 0, 0, 0]);
-/// // The frame carries the list, but both cells of flow 2 are in its first half.
-/// let unbalanced = Fault::UnbalancedBlock { slot: 1, size: 4 };
-/// assert_eq!(inspect(Side::Input, 2, 4, &list, &frame)?, Inspection::Faulty(unbalanced));
-///
-/// // Two cells more, and input 2 sends in every slot.
-/// add(2, 4, &list, &mut frame, 2)?;
-/// add(2, 4, &list, &mut frame, 2)?;
-/// assert_eq!(add(2, 4, &list, &mut frame, 2), Err(Refusal::InputFull));
-/// assert_eq!(frame, [1, 2, 0, 2, 1, 2, 0, 2]);
-/// # Ok::<(), Refusal>(())
-/// ```
-pub fn add(
-    ports: usize,
-    slots: usize,
-    list: &[Flow],
-    frame: &mut [u16],
-    flow: usize,
-) -> Result<Added, Refusal> {
-    exported::add(ports, slots, list, frame, flow).added()
 }
 
 /// The slot's part of the frame, one entry per port of the frame's side: the entries themselves, not a copy. It is the same part on either

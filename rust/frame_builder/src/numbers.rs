@@ -1,6 +1,6 @@
 //! Answers as numbers, the form in which they cross from the library.
 
-use crate::{Added, Count, Depth, Fault, Refusal};
+use crate::{Count, Depth, Fault, Refusal};
 
 /// An answer's number, and up to three values; a count has its cells and its lead.
 #[derive(Default)]
@@ -23,13 +23,6 @@ impl Numbers {
     /// What Build answers.
     pub fn settled(&self) -> Result<usize, Refusal> {
         self.answer().map(|()| self.first)
-    }
-
-    /// What Add answers; no slot is number 0.
-    pub fn added(&self) -> Result<Added, Refusal> {
-        let (slot, moved) = (self.first, self.third);
-        let other = Some(self.second).filter(|&other| other > 0);
-        self.answer().map(|()| Added { slot, other, moved })
     }
 
     pub fn count(&self) -> Result<Count, Refusal> {
@@ -55,9 +48,6 @@ impl Numbers {
             13 => Refusal::RunLength,
             14 => Refusal::Entries,
             15 => Refusal::SecondLength,
-            16 => Refusal::FrameEntries,
-            17 => Refusal::InputFull,
-            18 => Refusal::OutputFull,
             21 => Refusal::TooManyFlows,
             22 => Refusal::FlowPort,
             23 => Refusal::FlowLink,

@@ -36,7 +36,7 @@ pub enum Refusal {
     },
     /// 11, caused by whoever asks about a frame: a slot, or the start of a run, is not 1 to slots.
     SlotNumber,
-    /// 12, caused by whoever asks about a frame or adds to it: a flow is not in the list, or a port is not 1 to ports.
+    /// 12, caused by whoever asks about a frame: a flow is not in the list, or a port is not 1 to ports.
     FlowOrPort,
     /// 13, caused by whoever asks about a frame: a run is longer than [`MAX_RUN_SLOTS`](crate::MAX_RUN_SLOTS) slots.
     RunLength,
@@ -45,13 +45,6 @@ pub enum Refusal {
     Entries,
     /// 15, caused by the calling program: the second buffer does not have as many entries as the frame.
     SecondLength,
-    /// 16, caused by whoever made the frame: no cell can be added to it, since an entry is wrong or an output is used twice in a slot.
-    /// [`inspect`](crate::inspect) says which.
-    FrameEntries,
-    /// 17, caused by whoever adds a cell: the flow's input has no idle slot.
-    InputFull,
-    /// 18, caused by whoever adds a cell: the flow's input has an idle slot, but its output has none.
-    OutputFull,
     /// 21, caused by the house that reserves: the list has more than [`MAX_FLOWS`](crate::MAX_FLOWS) flows.
     TooManyFlows,
     /// 22, caused by the house that reserves: a flow's input or output is not 1 to ports.
@@ -88,9 +81,6 @@ impl Refusal {
             Refusal::RunLength => 13,
             Refusal::Entries => 14,
             Refusal::SecondLength => 15,
-            Refusal::FrameEntries => 16,
-            Refusal::InputFull => 17,
-            Refusal::OutputFull => 18,
             Refusal::TooManyFlows => 21,
             Refusal::FlowPort => 22,
             Refusal::FlowLink => 23,
@@ -117,9 +107,6 @@ impl fmt::Display for Refusal {
             Refusal::RunLength => "the run is longer than 1,000,000 slots",
             Refusal::Entries => "an entry of the frame is wrong, or a port is used twice in a slot",
             Refusal::SecondLength => "the second buffer's length differs from the frame's",
-            Refusal::FrameEntries => "an entry is wrong, or an output is used twice in a slot",
-            Refusal::InputFull => "the flow's input has no idle slot",
-            Refusal::OutputFull => "the flow's output has no idle slot",
             Refusal::TooManyFlows => "there are more than 512 flows",
             Refusal::FlowPort => "a flow's input or output is outside 1 to ports",
             Refusal::FlowLink => "a flow's link is outside 1 to 4",

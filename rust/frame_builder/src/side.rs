@@ -4,9 +4,8 @@ use std::fmt;
 
 /// The side that a frame is on: whose entries a slot has.
 ///
-/// [`build`](crate::build) makes frames on the input side, [`add`](crate::add) takes them on that side alone, and [`turn`](crate::turn)
-/// writes a frame by the other side. Whoever hands a frame to [`inspect`](crate::inspect), [`service_count`](crate::service_count) or
-/// [`turn`](crate::turn) says which side it is on.
+/// [`build`](crate::build) makes frames on the input side, and [`turn`](crate::turn) writes a frame by the other side. Whoever hands a
+/// frame to [`inspect`](crate::inspect), [`service_count`](crate::service_count) or [`turn`](crate::turn) says which side it is on.
 ///
 /// ```
 /// use frame_builder::Side;

@@ -2,9 +2,9 @@
 
 use std::error::Error;
 
-use frame_builder::{add, admit, build, depth, in_matrix_order, inspect};
+use frame_builder::{admit, build, depth, in_matrix_order, inspect};
 use frame_builder::{service_count, slot_view, slots_each, turn};
-use frame_builder::{Added, Count, Depth, Fault, Flow, Inspection, Limits, Refusal, Side, Who};
+use frame_builder::{Count, Depth, Fault, Flow, Inspection, Limits, Refusal, Side, Who};
 use frame_builder::{MAX_LINKS, MAX_PORTS};
 
 /// The flows of source document 000's Table 7.
@@ -20,7 +20,7 @@ const TABLE7: [Flow; 5] = [
 const OWN: [Flow; 2] = [Flow::new(1, 1, 1), Flow::new(2, 2, 1)];
 
 /// Every refusal, by rising number, from a call that is refused so.
-fn refusals() -> [Refusal; 17] {
+fn refusals() -> [Refusal; 14] {
     let refused = |refusal: Result<(), Refusal>| refusal.expect_err("the call is refused");
     let admitted = |ports, slots, list: &[Flow]| refused(admit(ports, slots, list, slots_each(4)));
     let counted = |who, length| {
@@ -30,10 +30,6 @@ fn refusals() -> [Refusal; 17] {
     let turned = |frame: &[u16], length| {
         let mut second = vec![0; length];
         refused(turn(Side::Input, 2, 2, &OWN, frame, &mut second))
-    };
-    let added = |mut frame: [u16; 4], flow| {
-        let list = [Flow::new(1, 1, 1), Flow::new(2, 1, 1)];
-        refused(add(2, 2, &list, &mut frame, flow).map(|_| ()))
     };
     [
         admitted(17, 2, &[]),
@@ -46,9 +42,6 @@ fn refusals() -> [Refusal; 17] {
         counted(Who::Input(1), 1_000_001),
         turned(&[2, 0, 0, 0], 4),
         turned(&[0; 4], 5),
-        added([1, 2, 0, 0], 1),
-        added([1, 0, 1, 0], 1),
-        added([1, 0, 1, 0], 2),
         admitted(2, 2, &[Flow::new(1, 1, 0); 513]),
         admitted(2, 2, &[Flow::new(1, 3, 0)]),
         admitted(2, 2, &[Flow::new(1, 2, 0).on_link(5)]),
@@ -56,7 +49,7 @@ fn refusals() -> [Refusal; 17] {
     ]
 }
 
-const SENTENCES: [(usize, &str); 17] = [
+const SENTENCES: [(usize, &str); 14] = [
     (1, "the number of ports is not 1 to 16"),
     (
         2,
@@ -82,12 +75,6 @@ const SENTENCES: [(usize, &str); 17] = [
         "an entry of the frame is wrong, or a port is used twice in a slot",
     ),
     (15, "the second buffer's length differs from the frame's"),
-    (
-        16,
-        "an entry is wrong, or an output is used twice in a slot",
-    ),
-    (17, "the flow's input has no idle slot"),
-    (18, "the flow's output has no idle slot"),
     (21, "there are more than 512 flows"),
     (22, "a flow's input or output is outside 1 to ports"),
     (23, "a flow's link is outside 1 to 4"),
@@ -631,116 +618,5 @@ fn built_frames_of_every_size_are_clean_on_both_sides() {
             );
             assert!(frame == back, "{ports} x {slots}");
         }
-    }
-}
-
-#[test]
-fn adds_are_refused_in_their_order() {
-    // All that can be wrong with an add, and then one thing after the other put right.
-    let wrong = [Flow::new(17, 1, 0).on_link(0); 513];
-    let in_link = [Flow::new(1, 1, 0).on_link(5)];
-    let to_one = [Flow::new(1, 1, 0), Flow::new(2, 1, 0).on_link(2)];
-    for (ports, slots, list, frame, flow, refusal) in [
-        (0, 3, &wrong[..], &[9; 3][..], 0, Refusal::Ports),
-        (2, 3, &wrong, &[9; 3], 0, Refusal::Slots),
-        (2, 2, &wrong, &[9; 3], 0, Refusal::TooManyFlows),
-        (2, 2, &wrong[..512], &[9; 3], 0, Refusal::FlowPort),
-        (2, 2, &in_link, &[9; 3], 0, Refusal::FlowLink),
-        (2, 2, &to_one, &[9; 3], 0, Refusal::FrameLength),
-        (2, 2, &to_one, &[9; 4], 0, Refusal::FlowOrPort),
-        (2, 2, &to_one, &[9; 4], 3, Refusal::FlowOrPort),
-        (2, 2, &to_one, &[9; 4], usize::MAX, Refusal::FlowOrPort),
-        (2, 2, &to_one, &[1, 0, 1, 9], 1, Refusal::FrameEntries),
-        (2, 2, &to_one, &[1, 0, 1, 1], 1, Refusal::FrameEntries),
-        (2, 2, &to_one, &[1, 0, 1, 2], 1, Refusal::FrameEntries),
-        (2, 2, &to_one, &[1, 0, 1, 0], 1, Refusal::InputFull),
-        (2, 2, &to_one, &[1, 0, 0, 2], 1, Refusal::OutputFull),
-        (2, 2, &[], &[0; 4], 1, Refusal::FlowOrPort),
-    ] {
-        let mut changed = frame.to_vec();
-        let answer = add(ports, slots, list, &mut changed, flow);
-        assert_eq!(answer, Err(refusal), "{frame:?}, flow {flow}");
-        assert_eq!(changed, frame);
-    }
-}
-
-/// A cell from input 1 to output 1, and cells of flows for each pair that are in its way, from none up to the most.
-#[test]
-fn cells_that_are_in_the_way_are_moved() {
-    let list = even(4, 0);
-    let one = |slot| (slot, None, 0);
-    let two = |slot, other, moved| (slot, Some(other), moved);
-    for (frame, (slot, other, moved), after) in [
-        ([0, 6, 0, 0, 0, 5, 0, 0], one(1), [1, 6, 0, 0, 0, 5, 0, 0]),
-        ([2, 5, 0, 0, 0, 8, 0, 0], one(2), [2, 5, 0, 0, 1, 8, 0, 0]),
-        (
-            [0, 5, 0, 0, 2, 0, 0, 0],
-            two(1, 2, 1),
-            [1, 0, 0, 0, 2, 5, 0, 0],
-        ),
-        (
-            [2, 0, 0, 0, 0, 5, 0, 0],
-            two(2, 1, 1),
-            [2, 5, 0, 0, 1, 0, 0, 0],
-        ),
-        (
-            [0, 5, 12, 0, 2, 7, 12, 0],
-            two(1, 2, 2),
-            [1, 7, 12, 0, 2, 5, 12, 0],
-        ),
-        (
-            [0, 5, 10, 15, 4, 6, 11, 0],
-            two(1, 2, 5),
-            [1, 6, 11, 0, 4, 5, 10, 15],
-        ),
-    ] {
-        let mut changed = frame;
-        let answer = add(4, 2, &list, &mut changed, 1);
-        assert_eq!(answer, Ok(Added { slot, other, moved }), "{frame:?}");
-        assert_eq!(changed, after);
-    }
-}
-
-/// The cells that stand in the two slots alone have changed, and as many of those that stood there before as were moved.
-fn moved_as_said(ports: usize, before: &[u16], after: &[u16], added: Added) -> bool {
-    let changed: Vec<usize> = (0..before.len())
-        .filter(|&place| before[place] != after[place])
-        .collect();
-    let named = |place: &usize| [Some(added.slot), added.other].contains(&Some(place / ports + 1));
-    let moved = changed.iter().filter(|&&place| before[place] > 0).count();
-    changed.iter().all(named) && added.moved == moved && moved <= (2 * ports).saturating_sub(3)
-}
-
-/// Cells are added to an idle frame until nothing fits: what is admitted is added, and the frame then carries the list.
-#[test]
-fn what_is_admitted_is_added() {
-    for (ports, slots) in [(1, 4), (2, 2), (3, 8), (5, 16), (16, 16)] {
-        let mut list = even(ports, 0);
-        let mut frame = vec![0; ports * slots];
-        // Every flow in turn, again and again.
-        for step in 0..list.len() * (slots + 1) {
-            let flow = step * 7 % list.len();
-            let mut more = list.clone();
-            more[flow].cells += 1;
-            let before = frame.clone();
-            let answer = add(ports, slots, &list, &mut frame, flow + 1);
-            match admit(ports, slots, &more, slots_each(slots)) {
-                Ok(()) => {
-                    let added = answer.expect("a list that fits");
-                    assert!(moved_as_said(ports, &before, &frame, added));
-                    list = more;
-                    let found = inspect(Side::Input, ports, slots, &list, &frame);
-                    assert!(matches!(found.map(Inspection::number), Ok(0 | 104)));
-                }
-                Err(overload) => {
-                    let full = match overload {
-                        Refusal::InputLoad { .. } => Refusal::InputFull,
-                        _ => Refusal::OutputFull,
-                    };
-                    assert_eq!((answer, &frame), (Err(full), &before));
-                }
-            }
-        }
-        assert!(frame.iter().all(|&entry| entry > 0), "{ports} x {slots}");
     }
 }

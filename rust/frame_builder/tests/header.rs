@@ -76,9 +76,6 @@ fn refusals() {
         ("RUN_LENGTH", Refusal::RunLength),
         ("ENTRIES", Refusal::Entries),
         ("SECOND_LENGTH", Refusal::SecondLength),
-        ("FRAME_ENTRIES", Refusal::FrameEntries),
-        ("INPUT_FULL", Refusal::InputFull),
-        ("OUTPUT_FULL", Refusal::OutputFull),
         ("TOO_MANY_FLOWS", Refusal::TooManyFlows),
         ("FLOW_PORT", Refusal::FlowPort),
         ("FLOW_LINK", Refusal::FlowLink),
@@ -105,7 +102,7 @@ fn refusals_that_the_crate_does_not_have() {
     assert_eq!(number("REFUSED_LINE_PORT"), Some(8));
     assert_eq!(number("REFUSED_SHEET_LENGTH"), Some(10));
     let names = HEADER.matches("#define FRAME_BUILDER_REFUSED_").count();
-    assert_eq!(names, 4 + 17);
+    assert_eq!(names, 4 + 14);
 }
 
 #[test]

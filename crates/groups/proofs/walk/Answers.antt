@@ -7,13 +7,13 @@ pub loop-favoured-init : goal.loop-favoured-init
 loop-favoured-init c = walking_start _ _ c.requires.2 c.requires.3
 
 pub bounds-favoured-q : goal.bounds-favoured-q
-bounds-favoured-q c = search (rules, walking_at)
+bounds-favoured-q c = walking_at c.loop-favoured.invariant c.requires.2 c.requires.3 c.number-q.ensures.0
 
 pub returns-then-favoured-q-ne0 : goal.returns-then-favoured-q-ne0
 returns-then-favoured-q-ne0 c = search (rules, walking_stop)
 
 pub bounds-favoured-q-in-loop-favoured : goal.bounds-favoured-q-in-loop-favoured
-bounds-favoured-q-in-loop-favoured c = search (rules, walking_at)
+bounds-favoured-q-in-loop-favoured c = walking_at c.loop-favoured.invariant c.requires.2 c.requires.3 c.number-q.ensures.0
 
 pub overflow_add-steps : goal.overflow_add-steps
 overflow_add-steps c = search (rules, walking_room)
@@ -25,7 +25,7 @@ pub bounds-mates-far : goal.bounds-mates-far
 bounds-mates-far c = omega (arith, walking_at c.loop-favoured.invariant c.requires.2 c.requires.3 c.number-q.ensures.0)
 
 pub bounds-favoured-p : goal.bounds-favoured-p
-bounds-favoured-p c = search (rules, walking_at_2)
+bounds-favoured-p c = walking_at_2 c.loop-favoured.invariant c.requires.2 c.requires.3 c.number-q.ensures.0 c.if-favoured-q-ne0.false c.number-p.ensures.0
 
 pub returns-then-favoured-p-ne0 : goal.returns-then-favoured-p-ne0
 returns-then-favoured-p-ne0 c = search (rules, walking_stop_2)

@@ -1,10 +1,10 @@
 use Prim.Native.Nat.{◌-◌}
-use mathlib.Core.Logic.{⊎_elim}
 use Rattle.std.proofs.Common.{rules}
 use Rattle.rules.proofs.Searches.{passed_start, passed_done}
 use Rattle.entries.proofs.Found.{from_fits, place_low, place_fits, offset_fits}
 use Rattle.idle.proofs.Found.{input_least, input_below, busy_on, both_on, both_found}
 use Rattle.idle.proofs.lowest_both.Goals as goal
+use Rattle.idle.proofs.lowest_both.Goals.{then-frame-s-eq0+else-lowest_to-ports, else-frame-s-eq0}
 
 pub overflow_sub-i : goal.overflow_sub-i
 overflow_sub-i c = search (rules, input_least)
@@ -28,7 +28,13 @@ pub returns-then-lowest_to-ports : goal.returns-then-lowest_to-ports
 returns-then-lowest_to-ports c = let asked = c.requires in both_found asked.0 asked.1 c.loop-s-test.true c.loop-s.invariant c.number_of-i.ensures.0 c.if-frame-s-eq0.true c.number_of-o.ensures.0 c.lowest_to.ensures c.if-lowest_to-ports.true
 
 pub loop-s-preserved : goal.loop-s-preserved
-loop-s-preserved c = let asked = c.requires in ⊎_elim (λ w. both_on asked.0 asked.1 c.loop-s-test.true c.loop-s.invariant c.number_of-i.ensures.0 w.0.taken c.number_of-o.ensures.0 w.1.ensures w.2.left) (λ w. busy_on asked.0 asked.1 c.loop-s-test.true c.loop-s.invariant c.number_of-i.ensures.0 w.left) c.if-frame-s-eq0.branch
+loop-s-preserved c =
+    let asked = c.requires in
+    elim c.if-frame-s-eq0.branch [
+      | then-frame-s-eq0+else-lowest_to-ports w ↦
+          both_on asked.0 asked.1 c.loop-s-test.true c.loop-s.invariant c.number_of-i.ensures.0 w.if-frame-s-eq0.true c.number_of-o.ensures.0 w.lowest_to.ensures w.if-lowest_to-ports.false
+      | else-frame-s-eq0 w ↦ busy_on asked.0 asked.1 c.loop-s-test.true c.loop-s.invariant c.number_of-i.ensures.0 w.if-frame-s-eq0.false
+    ]
 
 pub returns : goal.returns
 returns c = search (rules, passed_done)

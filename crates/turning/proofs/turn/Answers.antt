@@ -11,16 +11,16 @@ pub returns-then-bad_length : goal.returns-then-bad_length
 returns-then-bad_length c = done _ _ _ _ _ _ _ _ (search (rules, frame_done))
 
 pub returns-then-second-frame : goal.returns-then-second-frame
-returns-then-second-frame c = done _ _ _ _ _ _ _ _ (second_done _ _ _ c.check_list.ensures c.enum_told-1.given.1 c.bad_length.ensures c.if-bad_length.false c.if-second-frame.true)
+returns-then-second-frame c = done _ _ _ _ _ _ _ _ (second_done _ _ _ c.check_list.ensures c.in_default.is c.bad_length.ensures c.if-bad_length.false c.if-second-frame.true)
 
 pub bad_entries-requires : goal.bad_entries-requires
-bad_entries-requires c = let lent = c.args in let framed = frame_fits c.check_list.ensures {c = lent.frame.now} c.enum_told-1.given.1 c.bad_length.ensures c.if-bad_length.false in (search (rules, list_fits), search rules)
+bad_entries-requires c = let lent = c.args in let framed = frame_fits c.check_list.ensures {frame = lent.frame.now} c.in_default.is c.bad_length.ensures c.if-bad_length.false in (search (rules, list_fits), search rules)
 
 pub returns-then-bad_entries : goal.returns-then-bad_entries
-returns-then-bad_entries c = done _ _ _ _ _ _ _ _ (entries_done _ _ _ c.check_list.ensures c.enum_told-1.given.1 c.bad_length.ensures c.if-bad_length.false c.if-second-frame.false c.bad_entries.ensures c.if-bad_entries.true)
+returns-then-bad_entries c = done _ _ _ _ _ _ _ _ (entries_done _ _ _ c.check_list.ensures c.in_default.is c.bad_length.ensures c.if-bad_length.false c.if-second-frame.false c.bad_entries.ensures c.if-bad_entries.true)
 
 pub turn_frame-requires : goal.turn_frame-requires
-turn_frame-requires c = let list = c.check_list.ensures in let accepted = c.enum_told-1.given.1 in (bad_usable _ (list_well list accepted) (frame_fits list accepted c.bad_length.ensures c.if-bad_length.false) c.bad_entries.ensures c.if-bad_entries.false, c.if-second-frame.false)
+turn_frame-requires c = let list = c.check_list.ensures in let accepted = c.in_default.is in (bad_usable _ (list_well list accepted) (frame_fits list accepted c.bad_length.ensures c.if-bad_length.false) c.bad_entries.ensures c.if-bad_entries.false, c.if-second-frame.false)
 
 pub returns : goal.returns
-returns c = done _ _ _ _ _ _ _ _ (turns _ _ _ c.check_list.ensures c.enum_told-1.given.1 c.bad_length.ensures c.if-bad_length.false c.if-second-frame.false c.bad_entries.ensures c.if-bad_entries.false c.turn_frame.ensures)
+returns c = done _ _ _ _ _ _ _ _ (turns _ _ _ c.check_list.ensures c.in_default.is c.bad_length.ensures c.if-bad_length.false c.if-second-frame.false c.bad_entries.ensures c.if-bad_entries.false c.turn_frame.ensures)

@@ -1,6 +1,5 @@
 //! Builders that must be sent back, each the reference with one call replaced.
 
-mod additions;
 mod admissions;
 mod builds;
 mod counts;
@@ -11,7 +10,6 @@ mod splits;
 mod turns;
 mod views;
 
-pub use additions::*;
 pub use admissions::*;
 pub use builds::*;
 pub use counts::*;
@@ -22,8 +20,8 @@ pub use splits::*;
 pub use turns::*;
 pub use views::*;
 
-use calls::{Addition, Answer, Bounded, Built, Calls, Class, Inspection, Limits, Question};
-use calls::{Refusal, Service, SheetProgram, Side};
+use calls::{Answer, Bounded, Built, Calls, Class, Inspection, Limits, Question, Refusal};
+use calls::{Service, SheetProgram, Side};
 use loads::Flow;
 
 /// What Admit and Build are asked for.
@@ -91,22 +89,6 @@ impl AskedFrame<'_> {
     }
 }
 
-/// What Add is asked for, besides the entries of its frame.
-#[derive(Clone, Copy)]
-pub struct AskedAdd<'a> {
-    pub ports: u64,
-    pub slots: u64,
-    pub list: &'a [u16],
-    pub flow: u64,
-}
-
-impl AskedAdd<'_> {
-    /// What the reference's Add does.
-    fn add(self, frame: &mut [u16]) -> Addition {
-        reference::add(self.ports, self.slots, self.list, frame, self.flow)
-    }
-}
-
 /// What Service count is asked for.
 #[derive(Clone, Copy)]
 pub struct AskedCount<'a> {
@@ -156,7 +138,6 @@ type AdmitCall = fn(Asked) -> Answer;
 pub type BuildCall = fn(Asked, &mut [u16]) -> Built;
 pub type InspectCall = fn(AskedFrame) -> Inspection;
 type TurnCall = fn(AskedFrame, &mut [u16]) -> Answer;
-type AddCall = fn(AskedAdd, &mut [u16]) -> Addition;
 type ViewCall = for<'f> fn(u64, u64, &'f [u16], u64, &mut u64) -> &'f [u16];
 type CountCall = fn(AskedCount) -> Service;
 type DepthCall = fn(AskedDepth) -> Bounded;
@@ -167,7 +148,6 @@ pub struct Broken {
     pub build: BuildCall,
     pub inspect: InspectCall,
     pub turn: TurnCall,
-    pub add: AddCall,
     pub slot_view: ViewCall,
     pub service_count: CountCall,
     pub depth: DepthCall,
@@ -182,7 +162,6 @@ impl Default for Broken {
             build: right_build,
             inspect: |asked| asked.inspect(),
             turn: |asked, second| asked.turn(second),
-            add: |asked, frame| asked.add(frame),
             slot_view: right_view,
             service_count: |asked| asked.count(),
             depth: |asked| asked.depth(),
@@ -252,16 +231,6 @@ impl Calls for Broken {
             frame,
         };
         (self.turn)(asked, second)
-    }
-
-    fn add(&self, ports: u64, slots: u64, list: &[u16], frame: &mut [u16], flow: u64) -> Addition {
-        let asked = AskedAdd {
-            ports,
-            slots,
-            list,
-            flow,
-        };
-        (self.add)(asked, frame)
     }
 
     fn slot_view<'f>(

@@ -1,6 +1,6 @@
 //! Calls with all that they are given, which any builder can be asked; an answer is its numbers.
 
-use calls::{Added, Calls, Class, Inspection, Limits, Question, Refusal, Side, INPUT_SIDE};
+use calls::{Calls, Class, Inspection, Limits, Question, Refusal, Side, INPUT_SIDE};
 use reference::slots_each;
 
 /// What no entry of these frames is, so that an entry which is not written shows.
@@ -113,24 +113,6 @@ pub fn turn_into(
 /// Turn into a second buffer of the frame's length.
 pub fn turn(side: u64, ports: u64, slots: u64, list: &[u16], frame: &[u16]) -> Asked {
     turn_into(frame.len(), side, ports, slots, list, frame)
-}
-
-/// Add; the values are the slot, the second one or 0, the cells moved, and the entries of the frame. A refused one must be as it was.
-pub fn add(ports: u64, slots: u64, list: &[u16], frame: &[u16], flow: u64) -> Asked {
-    let (list, before) = (list.to_vec(), frame.to_vec());
-    Box::new(move |calls| {
-        let mut frame = before.clone();
-        let Added { slot, other, moved } = match calls.add(ports, slots, &list, &mut frame, flow) {
-            Ok(added) => added,
-            Err(refusal) => {
-                assert_eq!(frame, before, "refused");
-                return refused(refusal);
-            }
-        };
-        let values = [slot, other.unwrap_or_default(), moved].map(|value| value as i64);
-        let entries = frame.into_iter().map(i64::from);
-        accepted(values.into_iter().chain(entries))
-    })
 }
 
 /// Service count in a frame of this side; the values are the cells and their lead.

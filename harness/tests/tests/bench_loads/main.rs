@@ -12,7 +12,6 @@ macro_rules! cases {
     };
 }
 
-mod adds;
 mod admits;
 mod asked;
 mod builds;
@@ -22,7 +21,6 @@ mod depths;
 mod faults_by_outputs;
 mod links;
 mod lists;
-mod refused_adds;
 mod refused_counts;
 mod refused_depths;
 mod refused_turns;
