@@ -1,5 +1,5 @@
 use Rattle.reading.proofs.Lines.{pair_form, pair_full, pair_input, pair_output, pair_in}
-use Rattle.std.proofs.Common.{refl}
+use Rattle.std.proofs.Common.{arith, refl}
 use Rattle.reading.proofs.pair_line.Goals as goal
 
 pub returns-in_default : goal.returns-in_default
@@ -10,14 +10,14 @@ returns-then-flows-ge512 c = pair_full _ _ _ _ _ _ _ _ _ c.in-Form.ensures refl 
 
 pub returns-then-outside : goal.returns-then-outside
 returns-then-outside c =
-    pair_input _ _ _ _ _ _ _ _ _ c.in-Form.ensures refl c.if-flows-ge512.false _ c.outside.ensures c.if-outside.true
+    pair_input _ _ _ _ _ _ _ _ _ c.in-Form.ensures refl (omega arith) _ c.outside.ensures c.if-outside.true
 
 pub returns-then-outside-2 : goal.returns-then-outside-2
 returns-then-outside-2 c =
-    pair_output _ _ _ _ _ _ _ _ _ c.in-Form.ensures refl c.if-flows-ge512.false
+    pair_output _ _ _ _ _ _ _ _ _ c.in-Form.ensures refl (omega arith)
     _ _ c.outside.ensures c.if-outside.false c.outside-2.ensures c.if-outside-2.true
 
 pub returns : goal.returns
 returns c =
-    pair_in _ _ _ _ _ _ _ _ _ c.in-Form.ensures refl c.if-flows-ge512.false
+    pair_in _ _ _ _ _ _ _ _ _ c.in-Form.ensures refl (omega arith)
     _ _ c.outside.ensures c.if-outside.false c.outside-2.ensures c.requires.0 c.if-outside-2.false
