@@ -131,6 +131,15 @@ sheet_passed s list frame (Pair i o m next) h x k = absurd x
 sheet_passed s list frame (Loads p slots n) h x k = absurd (miss (0 ∷ 1 ∷ 2 ∷ 4 ∷ []) 3 tt k)
 sheet_passed s list frame (Refused r) h x k = record { prints = ap printed (sheet_short s h ∙ ap overloaded x); printable = tt }
 
+-- The same where what was read is known to be no list of flows.
+pub sheet_refused : (s list frame : List ℕ) (r : Reading) → length s ≤ 32768 → SheetOf (read_ports (lines s)) list r → ((p k n : ℕ) → r ≡ Loads p k n → ⊥)
+    → Answered (read_sheet s) frame r
+sheet_refused s list frame (Ports n next) h x k = absurd x
+sheet_refused s list frame (Slots n next) h x k = absurd x
+sheet_refused s list frame (Pair i o m next) h x k = absurd x
+sheet_refused s list frame (Loads p slots n) h x k = absurd (k p slots n refl)
+sheet_refused s list frame (Refused r) h x k = record { prints = ap printed (sheet_short s h ∙ ap overloaded x); printable = tt }
+
 pub loads_known : (asked : Asked) (list : List ℕ) (r : Reading) (ports slots n : ℕ) → SheetOf asked list r → r ≡ Loads ports slots n → LoadsRead asked list ports slots n
 loads_known asked list r ports slots n x e = rw e at x
 

@@ -1,4 +1,3 @@
-use Prim.Native.Nat.{◌-◌}
 use Rattle.lines.proofs.Pieces.{prints_size, word_first, word_next, word_room, word_done}
 use Rattle.std.proofs.Common.{rules}
 use Rattle.lines.proofs.put_word.Goals as goal

@@ -1,4 +1,3 @@
-use Prim.Native.Nat.{◌-◌}
 use Rattle.text.proofs.Places.{number_none, number_zero, number_start, number_more, number_over, number_end}
 use Rattle.std.proofs.Common.{rules}
 use native.Mathlib.Omega.{arith}

@@ -1,4 +1,3 @@
-use Prim.Native.Nat.{◌-◌}
 use Rattle.text.proofs.Places.{word_short, word_start, word_on, word_off, word_end}
 use Rattle.std.proofs.Common.{rules}
 use Rattle.text.proofs.word.Goals as goal
