@@ -1,4 +1,4 @@
-use Rattle.std.proofs.Common.{rules, arith}
+use Rattle.std.proofs.Common.{arith}
 use Rattle.service.proofs.Ways.{way_placed}
 use Rattle.service.proofs.Counting.{counting_start, counting_on, counting_end, counting_most}
 use Rattle.service.proofs.slot_cells.Goals as goal
