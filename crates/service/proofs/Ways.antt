@@ -8,7 +8,7 @@ use native.Mathlib.Omega.{arith}
 use lib.Dec.{eqb}
 use borrow.Author.Tests.{eq-eqb, ne_eqb}
 use Rattle.rules.specs.Words.{both, bit}
-use Rattle.rules.specs.Flows.{flows, number_of, same, flow, port_on, input, output}
+use Rattle.rules.specs.Flows.{flows, number_of, same, port_on, input, output}
 use Rattle.rules.specs.Frames.{is_flow_of, counts_on}
 use Rattle.calls.specs.Sides.{side_of}
 use Rattle.calls.specs.Service.{class_of, who_within}
@@ -17,7 +17,7 @@ use Rattle.calls.specs.declared.Side.TheVariants as side
 use Rattle.calls.specs.declared.Who.{Who}
 use Rattle.calls.specs.declared.Who.TheVariants.{Flow, Input, Output}
 use Rattle.rules.proofs.Cases.{by_bool, eqb_alike, within_true, within_yes}
-use Rattle.rules.proofs.Flows.{same_side, no_flow, flow_counts}
+use Rattle.rules.proofs.Flows.{no_flow, flow_counts}
 use Rattle.checks.specs.Fits.{ListFits, WhoFits}
 use Rattle.checks.specs.Places.{place_on}
 use Rattle.checks.proofs.Fits.{fits_sixteen, side_number, side_is}

@@ -16,10 +16,10 @@ pub returns-then-bad_who : goal.returns-then-bad_who
 returns-then-bad_who c = search (rules, who_shut)
 
 pub load_of-requires : goal.load_of-requires
-load_of-requires c = who_open c.check_list.ensures c.args.who c.enum_told-1.given.1 c.loads_of-loads.ensures c.port_overload.ensures c.enum_told-in_default-port_overload-1.given.1 c.bad_who.ensures c.if-bad_who.false
+load_of-requires c = who_open c.check_list.ensures c.args.who c.in_default.is c.loads_of-loads.ensures c.port_overload.ensures c.in_default-port_overload.is c.bad_who.ensures c.if-bad_who.false
 
 pub bound_of-requires : goal.bound_of-requires
-bound_of-requires c = who_room c.check_list.ensures c.args.who c.enum_told-1.given.1 c.loads_of-loads.ensures c.port_overload.ensures c.enum_told-in_default-port_overload-1.given.1 c.bad_who.ensures c.if-bad_who.false c.load_of.ensures
+bound_of-requires c = who_room c.check_list.ensures c.args.who c.in_default.is c.loads_of-loads.ensures c.port_overload.ensures c.in_default-port_overload.is c.bad_who.ensures c.if-bad_who.false c.load_of.ensures
 
 pub returns : goal.returns
-returns c = bound_is c.check_list.ensures c.args.who c.enum_told-1.given.1 c.loads_of-loads.ensures c.port_overload.ensures c.enum_told-in_default-port_overload-1.given.1 c.bad_who.ensures c.if-bad_who.false c.load_of.ensures c.bound_of.ensures
+returns c = bound_is c.check_list.ensures c.args.who c.in_default.is c.loads_of-loads.ensures c.port_overload.ensures c.in_default-port_overload.is c.bad_who.ensures c.if-bad_who.false c.load_of.ensures c.bound_of.ensures

@@ -13,5 +13,7 @@ slot_cells-whole-requires c = (c.requires.asked, entries_most c.requires.framed)
 pub lead_of-lead-requires : goal.lead_of-lead-requires
 lead_of-lead-requires c = let asked = c.requires in let run = run_fits _ asked c.run_cells-cells.ensures in let whole = whole_fits _ asked c.slot_cells-whole.ensures in ((slots_within asked.framed).1, omega (arith, run, whole), asked.length_is, omega (arith, run, whole))
 
-pub returns : goal.returns
-returns c = let kept : to_z w64 (of_z w64 c.lead_of-lead.result) ≡ c.lead_of-lead.result = search rules in (search rules, kept ∙ c.lead_of-lead.ensures ∙ search (rules, lead_counted))
+pub returns-clause-lead_value : goal.returns-clause-lead_value
+returns-clause-lead_value c =
+    let kept : to_z w64 (of_z w64 c.lead_of-lead.result) ≡ c.lead_of-lead.result = search rules in
+    kept ∙ c.lead_of-lead.ensures ∙ search (rules, lead_counted)

@@ -21,7 +21,7 @@ pub overflow_sub-start : goal.overflow_sub-start
 overflow_sub-start c = search (rules, start_least)
 
 pub count_run-requires : goal.count_run-requires
-count_run-requires c = asked _ _ _ _ _ _ _ c.check_list.ensures c.enum_told-1.given.1 c.bad_length.ensures c.if-bad_length.false c.outside.ensures c.if-outside.false c.bad_who.ensures c.if-bad_who.false c.too_long.ensures c.if-too_long.false
+count_run-requires c = asked _ _ _ _ _ _ _ c.check_list.ensures c.in_default.is c.bad_length.ensures c.if-bad_length.false c.outside.ensures c.if-outside.false c.bad_who.ensures c.if-bad_who.false c.too_long.ensures c.if-too_long.false
 
 pub returns : goal.returns
-returns c = run_counted _ _ _ _ _ _ _ c.check_list.ensures c.enum_told-1.given.1 c.bad_length.ensures c.if-bad_length.false c.outside.ensures c.if-outside.false c.bad_who.ensures c.if-bad_who.false c.too_long.ensures c.if-too_long.false _ c.count_run.ensures.0 c.count_run.ensures.1
+returns c = run_counted _ _ _ _ _ _ _ c.check_list.ensures c.in_default.is c.bad_length.ensures c.if-bad_length.false c.outside.ensures c.if-outside.false c.bad_who.ensures c.if-bad_who.false c.too_long.ensures c.if-too_long.false _ c.count_run.ensures.cells_value c.count_run.ensures.lead_value

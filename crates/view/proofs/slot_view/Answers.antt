@@ -11,5 +11,8 @@ offset_bounds-frame-start c = search (rules, offset_fits)
 pub slice_bounds-result-end : goal.slice_bounds-result-end
 slice_bounds-result-end c = search (rules, end_inside)
 
-pub returns : goal.returns
-returns c = (search (rules, part_viewed), (search (rules, begins), search rules))
+pub returns-clause-result_value : goal.returns-clause-result_value
+returns-clause-result_value c = search (rules, part_viewed)
+
+pub returns-clause-ref_ptr_value : goal.returns-clause-ref_ptr_value
+returns-clause-ref_ptr_value c = search (rules, begins)
