@@ -1,12 +1,12 @@
 -- Entries put one after the other: a slot by the other side.
-use Prim.Native.Nat.{ℕ, suc, zero, ◌+◌, ◌-◌, ◌*◌, ◌≤◌, ◌<◌}
-use mathlib.Core.Path.{◌≡◌, refl, sym, ap, ◌∙◌}
+use Prim.Native.Nat.{ℕ, suc, ◌+◌, ◌-◌, ◌*◌, ◌≤◌, ◌<◌}
+use mathlib.Core.Path.{◌≡◌, sym, ap, ◌∙◌}
 use mathlib.Core.Logic.{◌≢◌}
 use mathlib.Core.List.{List}
 use native.Mathlib.Omega.{arith}
 use lib.ListN.{length, get_or, set, replicate, length-set, length-replicate}
-use lib.Seq.{get_or-set_same, get_or-set_other, ext_get_or}
-use borrow.Author.Tests.{ne_eqb, eq-eqb}
+use lib.Seq.{get_or-set_same, get_or-set_other}
+use borrow.Author.Tests.{ne_eqb}
 use Rattle.rules.specs.Flows.{flows, number_of, Side, other, on_side, port_of}
 use Rattle.rules.proofs.Cases.{by_eq}
 use Rattle.rules.proofs.Lists.{zero_at}
@@ -15,7 +15,7 @@ use Rattle.checks.specs.Fits.{ListFits}
 use Rattle.checks.specs.Places.{place_on}
 use Rattle.checks.proofs.Fits.{well_fits, side_number, side_is}
 use Rattle.sides.specs.Turn.{by_side, Turnable}
-use Rattle.sides.proofs.Slots.{Sound, flow_of, one_goes, at_most}
+use Rattle.sides.proofs.Slots.{flow_of, one_goes, at_most}
 use Rattle.sides.proofs.Turned.{one_sound, only_turned}
 use Rattle.turning.specs.Put.{put}
 

@@ -1,4 +1,3 @@
-use Prim.Native.Nat.{◌-◌}
 use Rattle.std.proofs.Common.{rules}
 use Rattle.checks.proofs.Fits.{fits_sixteen}
 use Rattle.entries.proofs.Found.{from_fits, place_low, place_fits, offset_fits, entry_flow}

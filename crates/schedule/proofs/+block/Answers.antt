@@ -6,7 +6,7 @@ use Rattle.planes.proofs.Counts.{block_ends}
 use Rattle.halves.proofs.Marked.{others_mask}
 use Rattle.halves.proofs.Halved.{halved_block}
 use Rattle.split.proofs.Divided.{favours_second}
-use Rattle.schedule.proofs.Framed.{inputs_in, all_blank, frame_one, shorter, half_counts, mid_length, mid_fits, framed_size, front_blank, still_room, back_blank, written}
+use Rattle.schedule.proofs.Framed.{inputs_in, all_blank, frame_one, shorter, half_counts, mid_length, mid_fits, front_blank, still_room, back_blank, written}
 use Rattle.schedule.proofs.Summed.{none_settled, sum_low, summed}
 use Rattle.schedule.proofs.+block.Goals as goal
 

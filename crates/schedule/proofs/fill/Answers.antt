@@ -1,7 +1,5 @@
 use mathlib.Core.Path.{refl}
-use Rattle.std.proofs.Common.{rules}
 use native.Mathlib.Omega.{arith}
-use Rattle.checks.proofs.Fits.{fits_sixteen}
 use Rattle.planes.proofs.Stored.{blank}
 use Rattle.schedule.proofs.Tabled.{tables_of}
 use Rattle.schedule.proofs.Filled.{levels_low, cells_room, loaded_block, frame_blank, all_are_settled, all_filled}

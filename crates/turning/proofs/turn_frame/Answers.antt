@@ -1,4 +1,3 @@
-use Prim.Native.Nat.{◌-◌}
 use Rattle.std.proofs.Common.{rules}
 use Rattle.turning.proofs.Turning.{turned_start, turned_on, turned_end, from_fits, end_fits, offset_fits, frame_ends, second_ends, part_turnable, part_length}
 use Rattle.turning.proofs.turn_frame.Goals as goal

@@ -1,4 +1,3 @@
-use Prim.Native.Nat.{◌-◌}
 use Rattle.std.proofs.Common.{rules}
 use Rattle.turning.proofs.Putting.{filled_start, filled_on, filled_end, list_fits, entry_most}
 use Rattle.turning.proofs.turn_slot.Goals as goal

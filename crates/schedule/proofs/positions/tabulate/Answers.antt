@@ -1,4 +1,3 @@
-use Prim.Native.Nat.{◌-◌}
 use Rattle.std.proofs.Common.{rules}
 use native.Mathlib.Omega.{arith}
 use Rattle.schedule.proofs.Tabled.{tabling_start, tabling_in, tabling_low, in_low, out_in, link_in, tabling_on, tabling_end, sides_end}
