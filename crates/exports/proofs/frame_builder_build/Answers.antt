@@ -1,11 +1,5 @@
 use Rattle.numbers.proofs.Told.{four_of}
 use Rattle.exports.proofs.frame_builder_build.Goals as goal
 
-pub build-requires : goal.build-requires
-build-requires c = tt
-
-pub of_built-n-requires : goal.of_built-n-requires
-of_built-n-requires c = tt
-
 pub returns : goal.returns
 returns c = let build = c.build in search (four_of c.of_built-n.ensures build.ensures.0, build.ensures.1)

@@ -7,14 +7,10 @@ use Rattle.calls.specs.Sides.{side_of}
 use Rattle.numbers.proofs.Told.{three_of}
 use Rattle.exports.proofs.frame_builder_inspect.Goals as goal
 
-pub side_of-requires : goal.side_of-requires
-side_of-requires c = tt
-
-pub inspect-requires : goal.inspect-requires
-inspect-requires c = tt
-
-pub of_inspection-n-requires : goal.of_inspection-n-requires
-of_inspection-n-requires c = tt
-
 pub returns : goal.returns
-returns c = let side = c.side_of in let a = c.args in let on : Side → List ℕ = λ s. inspected s a.ports a.slots a.list.now a.frame.now in let told : finding c.inspect.result ≡ on (side_of side.result) = search c.inspect.ensures in search (three_of c.of_inspection-n.ensures.three (told ∙ ap on side.ensures))
+returns c =
+    let side = c.side_of in
+    let a = c.args in
+    let on : Side → List ℕ = λ s. inspected s a.ports a.slots a.list.now a.frame.now in
+    let told : finding c.inspect.result ≡ on (side_of side.result) = search c.inspect.ensures in
+    search (three_of c.of_inspection-n.ensures.three (told ∙ ap on side.ensures))

@@ -1,7 +1,0 @@
-use Rattle.exports.proofs.frame_builder_depth_input.Goals as goal
-
-pub bound-requires : goal.bound-requires
-bound-requires c = tt
-
-pub returns : goal.returns
-returns c = search c.bound.ensures
