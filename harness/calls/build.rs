@@ -17,7 +17,9 @@ fn run(command: &mut Command) {
 /// What is in a folder.
 fn inside(folder: &Path) -> Vec<PathBuf> {
     let entries = fs::read_dir(folder).unwrap_or_else(|error| panic!("{folder:?}: {error}"));
-    entries.map(|entry| entry.expect("it is read").path()).collect()
+    entries
+        .map(|entry| entry.expect("it is read").path())
+        .collect()
 }
 
 /// Has this program run again where a source of a crate has changed. The kit writes beside them, to a folder `out` of each crate.
