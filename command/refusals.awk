@@ -11,24 +11,30 @@ BEGIN { folder = ENVIRON["EDITED"] "/" }
     begin($1)
     code[count] = $2
     words[count] = from($0, ": error[^ ]* ")
-    if (match(words[count], /^`[^`]+`: /)) {
-        law[count] = substr(words[count], 2, RLENGTH - 4)
-        words[count] = substr(words[count], RLENGTH + 1)
-    }
+    take_law()
     next
 }
 # A function that is proved by search alone has a note for each fact that is left, then its line with the file that would answer these facts,
-# and then a note of each that numbers break.
+# and then a note of each that numbers break. In the same way an answer that is for another goal is told of.
 /^note: [^ ]+:[0-9]+:[0-9]+: it is not proved that / {
     begin($2)
     by_search[count] = 1
     words[count] = from($0, ":[0-9]+: ")
     next
 }
+/^note: what antt said of .*: error: / {
+    match($0, /[^ ]+:[0-9]+:[0-9]+: error: /)
+    begin(substr($0, RSTART, RLENGTH))
+    by_answer[count] = 1
+    code[count] = "error:"
+    words[count] = substr($0, RSTART + RLENGTH)
+    take_law()
+    next
+}
 /^fn .*: no proof/ {
     split($0, part, / answers in |; /)
-    for (i = count; by_search[i] && !law[i]; i--) {
-        law[i] = $2
+    for (i = count; (by_search[i] || by_answer[i]) && !owner[i]; i--) {
+        owner[i] = $2
         answers[i] = part[2]
     }
 }
@@ -47,7 +53,7 @@ BEGIN { folder = ENVIRON["EDITED"] "/" }
 /^  / && reading {
     # A line goes on with the sentence before it, unless it begins one.
     sub(/^  /, "")
-    words[count] = words[count] (/^(expected type|computed as|as printed|what the two|here `|the `|`)/ ? "\n" : " ") $0
+    words[count] = words[count] (/^(expected type|computed as|as printed|what the two|here `|the `|`[^`]*` (\(of `[^`]*`\) )?(does|has|with|computes) )/ ? "\n" : " ") $0
     next
 }
 { reading = 0 }
@@ -59,6 +65,14 @@ function begin(place,    part) {
     file[count] = part[1]
     line[count] = part[2]
     reading = 1
+}
+
+# Takes the law that an error is in, or the goal, from before its words.
+function take_law() {
+    if (match(words[count], /^`[^`]+`: /)) {
+        law[count] = substr(words[count], 2, RLENGTH - 4)
+        words[count] = substr(words[count], RLENGTH + 1)
+    }
 }
 
 # What stands behind the first match of a pattern.
@@ -85,6 +99,8 @@ function contrary(one, other) {
 
 # The kind of an error that has two types that are not the same. What refl shows has the same text on both sides.
 function kind_of_types(text,    units, unit, term, terms, i, refl) {
+    # A goal in the place of another.
+    if (text ~ /expected type `[^` ]*(Goals\.|Need-)[^` ]*`, but this has type `[^` ]*(Goals\.|Need-)/) return "form"
     text = plain(text, length(text))
     refl = match(text, /but this has type `[^`]*`/) && same_sides(substr(text, RSTART + 19, RLENGTH - 20))
     units = split(text, unit, "\n")
@@ -94,7 +110,6 @@ function kind_of_types(text,    units, unit, term, terms, i, refl) {
         if (unit[i] ~ /differ/ && refl && literal(term[2]) && literal(term[terms - 1])) return "fact"
         if (unit[i] ~ /two types are/ && (term[2] ~ /^(Path|◌≤◌|◌<◌) / && literal(term[2]) || contrary(term[2], term[terms - 1]))) return "fact"
     }
-    if (text ~ /expected type `Need-[^`]*`, but this has type `Need-/) return "form"
     return refl && text !~ /not unfold here/ ? "fact" : "look"
 }
 
@@ -105,8 +120,8 @@ function kind_of(i,    text) {
     if (code[i] != "error:") return code[i] ~ /unknown/ ? "name" : "form"
     if (text ~ /^`[^`]*` is not in scope| has no field | that can be named from here/) return "name"
     # A definition or a contract claims nothing, and what stands in no declaration was not read.
-    if (file[i] ~ /^(src|specs)\// || !law[i] || text ~ /^(`rw`: no occurrence|this clause follows)/) return "form"
-    if (text ~ /^`search`: no proof of / || text ~ /^`(omega|search|cc)`: .* does not follow from what it read/) return "fact"
+    if (file[i] ~ /^(src|specs)\// && !by_answer[i] || !law[i] || text ~ /^(`rw`: no occurrence|this clause follows)/) return "form"
+    if (text ~ /^`search`: no proof of / || text ~ /^`(omega|search|cc|grind)`: .* does not follow/) return "fact"
     if (text ~ /the two types|expected type/) return kind_of_types(text)
     # What a rewriting leaves, or anything else that is not known here.
     return match(text, /ends are equal, and `[^`]*`/) && literal(substr(text, RSTART + 21, RLENGTH - 22)) ? "fact" : "look"
@@ -138,9 +153,10 @@ function plain(text, most,    pieces, piece, i, out) {
     return out
 }
 
-# A sentence says what is refused.
+# A sentence says what is refused. Numbers that may not break the goal say nothing.
 function telling(sentence) {
-    return sentence ~ /does not follow from|fails, at|no proof was found of|it leaves must be/ \
+    if (sentence ~ /may not break the goal/) return 0
+    return sentence ~ /does not follow from|fails,? at|no proof was found of|it leaves must be/ \
         || sentence ~ /two types (differ|first differ|are)|expected type|the (expected|found) one (is|begins)/
 }
 
@@ -165,12 +181,12 @@ function told(text,    units, unit, sentences, sentence, i, j, out) {
 }
 
 # A file has the proof of a function.
-function of_function(file) { return file ~ /\/(Proof|Answers|Invariants)\.antt$/ }
+function of_function(file) { return file ~ /^proofs\/.*\/(Proof|Answers|Invariants)\.antt$/ }
 
 # The law that an error is in, or the function that is not proved.
 function who(i,    name) {
-    name = by_search[i] ? law[i] : file[i]
-    if (!by_search[i] && !of_function(name)) return law[i] ? law[i] : "-"
+    name = by_search[i] || by_answer[i] ? owner[i] : file[i]
+    if (name == file[i] && !of_function(name)) return law[i] ? law[i] : "-"
     gsub(/^[^:\/]*::|:$|^proofs\/|\/[A-Za-z]*\.antt$|\+/, "", name)
     gsub(/\//, "::", name)
     return "fn " name
@@ -186,7 +202,7 @@ function doubt(i) {
 
 END {
     for (i = 1; i <= count; i++) {
-        if (words[i] ~ /^[0-9]+ declarations? that depends? on /) continue
+        if (words[i] ~ /^([0-9]+ declarations? that depends? on |`[^`]*` is not admitted: rejected)/) continue
         kind = kind_of(i)
         note = kind == "fact" ? doubt(i) : ""
         if (note != "") kind = "look"
