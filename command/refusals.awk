@@ -31,7 +31,7 @@ BEGIN { folder = ENVIRON["EDITED"] "/" }
     take_law()
     next
 }
-/^fn .*: no proof/ {
+/^fn .*: no proof: expected answers in / {
     split($0, part, / answers in |; /)
     for (i = count; (by_search[i] || by_answer[i]) && !owner[i]; i--) {
         owner[i] = $2
@@ -143,6 +143,8 @@ function short(term, most) {
     gsub(/\. /, "\001 ", term)
     gsub(/([^ ().{},\001]+\.)+/, "", term)
     gsub(/\001 /, ".\001", term)
+    # What a function was called with.
+    gsub(/\(dens [A-Za-z0-9_ -]*args\)/, "args", term)
     return cut(term, most)
 }
 
