@@ -5,31 +5,45 @@
 BEGIN { folder = ENVIRON["EDITED"] "/" }
 
 { while (at = index($0, folder)) $0 = substr($0, 1, at - 1) substr($0, at + length(folder)) }
+{ gsub(/\.\/proofs\//, "proofs/"); gsub(/\.\/specs\//, "specs/"); gsub(/\.\/src\//, "src/") }
 
 /^[^ ]+:[0-9]+:[0-9]+: error/ {
     begin($1)
     code[count] = $2
     words[count] = from($0, ": error[^ ]* ")
-    if (match(words[count], /^`[^`]+`: /)) {
-        law[count] = substr(words[count], 2, RLENGTH - 4)
-        words[count] = substr(words[count], RLENGTH + 1)
-    }
+    take_law()
     next
 }
-# A function that is proved by search alone has a note for each fact that is left, a note of what the search said, and then its line.
+# A function that is proved by search alone has a note for each fact that is left, then its line with the file that would answer these facts,
+# and then a note of each that numbers break. In the same way an answer that is for another goal is told of.
 /^note: [^ ]+:[0-9]+:[0-9]+: it is not proved that / {
     begin($2)
     by_search[count] = 1
     words[count] = from($0, ":[0-9]+: ")
     next
 }
-/^note: what antt said of / && by_search[count] {
-    words[count] = words[count] "\n" from($0, ":[0-9]+: `[^`]*`: ")
-    reading = 1
+/^note: what antt said of .*: error: / {
+    match($0, /[^ ]+:[0-9]+:[0-9]+: error: /)
+    begin(substr($0, RSTART, RLENGTH))
+    by_answer[count] = 1
+    code[count] = "error:"
+    words[count] = substr($0, RSTART + RLENGTH)
+    take_law()
     next
 }
-/^fn .*: no proof/ {
-    for (i = count; by_search[i] && !law[i]; i--) law[i] = $2
+/^fn .*: no proof: expected answers in / {
+    split($0, part, / answers in |; /)
+    for (i = count; (by_search[i] || by_answer[i]) && !owner[i]; i--) {
+        owner[i] = $2
+        answers[i] = part[2]
+    }
+}
+/^note: `[^`]*` of [^ ]* may be false: the known facts allow / {
+    values = from($0, " the known facts allow ")
+    sub(/: help: .*/, "", values)
+    for (i = 1; i <= count; i++) {
+        if (answers[i] == $4 && index(words[i], "(" $2 ")")) words[i] = words[i] "\nthe goal fails, at " values
+    }
 }
 /^[^ ]+:[0-9]+:[0-9]+: note: .* trial runs? of this declaration was admitted / {
     split($1, part, ":")
@@ -39,7 +53,7 @@ BEGIN { folder = ENVIRON["EDITED"] "/" }
 /^  / && reading {
     # A line goes on with the sentence before it, unless it begins one.
     sub(/^  /, "")
-    words[count] = words[count] (/^(expected type|computed as|as printed|what the two|here `|the `|`)/ ? "\n" : " ") $0
+    words[count] = words[count] (/^(expected type|computed as|as printed|what the two|here `|the `|`[^`]*` (\(of `[^`]*`\) )?(does|has|with|computes) )/ ? "\n" : " ") $0
     next
 }
 { reading = 0 }
@@ -53,6 +67,14 @@ function begin(place,    part) {
     reading = 1
 }
 
+# Takes the law that an error is in, or the goal, from before its words.
+function take_law() {
+    if (match(words[count], /^`[^`]+`: /)) {
+        law[count] = substr(words[count], 2, RLENGTH - 4)
+        words[count] = substr(words[count], RLENGTH + 1)
+    }
+}
+
 # What stands behind the first match of a pattern.
 function from(text, pattern) { return match(text, pattern) ? substr(text, RSTART + RLENGTH) : text }
 
@@ -60,7 +82,7 @@ function from(text, pattern) { return match(text, pattern) ? substr(text, RSTART
 
 # A text that consists of numbers, truth values and lists of them alone.
 function literal(text) {
-    gsub(/[0-9]+|true|false|\[\]|∷|ℕ|Bool|List|Path|[ ()]/, "", text)
+    gsub(/[0-9]+|true|false|\[\]|∷|ℕ|Bool|List|Path|◌≤◌|◌<◌|[ ()]/, "", text)
     return text == ""
 }
 
@@ -77,6 +99,8 @@ function contrary(one, other) {
 
 # The kind of an error that has two types that are not the same. What refl shows has the same text on both sides.
 function kind_of_types(text,    units, unit, term, terms, i, refl) {
+    # A goal in the place of another.
+    if (text ~ /expected type `[^` ]*(Goals\.|Need-)[^` ]*`, but this has type `[^` ]*(Goals\.|Need-)/) return "form"
     text = plain(text, length(text))
     refl = match(text, /but this has type `[^`]*`/) && same_sides(substr(text, RSTART + 19, RLENGTH - 20))
     units = split(text, unit, "\n")
@@ -84,9 +108,8 @@ function kind_of_types(text,    units, unit, term, terms, i, refl) {
         if (unit[i] !~ /^computed as far as they go, the two types/) continue
         terms = split(unit[i], term, "`")
         if (unit[i] ~ /differ/ && refl && literal(term[2]) && literal(term[terms - 1])) return "fact"
-        if (unit[i] ~ /two types are/ && (term[2] ~ /^Path / && literal(term[2]) || contrary(term[2], term[terms - 1]))) return "fact"
+        if (unit[i] ~ /two types are/ && (term[2] ~ /^(Path|◌≤◌|◌<◌) / && literal(term[2]) || contrary(term[2], term[terms - 1]))) return "fact"
     }
-    if (text ~ /expected type `Need-[^`]*`, but this has type `Need-/) return "form"
     return refl && text !~ /not unfold here/ ? "fact" : "look"
 }
 
@@ -95,10 +118,10 @@ function kind_of(i,    text) {
     text = words[i]
     if (by_search[i]) return "fact"
     if (code[i] != "error:") return code[i] ~ /unknown/ ? "name" : "form"
-    if (text ~ /^`[^`]*` is not in scope/ || text ~ / that can be named from here/) return "name"
+    if (text ~ /^`[^`]*` is not in scope| has no field | that can be named from here/) return "name"
     # A definition or a contract claims nothing, and what stands in no declaration was not read.
-    if (file[i] ~ /^(src|specs)\// || !law[i] || text ~ /^(`rw`: no occurrence|this clause follows)/) return "form"
-    if (text ~ /^`search`: no proof of / || text ~ /^`(omega|search|cc)`: .* does not follow from what it read/) return "fact"
+    if (file[i] ~ /^(src|specs)\// && !by_answer[i] || !law[i] || text ~ /^(`rw`: no occurrence|this clause follows)/) return "form"
+    if (text ~ /^`search`: no proof of / || text ~ /^`(omega|search|cc|grind)`: .* does not follow/) return "fact"
     if (text ~ /the two types|expected type/) return kind_of_types(text)
     # What a rewriting leaves, or anything else that is not known here.
     return match(text, /ends are equal, and `[^`]*`/) && literal(substr(text, RSTART + 21, RLENGTH - 22)) ? "fact" : "look"
@@ -120,6 +143,8 @@ function short(term, most) {
     gsub(/\. /, "\001 ", term)
     gsub(/([^ ().{},\001]+\.)+/, "", term)
     gsub(/\001 /, ".\001", term)
+    # What a function was called with.
+    gsub(/\(dens [A-Za-z0-9_ -]*args\)/, "args", term)
     return cut(term, most)
 }
 
@@ -130,9 +155,10 @@ function plain(text, most,    pieces, piece, i, out) {
     return out
 }
 
-# A sentence says what is refused.
+# A sentence says what is refused. Numbers that may not break the goal say nothing.
 function telling(sentence) {
-    return sentence ~ /does not follow from|fails, at|no proof was found of|it leaves must be/ \
+    if (sentence ~ /may not break the goal/) return 0
+    return sentence ~ /does not follow from|fails,? at|no proof was found of|it leaves must be/ \
         || sentence ~ /two types (differ|first differ|are)|expected type|the (expected|found) one (is|begins)/
 }
 
@@ -156,26 +182,29 @@ function told(text,    units, unit, sentences, sentence, i, j, out) {
     return out
 }
 
+# A file has the proof of a function.
+function of_function(file) { return file ~ /^proofs\/.*\/(Proof|Answers|Invariants)\.antt$/ }
+
 # The law that an error is in, or the function that is not proved.
 function who(i,    name) {
-    name = by_search[i] ? law[i] : file[i]
-    if (!by_search[i] && name !~ /\/Proof\.antt$/) return law[i] ? law[i] : "-"
-    gsub(/^[^:\/]*::|:$|^proofs\/|\/Proof\.antt$|\+/, "", name)
+    name = by_search[i] || by_answer[i] ? owner[i] : file[i]
+    if (name == file[i] && !of_function(name)) return law[i] ? law[i] : "-"
+    gsub(/^[^:\/]*::|:$|^proofs\/|\/[A-Za-z]*\.antt$|\+/, "", name)
     gsub(/\//, "::", name)
     return "fn " name
 }
 
 # Why a goal that the proof of a function leaves may hold for all that.
 function doubt(i) {
-    if (file[i] !~ /\/Proof\.antt$/) return ""
-    if (moved && law[i] ~ /-spec$/) return "the edit changes the operations, so that the proof's list of facts may be unfit for them"
+    if (!of_function(file[i])) return ""
+    if (moved && law[i] ~ /_spec$/) return "the edit changes the operations, so that the proof's list of facts may be unfit for them"
     if (code_edited && words[i] ~ /^`omega`/) return "the facts that the proof hands to `omega` may be about what the edit took away"
     return ""
 }
 
 END {
     for (i = 1; i <= count; i++) {
-        if (words[i] ~ /was not admitted/) continue
+        if (words[i] ~ /^([0-9]+ declarations? that depends? on |`[^`]*` is not admitted: rejected)/) continue
         kind = kind_of(i)
         note = kind == "fact" ? doubt(i) : ""
         if (note != "") kind = "look"

@@ -3,7 +3,7 @@
  * LINKING. `./install` of the frame builder proves the calls and puts them under its prefix twice: as the shared library
  * libframe_builder.so and as the archive libframe_builder.a. `pkg-config --libs frame_builder` has the flags. With them the linker takes
  * the shared library, and under -static the archive. A program that takes the archive and is otherwise linked as usual names
- * -l:libframe_builder.a in the place of -lframe_builder. In a checkout `rt staticlib exports` writes the archive to
+ * -l:libframe_builder.a in the place of -lframe_builder. In a checkout `command/prove exports` writes the archive to
  * target/staticlib/libexports.a. The shared library exports the calls below and nothing else. Its soname is libframe_builder.so.N, where N
  * is the first number of the version, and its calls have the symbol version FRAME_BUILDER_N. So a program is never given the calls of
  * another N. A call that comes with a later version N.M has the symbol version FRAME_BUILDER_N.M, and its comment below names N.M. So a

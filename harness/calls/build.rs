@@ -1,6 +1,7 @@
 //! Builds the sheet program, and the C programs that make calls through the header.
 
 use std::env;
+use std::fs;
 use std::path::{Path, PathBuf};
 use std::process::Command;
 
@@ -11,6 +12,24 @@ fn run(command: &mut Command) {
     let printed = [output.stdout, output.stderr].concat();
     let printed = String::from_utf8_lossy(&printed);
     assert!(output.status.success(), "{command:?} failed:\n{printed}");
+}
+
+/// What is in a folder.
+fn inside(folder: &Path) -> Vec<PathBuf> {
+    let entries = fs::read_dir(folder).unwrap_or_else(|error| panic!("{folder:?}: {error}"));
+    entries
+        .map(|entry| entry.expect("it is read").path())
+        .collect()
+}
+
+/// Has this program run again where a source of a crate has changed. The kit writes beside them, to a folder `out` of each crate.
+fn watch_sources(top: &Path) {
+    let crates = inside(&top.join("crates"));
+    for part in crates.iter().flat_map(|folder| inside(folder)) {
+        if !part.ends_with("out") {
+            println!("cargo:rerun-if-changed={}", part.display());
+        }
+    }
 }
 
 /// The harness tests the library of its own checkout, and no installed one.
@@ -42,13 +61,12 @@ fn compile(top: &Path, sources: &[&str], options: &[&str], variable: &str) {
 
 fn main() {
     let top = Path::new(env!("CARGO_MANIFEST_DIR")).join("../..");
-    for watched in ["crates", "crates.txt", "include", "harness/c"] {
+    for watched in ["crates.txt", "include", "harness/c"] {
         println!("cargo:rerun-if-changed={}", top.join(watched).display());
     }
+    watch_sources(&top);
     check_library(&top);
-    run(Command::new("rt")
-        .args(["check", "frame"])
-        .current_dir(&top));
+    run(Command::new(top.join("command/prove")).arg("frame"));
     compile(&top, &["calls.c"], &[], "CALLS_IN_C");
     let broken = ["calls.c", "writes_outside.c"];
     let wrapped = ["-Wl,--wrap=frame_builder_build"];

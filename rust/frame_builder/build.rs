@@ -76,7 +76,7 @@ fn find() -> Result<Library, String> {
             in_prefix,
         ),
         ("pkg-config, package frame_builder", by_pkg_config),
-        ("rt staticlib exports, in a checkout of it", from_source),
+        ("rt lib in crates/exports, in a checkout of it", from_source),
     ];
     let mut tried = String::from("the library is not found. Tried, in this order:\n");
     for (place, (name, way)) in (1..).zip(ways) {
@@ -237,25 +237,45 @@ fn check_checkout(top: &Path) -> Result<(), String> {
 
 /// The library of a checkout, which is proved first. The archive is copied, since the kit may take its own away while this one is in use.
 fn proved(top: &Path) -> Result<Library, String> {
+    let exports = top.join("crates/exports");
     let output = Command::new("rt")
-        .args(["staticlib", "exports"])
-        .current_dir(top)
+        .arg("lib")
+        .current_dir(&exports)
         .output()
         .map_err(|error| not_run("rt, the command of the Rattle kit,", &error))?;
     if !output.status.success() {
         return Err(format!("the proof failed:\n{}", printed(&output)));
     }
-    let written = top.join("target/staticlib/libexports.a");
+    let written = exports.join("out/libexports.a");
     let archive =
         PathBuf::from(env::var_os("OUT_DIR").unwrap_or_default()).join("libframe_builder.a");
     fs::copy(&written, &archive).map_err(|error| format!("{}: {error}", written.display()))?;
     let header = top.join("include/frame_builder.h");
+    let mut watched = sources(&top.join("crates"))?;
+    watched.extend([top.join("crates.txt"), header.clone()]);
     Ok(Library {
         version: version_in(&header)?,
-        watched: vec![top.join("crates"), top.join("crates.txt"), header.clone()],
+        watched,
         archive,
         header,
     })
+}
+
+/// The sources of the crates in a folder. The kit writes beside them, to a folder `out` of each crate.
+fn sources(crates: &Path) -> Result<Vec<PathBuf>, String> {
+    let mut found = Vec::new();
+    for folder in inside(crates)?.into_iter().filter(|path| path.is_dir()) {
+        let parts = inside(&folder)?;
+        found.extend(parts.into_iter().filter(|part| !part.ends_with("out")));
+    }
+    Ok(found)
+}
+
+/// What is in a folder.
+fn inside(folder: &Path) -> Result<Vec<PathBuf>, String> {
+    let entries = fs::read_dir(folder).and_then(Iterator::collect::<Result<Vec<_>, _>>);
+    let entries = entries.map_err(|error| format!("{}: {error}", folder.display()))?;
+    Ok(entries.into_iter().map(|entry| entry.path()).collect())
 }
 
 /// What a command printed, indented.

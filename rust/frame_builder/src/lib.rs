@@ -137,8 +137,8 @@
 //!    frame builder has put it: `DIR/lib/libframe_builder.a` and `DIR/include/frame_builder.h`.
 //! 2. pkg-config, for the package `frame_builder`. `PKG_CONFIG` names another command; where that is not installed, or
 //!    `FRAME_BUILDER_NO_PKG_CONFIG` or `FRAME_BUILDER_SOURCE` is set, this way is skipped.
-//! 3. `rt staticlib exports`, which proves it and writes it, in the checkout that `FRAME_BUILDER_SOURCE` names, or in the one that
-//!    the crate stands in. It needs the Rattle kit.
+//! 3. `rt lib` in `crates/exports`, which proves it and writes it, in the checkout that `FRAME_BUILDER_SOURCE` names, or in the one
+//!    that the crate stands in. It needs the Rattle kit.
 //!
 //! A variable that is set and leads to no library is an error, as is an installed one that is not whole, and one that is not of version 6.0
 //! or a later 6.x, whose calls are other ones: nothing else is taken in its place. An empty variable is as one that is not set. Where no
