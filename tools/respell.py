@@ -197,6 +197,9 @@ def turn_edits(root, commit):
         here = {**total, **words_between(old, new)}
 
         def turn(text):
+            # What code brings in keeps its name.
+            if file.endswith(".rt") and text.startswith("use "):
+                return text
             return WORD.sub(lambda m: here.get(m.group(0), m.group(0)), clause(text) if file.endswith(".rt") else tight(text))
 
         out = []
