@@ -1,7 +1,7 @@
 //! Admit: every load in one pass over the list, and the refusals that are decided from it.
 #![tactic(auto)]
 
-ghost use Rattle.std.specs.Prelude.{◌≡◌, ◌<◌, length};
+ghost use Rattle.std.specs.Prelude.{◌≡◌, ◌<◌, length, replicate};
 ghost use Rattle.calls.specs.Refusals.{lowest_above, lowest_past, answered, admitted};
 ghost use Rattle.checks.specs.Fits.{ListFits};
 ghost use Rattle.admission.specs.Overloads.{value_at, EveryLoad, decided_ports, decided};
@@ -18,16 +18,13 @@ pub struct Loads {
     pub links: [usize; 64],
 }
 
-// Every port's and every link's load, in one pass over the list.
-pub fn loads_of(ports: usize, list: &[u16]) -> Loads
-    requires { ListFits ports list.now }
-    ensures { EveryLoad ports list.now result.inputs result.outputs result.links }
+// Every port's and every link's load, in one pass over the list, where all are 0 before. The loads are lent, since those that are handed back
+// by value are copied.
+pub fn add_loads(ports: usize, list: &[u16], loads: &mut Loads)
+    requires { ListFits ports list.now × (loads.old.inputs ≡ replicate 16 0)
+        × (loads.old.outputs ≡ replicate 16 0) × (loads.old.links ≡ replicate 64 0) }
+    ensures { EveryLoad ports list.now loads.new.inputs loads.new.outputs loads.new.links }
 {
-    let mut loads = Loads {
-        inputs: [0; 16],
-        outputs: [0; 16],
-        links: [0; 64],
-    };
     let count = flows_of(list);
     let mut f: usize = 0;
     while f < count {
@@ -40,6 +37,19 @@ pub fn loads_of(ports: usize, list: &[u16]) -> Loads
         loads.links[x] = loads.links[x] + cells;
         f += 1;
     }
+}
+
+// The same, handed back.
+pub fn loads_of(ports: usize, list: &[u16]) -> Loads
+    requires { ListFits ports list.now }
+    ensures { EveryLoad ports list.now result.inputs result.outputs result.links }
+{
+    let mut loads = Loads {
+        inputs: [0; 16],
+        outputs: [0; 16],
+        links: [0; 64],
+    };
+    add_loads(ports, list, &mut loads);
     loads
 }
 
@@ -129,6 +139,11 @@ pub fn admit(ports: usize, slots: usize, list: &[u16], limits: [u16; 64]) -> Ans
     if let Answer::Refused(refusal) = check_list(ports, slots, list) {
         return Answer::Refused(refusal);
     }
-    let loads = loads_of(ports, list);
+    let mut loads = Loads {
+        inputs: [0; 16],
+        outputs: [0; 16],
+        links: [0; 64],
+    };
+    add_loads(ports, list, &mut loads);
     overload(slots, &loads.inputs, &loads.outputs, &loads.links, limits)
 }

@@ -5,7 +5,7 @@ ghost use Rattle.std.specs.Prelude.{◌≡◌};
 ghost use Rattle.rules.specs.OddShares.{settled};
 ghost use Rattle.calls.specs.Build.{outcome, built, frame_after};
 
-use admission::{loads_of, overload};
+use admission::{Loads, add_loads, overload};
 use calls::{Answer, Built, Refusal};
 use checks::{bad_length, check_list};
 use schedule::fill;
@@ -27,7 +27,12 @@ pub fn build(
     if bad_length(frame.len(), slots, ports) {
         return Built::Refused(Refusal::FrameLength);
     }
-    let loads = loads_of(ports, list);
+    let mut loads = Loads {
+        inputs: [0; 16],
+        outputs: [0; 16],
+        links: [0; 64],
+    };
+    add_loads(ports, list, &mut loads);
     let over = overload(slots, &loads.inputs, &loads.outputs, &loads.links, limits);
     if let Answer::Refused(refusal) = over {
         return Built::Refused(refusal);

@@ -93,7 +93,12 @@ pub fn depth_of(ports: usize, slots: usize, list: &[u16], who: Who) -> Depth
     if let Answer::Refused(refusal) = checks::check_list(ports, slots, list) {
         return Depth::Refused(refusal);
     }
-    let loads = admission::loads_of(ports, list);
+    let mut loads = admission::Loads {
+        inputs: [0; 16],
+        outputs: [0; 16],
+        links: [0; 64],
+    };
+    admission::add_loads(ports, list, &mut loads);
     if let Answer::Refused(refusal) = admission::port_overload(
         slots,
         &loads.inputs,

@@ -6,8 +6,8 @@ use Rattle.admission.proofs.admit.Goals as goal
 pub returns-in-Refused : goal.returns-in-Refused
 returns-in-Refused c = search (rules, admit_refused)
 
-pub loads_of-loads-requires : goal.loads_of-loads-requires
-loads_of-loads-requires c = search (rules, list_fits)
+pub add_loads-requires : goal.add_loads-requires
+add_loads-requires c = search (rules, list_fits)
 
 pub returns : goal.returns
 returns c = search (rules, admit_decided)

@@ -9,8 +9,8 @@ returns-in-Refused c = done _ _ _ _ _ _ _ (search (rules, list_done))
 pub returns-then-bad_length : goal.returns-then-bad_length
 returns-then-bad_length c = done _ _ _ _ _ _ _ (search (rules, frame_done))
 
-pub loads_of-loads-requires : goal.loads_of-loads-requires
-loads_of-loads-requires c = search (rules, list_fits)
+pub add_loads-requires : goal.add_loads-requires
+add_loads-requires c = search (rules, list_fits)
 
 pub returns-in-Refused-over : goal.returns-in-Refused-over
 returns-in-Refused-over c = done _ _ _ _ _ _ _ (search (rules, load_done))

@@ -1,7 +1,7 @@
 use mathlib.Core.Path.{refl}
 use Rattle.std.proofs.Common.{rules}
 use Rattle.admission.proofs.Adding.{summed_start, summed_in, input_from_one, input_low, summed_output, summed_link, in_fits, out_fits, line_fits, summed_on, summed_end}
-use Rattle.admission.proofs.loads_of.Goals as goal
+use Rattle.admission.proofs.add_loads.Goals as goal
 
 pub loop-f-init : goal.loop-f-init
 loop-f-init c = search (rules, summed_start)
@@ -34,7 +34,7 @@ pub overflow_add-loads-in-loop-f-2 : goal.overflow_add-loads-in-loop-f-2
 overflow_add-loads-in-loop-f-2 c = search (rules, line_fits)
 
 pub loop-f-preserved : goal.loop-f-preserved
-loop-f-preserved c = let cells = c.number_of-cells.ensures in let link = c.link_of-x.ensures in summed_on c.requires c.loop-f.invariant c.loop-f-test.true cells.1 c.number_of-i.ensures.0 refl link.0 link.1 (search rules) (search rules) (search rules) (search rules)
+loop-f-preserved c = let cells = c.number_of-cells.ensures in let link = c.link_of-x.ensures in summed_on c.requires.0 c.loop-f.invariant c.loop-f-test.true cells.1 c.number_of-i.ensures.0 refl link.0 link.1 (search rules) (search rules) (search rules) (search rules)
 
 pub returns : goal.returns
 returns c = search (rules, summed_end)
