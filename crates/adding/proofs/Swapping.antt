@@ -10,16 +10,15 @@ use lib.Seq.{get_or-set_same, get_or-set_other}
 use mir.Syntax.{w64}
 use mir.Val.{Fits}
 use borrow.Author.Tests.{eq-eqb, ne_eqb}
-use Rattle.rules.specs.Words.{bit, Within}
-use Rattle.rules.specs.Flows.{flows, number_of}
+use Rattle.std.specs.Prelude.{Some, None}
+use Rattle.rules.specs.Words.{bit, found}
+use Rattle.rules.specs.Flows.{flows}
 use Rattle.rules.proofs.Cases.{by_eq}
-use Rattle.rules.proofs.Searches.{first_high}
+use Rattle.rules.proofs.Ranges.{first_of}
 use Rattle.checks.specs.Fits.{FlowFrame}
 use Rattle.entries.proofs.Found.{place_low}
-use Rattle.exchange.specs.Exchange.{cell_put}
 use Rattle.exchange.specs.Swaps.{output_number, goes_to, lowest_to, moved_by, swapped, swaps}
 use Rattle.exchange.proofs.Swapped.{swaps_stop, swaps_rest, swaps_on}
-use Rattle.idle.proofs.Found.{input_is}
 
 -- an entry put into a frame, where it is 0 or the number of a flow
 pub flow_put : {ports slots : ℕ} {list frame : List ℕ} → FlowFrame ports slots list frame → (q e : ℕ) → e ≤ flows list → FlowFrame ports slots list (set frame q e)
@@ -32,17 +31,11 @@ flow_put {ports} {slots} {list} {frame} r q e h =
           (λ d. omega (arith, get_or-set_other frame q p e 0 d, r.each_flow p (omega (arith, length-set frame q e))));
     }
 
--- the cell of a flow at its input
-pub put_is : {ports slots flow n : ℕ} {list frame : List ℕ} (slot : ℕ) → FlowFrame ports slots list frame → Within 1 (flows list) flow → n ≡ number_of 0 list (flow - 1)
-    → set frame (slot * ports + (n - 1)) flow ≡ cell_put ports list frame flow slot
-put_is {ports} {slots} {flow} {n} {list} {frame} slot r w is =
-    ap (λ x. set frame (slot * ports + x) flow) (ap (λ z. z - 1) is ∙ sym (input_is r.listed w))
-
 -- ---- how many cells a swap moves
-pub moved_one : (e : ℕ) → e ≡ 0 → 1 ≡ 1 + bit (not (eqb e 0))
+moved_one : (e : ℕ) → e ≡ 0 → 1 ≡ 1 + bit (not (eqb e 0))
 moved_one e z = rw (eq-eqb e 0 z)
 
-pub moved_two : (e : ℕ) → (e ≡ 0 → ⊥) → 2 ≡ 1 + bit (not (eqb e 0))
+moved_two : (e : ℕ) → (e ≡ 0 → ⊥) → 2 ≡ 1 + bit (not (eqb e 0))
 moved_two e n = rw (ne_eqb e 0 n)
 
 moved_most : (e : ℕ) → 1 + bit (not (eqb e 0)) ≤ 2
@@ -91,30 +84,33 @@ module _ (ports slots : ℕ) (list old : List ℕ) (former other f : ℕ) (frame
     pub none_came : o ≡ 0 → (moved ≡ (swaps ports ports list old former other f).moved) × (frame ≡ (swaps ports ports list old former other f).frame)
     none_came z = ends (swaps_stop ports list frame former other last (ports - n) (sym is ∙ z))
 
-    module _ {j : ℕ} (found : j ≡ lowest_to ports list frame former o last) where
-      lowest : lowest_to ports list frame former (output_number list (get_or frame (former * ports + last) 0)) last ≡ j
-      lowest = ap (λ x. lowest_to ports list frame former x last) (sym is) ∙ sym found
+    lowest : lowest_to ports list frame former (output_number list (get_or frame (former * ports + last) 0)) last ≡ lowest_to ports list frame former o last
+    lowest = ap (λ x. lowest_to ports list frame former x last) (sym is)
 
-      pub none_else : j ≡ ports → (moved ≡ (swaps ports ports list old former other f).moved) × (frame ≡ (swaps ports ports list old former other f).frame)
-      none_else e = ends (swaps_rest ports list frame former other last (ports - n) (omega (arith, lowest)))
+    pub none_else : None ≡ found (goes_to ports list frame former o last) 0 ports
+        → (moved ≡ (swaps ports ports list old former other f).moved) × (frame ≡ (swaps ports ports list old former other f).frame)
+    none_else e = ends (swaps_rest ports list frame former other last (ports - n) (omega (arith, lowest, first_of (goes_to ports list frame former o last) ports 0 None e)))
 
-      module _ (else : j ≡ ports → ⊥) where
-        pub else_low : j < ports
-        else_low = omega (arith, found, first_high (goes_to ports list frame former o last) ports 0)
+    module _ {j : ℕ} (to : Some j ≡ found (goes_to ports list frame former o last) 0 ports) where
+      pub else_low : j < ports
+      else_low = omega (arith, (first_of (goes_to ports list frame former o last) ports 0 (Some j) to).1)
 
-        module _ (some : o ≡ 0 → ⊥) (on : n < ports) (former_low : former < slots) (other_low : other < slots) where
-          pub swapping_on : {r : ℕ} {new : List ℕ} → r ≡ moved_by ports frame other j → new ≡ swapped ports frame former other j
-              → Swapping ports slots list old former other f new j (moved + r) (n + 1)
-          swapping_on {r} {new} by to =
-              let d : ports - n - 1 ≡ ports - (n + 1) = omega arith in
-              let step = swaps_on ports list frame former other last (ports - n) j (omega arith) (λ z. some (is ∙ z)) lowest else_low in
-              let entry : (s : ℕ) → s < slots → get_or frame (s * ports + j) 0 ≤ flows list = λ s h. g.flowed.each_flow (s * ports + j) (place_low g.flowed.framed h else_low) in
-              rw to
-              (record {
-                flowed = flow_put (flow_put g.flowed (former * ports + j) _ (entry other other_low)) (other * ports + j) _ (entry former former_low);
-                low = else_low;
-                most = omega arith;
-                few = omega (arith, g.few, by, moved_most (get_or frame (other * ports + j) 0));
-                frame_is = rw d at (sym (ap (λ x. x.frame) step) ∙ g.frame_is);
-                moved_is = omega (arith, by, g.moved_is, rw d at (ap (λ x. x.moved) step));
-              })
+      lowest_is : lowest_to ports list frame former (output_number list (get_or frame (former * ports + last) 0)) last ≡ j
+      lowest_is = lowest ∙ (first_of (goes_to ports list frame former o last) ports 0 (Some j) to).0
+
+      module _ (some : o ≡ 0 → ⊥) (on : n < ports) (former_low : former < slots) (other_low : other < slots) where
+        pub swapping_on : {r : ℕ} {new : List ℕ} → r ≡ moved_by ports frame other j → new ≡ swapped ports frame former other j
+            → Swapping ports slots list old former other f new j (moved + r) (n + 1)
+        swapping_on {r} {new} by put =
+            let d : ports - n - 1 ≡ ports - (n + 1) = omega arith in
+            let step = swaps_on ports list frame former other last (ports - n) j (omega arith) (λ z. some (is ∙ z)) lowest_is else_low in
+            let entry : (s : ℕ) → s < slots → get_or frame (s * ports + j) 0 ≤ flows list = λ s h. g.flowed.each_flow (s * ports + j) (place_low g.flowed.framed h else_low) in
+            rw put
+            (record {
+              flowed = flow_put (flow_put g.flowed (former * ports + j) _ (entry other other_low)) (other * ports + j) _ (entry former former_low);
+              low = else_low;
+              most = omega arith;
+              few = omega (arith, g.few, by, moved_most (get_or frame (other * ports + j) 0));
+              frame_is = rw d at (sym (ap (λ x. x.frame) step) ∙ g.frame_is);
+              moved_is = omega (arith, by, g.moved_is, rw d at (ap (λ x. x.moved) step));
+            })

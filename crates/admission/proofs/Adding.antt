@@ -1,5 +1,5 @@
 -- Every port's and every link's load, flow by flow: the cells of each are added at its input, at its output and at its link.
-use Prim.Native.Nat.{ℕ, ◌+◌, ◌-◌, ◌*◌, ◌≤◌, ◌<◌}
+use Prim.Native.Nat.{ℕ, ◌+◌, ◌*◌, ◌≤◌, ◌<◌}
 use mathlib.Core.Path.{◌≡◌, refl, sym, ap, ◌∙◌}
 use mathlib.Core.List.{List}
 use mathlib.Core.Bool.{false}
@@ -9,18 +9,19 @@ use native.Mathlib.Numerals.{add-one}
 use mir.Syntax.{w64}
 use mir.Val.{Fits}
 use lib.Dec.{eqb}
-use lib.ListN.{length, get_or, set, replicate, length-set}
+use lib.ListN.{length, get_or, set, length-set}
 use lib.Seq.{get_or-set_same, get_or-set_other}
 use borrow.Author.Tests.{eq-eqb, ne_eqb}
-use Rattle.rules.specs.Words.{if, sum_if, Within}
+use Rattle.rules.specs.Words.{if, sum_if}
 use Rattle.rules.specs.Flows.{flows, number_of, inputs, links, output_of, port_of, counts_of, Class, port_on, input, output, link, is_of, load_in, load}
 use Rattle.rules.proofs.Cases.{by_eq}
 use Rattle.rules.proofs.Lists.{zero_at}
 use Rattle.rules.proofs.Sums.{sum_none, sum_more, sum_ext, sum_zero}
 use Rattle.rules.proofs.Flows.{counts_length, counts_at}
 use Rattle.checks.specs.Fits.{ListFits}
-use Rattle.checks.proofs.Fits.{fits_sixteen, input_below, link_below}
-use Rattle.admission.specs.Overloads.{value_at, Given, EveryLoad}
+use Rattle.checks.proofs.Fits.{input_below, link_below}
+use Rattle.admission.specs.declared.Loads.{Loads}
+use Rattle.admission.specs.Overloads.{value_at, Given, NoLoad, EveryLoad}
 
 -- the cells of those of the first f flows that are of port or link x of a kind
 abbrev added_at : (ℕ → Class) → List ℕ → ℕ → ℕ → ℕ
@@ -76,81 +77,58 @@ kind_end kind size places list sums off a =
     }
 
 -- ---- all kinds
-pub record Summed (list : List ℕ) (n f : ℕ) (ins outs lines : List ℕ) : Type 0 where
-  pub all : n ≡ flows list
+pub record Summed (list : List ℕ) (f : ℕ) (loads : Loads) : Type 0 where
   pub most : f ≤ flows list
-  pub of_inputs : Kind-summed (port_on input) 16 list f ins
-  pub of_outputs : Kind-summed (port_on output) 16 list f outs
-  pub of_links : Kind-summed link 64 list f lines
+  pub of_inputs : Kind-summed (port_on input) 16 list f loads.inputs
+  pub of_outputs : Kind-summed (port_on output) 16 list f loads.outputs
+  pub of_links : Kind-summed link 64 list f loads.links
 
-pub summed_start : {n : ℕ} {list ins outs lines : List ℕ} → n ≡ flows list → ins ≡ replicate 16 0 → outs ≡ replicate 16 0
-    → lines ≡ replicate 64 0 → Summed list n 0 ins outs lines
-summed_start {n} {list} {ins} {outs} {lines} all e d g =
+pub summed_start : {list : List ℕ} {loads : Loads} → NoLoad loads → Summed list 0 loads
+summed_start {list} {loads} e =
     record {
-      all = all;
       most = omega arith;
-      of_inputs = kind_start (port_on input) 16 list ins (rw e) (λ x. rw e (zero_at 16 x));
-      of_outputs = kind_start (port_on output) 16 list outs (rw d) (λ x. rw d (zero_at 16 x));
-      of_links = kind_start link 64 list lines (rw g) (λ x. rw g (zero_at 64 x));
+      of_inputs = kind_start (port_on input) 16 list loads.inputs (rw e.of_inputs) (λ x. rw e.of_inputs (zero_at 16 x));
+      of_outputs = kind_start (port_on output) 16 list loads.outputs (rw e.of_outputs) (λ x. rw e.of_outputs (zero_at 16 x));
+      of_links = kind_start link 64 list loads.links (rw e.of_links) (λ x. rw e.of_links (zero_at 64 x));
     }
 
-pub summed_in : {n f : ℕ} {list ins outs lines : List ℕ} → Summed list n f ins outs lines → f < n → f < flows list
-summed_in a h = omega (arith, a.all)
+-- one flow more
+module _ {ports f : ℕ} {list : List ℕ} {loads : Loads} (l : ListFits ports list) (a : Summed list f loads) (here : f < flows list) where
+  fits : (sums : List ℕ) (p : ℕ) {cells : ℕ} → cells ≤ 65535 → value_at sums p ≤ f * 65535 → Fits w64 (value_at sums p + cells)
+  fits sums p small low = record { fits = omega (arith, low, small, l.few, mul-le-mul_right 65535 here) }
 
-module _ {ports n f : ℕ} {list ins outs lines : List ℕ} (t : ListFits ports list) (a : Summed list n f ins outs lines) (here : f < n) where
-  pub input_from_one : {x : ℕ} → x ≡ number_of 0 list f → 1 ≤ x
-  input_from_one e = omega (arith, e, (t.ported inputs f (summed_in a here)).0)
+  pub input_fits : (p : ℕ) {cells : ℕ} → cells ≤ 65535 → Fits w64 (value_at loads.inputs p + cells)
+  input_fits p small = fits loads.inputs p small (a.of_inputs.low p)
 
-  pub input_low : {x p : ℕ} → x ≡ number_of 0 list f → p ≡ x - 1 → p < 16
-  input_low {x} {p} e d = omega (arith, e, (t.ported inputs f (summed_in a here)).1, (t.ported inputs f (summed_in a here)).0, t.most)
+  pub output_fits : (p : ℕ) {cells : ℕ} → cells ≤ 65535 → Fits w64 (value_at loads.outputs p + cells)
+  output_fits p small = fits loads.outputs p small (a.of_outputs.low p)
 
-  pub summed_output : Within 1 16 (number_of 1 list f)
-  summed_output = (fits_sixteen t).ported links f (summed_in a here)
+  pub link_fits : (p : ℕ) {cells : ℕ} → cells ≤ 65535 → Fits w64 (value_at loads.links p + cells)
+  link_fits p small = fits loads.links p small (a.of_links.low p)
 
-  pub summed_link : Within 1 4 (number_of 3 list f)
-  summed_link = t.linked f (summed_in a here)
+  pub summed_on : {i o x cells : ℕ} → i ≡ port_of list inputs f → o ≡ output_of (port_of list links f) → x ≡ port_of list links f → cells ≡ number_of 2 list f
+      → (i < ports) × (o < ports) × (x < ports * 4) × (ports ≤ 16) × (cells ≤ 65535)
+      → Summed list (f + 1) (record {
+        inputs = set loads.inputs i (value_at loads.inputs i + cells);
+        outputs = set loads.outputs o (value_at loads.outputs o + cells);
+        links = set loads.links x (value_at loads.links x + cells);
+      })
+  summed_on {i} {o} {x} {cells} at_input at_output at_link is low =
+      record {
+        most = omega arith;
+        of_inputs = kind_on (port_on input) 16 list loads.inputs f i cells a.of_inputs (λ z. ap (λ w. eqb w z) (sym at_input)) (omega (arith, low.0, low.3)) is low.4;
+        of_outputs = kind_on (port_on output) 16 list loads.outputs f o cells a.of_outputs (λ z. ap (λ w. eqb w z) (sym at_output)) (omega (arith, low.1, low.3)) is low.4;
+        of_links = kind_on link 64 list loads.links f x cells a.of_links (λ z. ap (λ w. eqb w z) (sym at_link)) (omega (arith, low.2, low.3)) is low.4;
+      }
 
-  module _ {cells : ℕ} (small : cells ≤ 65535) where
-    fits : (sums : List ℕ) (p : ℕ) → value_at sums p ≤ f * 65535 → Fits w64 (value_at sums p + cells)
-    fits sums p l = record { fits = omega (arith, l, t.few, mul-le-mul_right 65535 (summed_in a here)) }
-
-    pub in_fits : (p : ℕ) → Fits w64 (value_at ins p + cells)
-    in_fits p = fits ins p (a.of_inputs.low p)
-
-    pub out_fits : (p : ℕ) → Fits w64 (value_at outs p + cells)
-    out_fits p = fits outs p (a.of_outputs.low p)
-
-    pub line_fits : (p : ℕ) → Fits w64 (value_at lines p + cells)
-    line_fits p = fits lines p (a.of_links.low p)
-
-    pub summed_on : {x i y : ℕ} {ins' outs' lines' : List ℕ} → x ≡ number_of 0 list f → i ≡ x - 1 → y ≡ port_of list links f → y < 64
-        → cells ≡ number_of 2 list f → ins' ≡ set ins i (value_at ins i + cells)
-        → outs' ≡ set outs (output_of y) (value_at outs (output_of y) + cells)
-        → lines' ≡ set lines y (value_at lines y + cells) → Summed list n (f + 1) ins' outs' lines'
-    unfolding port_of
-    summed_on {x} {i} {y} {ins'} {outs'} {lines'} ex pi py low is e d g =
-        record {
-          all = a.all;
-          most = omega (arith, a.all);
-          of_inputs = rw e (kind_on (port_on input) 16 list ins f i cells a.of_inputs (λ z. ap (λ w. eqb w z) (sym at))
-              (input_low ex pi) is small);
-          of_outputs = rw d (kind_on (port_on output) 16 list outs f (output_of y) cells a.of_outputs (λ z. ap (λ w. eqb (output_of w) z) (sym py))
-              (omega arith) is small);
-          of_links = rw g (kind_on link 64 list lines f y cells a.of_links (λ z. ap (λ w. eqb w z) (sym py)) low is small);
-        }
-      where
-        at : i ≡ port_of list inputs f
-        at = omega (arith, ex, pi)
-
-pub summed_end : {ports n f : ℕ} {list ins outs lines : List ℕ} → ListFits ports list → Summed list n f ins outs lines → n ≤ f
-    → EveryLoad ports list ins outs lines
-summed_end {ports} {n} {f} {list} {ins} {outs} {lines} t a h =
-    let e : f ≡ flows list = omega (arith, a.most, a.all) in
+pub summed_end : {ports f : ℕ} {list : List ℕ} {loads : Loads} → ListFits ports list → Summed list f loads → flows list ≤ f → EveryLoad ports list loads
+summed_end {ports} {f} {list} {loads} t a h =
+    let e : f ≡ flows list = omega (arith, a.most) in
     record {
-      of_inputs = kind_end (port_on input) 16 ports list ins
+      of_inputs = kind_end (port_on input) 16 ports list loads.inputs
           (λ x g l k. ne_eqb (port_of list inputs g) x (omega (arith, input_below t g k))) (rw e at a.of_inputs);
-      of_outputs = kind_end (port_on output) 16 ports list outs
+      of_outputs = kind_end (port_on output) 16 ports list loads.outputs
           (λ x g l k. ne_eqb (output_of (port_of list links g)) x (omega (arith, link_below t g k))) (rw e at a.of_outputs);
-      of_links = kind_end link 64 (ports * 4) list lines
+      of_links = kind_end link 64 (ports * 4) list loads.links
           (λ x g l k. ne_eqb (port_of list links g) x (omega (arith, link_below t g k))) (rw e at a.of_links);
     }

@@ -1,14 +1,13 @@
 //! Admit: every load in one pass over the list, and the refusals that are decided from it.
 #![tactic(auto)]
 
-ghost use Rattle.std.specs.Prelude.{◌≡◌, ◌<◌, length, replicate};
-ghost use Rattle.calls.specs.Refusals.{lowest_above, lowest_past, answered, admitted};
-ghost use Rattle.checks.specs.Fits.{ListFits};
-ghost use Rattle.admission.specs.Overloads.{value_at, EveryLoad, decided_ports, decided};
+ghost use Rattle.std.specs.Prelude.{◌≡◌, ◌<◌, ltb, length, IfSome};
+ghost use Rattle.rules.specs.Words.{found};
+ghost use Rattle.calls.specs.Refusals.{answered, admitted};
+ghost use Rattle.admission.specs.Overloads.{value_at, NoLoad, EveryLoad, decided_ports, decided};
 
-use calls::{Answer, Refusal};
-use checks::check_list;
-use flows::{flows_of, link_of, number_of};
+use calls::Refusal;
+use checks::reservations::{Reservations, check_list};
 
 // The load of each input, of each output and of each link, at its place from 0, and 0 at a place of no port.
 #[derive(Drop)]
@@ -18,132 +17,92 @@ pub struct Loads {
     pub links: [usize; 64],
 }
 
+impl Loads {
+    // Those of no flow.
+    #[inline]
+    pub fn new() -> Loads
+        ensures { NoLoad result }
+    {
+        Loads {
+            inputs: [0; 16],
+            outputs: [0; 16],
+            links: [0; 64],
+        }
+    }
+}
+
 // Every port's and every link's load, in one pass over the list, where all are 0 before. The loads are lent, since those that are handed back
 // by value are copied.
-pub fn add_loads(ports: usize, list: &[u16], loads: &mut Loads)
-    requires { ListFits ports list.now × (loads.old.inputs ≡ replicate 16 0)
-        × (loads.old.outputs ≡ replicate 16 0) × (loads.old.links ≡ replicate 64 0) }
-    ensures { EveryLoad ports list.now loads.new.inputs loads.new.outputs loads.new.links }
+pub fn add_loads(of: &Reservations<'_>, loads: &mut Loads)
+    requires { NoLoad loads.old }
+    ensures { EveryLoad of.now.ports of.now.list.now loads.new }
 {
-    let count = flows_of(list);
-    let mut f: usize = 0;
-    while f < count {
-        let i = number_of(list, f, 0) - 1;
-        let x = link_of(list, f);
-        let o = x / 4;
-        let cells = number_of(list, f, 2);
-        loads.inputs[i] = loads.inputs[i] + cells;
-        loads.outputs[o] = loads.outputs[o] + cells;
-        loads.links[x] = loads.links[x] + cells;
-        f += 1;
+    for f in 0..of.flows() {
+        let flow = of.flow(f);
+        loads.inputs[flow.input] += flow.cells;
+        loads.outputs[flow.output] += flow.cells;
+        loads.links[flow.link] += flow.cells;
     }
 }
 
-// The same, handed back.
-pub fn loads_of(ports: usize, list: &[u16]) -> Loads
-    requires { ListFits ports list.now }
-    ensures { EveryLoad ports list.now result.inputs result.outputs result.links }
-{
-    let mut loads = Loads {
-        inputs: [0; 16],
-        outputs: [0; 16],
-        links: [0; 64],
-    };
-    add_loads(ports, list, &mut loads);
-    loads
-}
-
-// The lowest of sixteen ports whose load is above slots; 16 where there is none.
-fn lowest_above(slots: usize, loads: &[usize; 16]) -> usize
+// The lowest of sixteen ports whose load is above slots.
+fn lowest_above(slots: usize, loads: &[usize; 16]) -> Option<usize>
     requires { length loads.now ≡ 16 }
-    ensures { result ≡ lowest_above 16 slots (value_at loads.now) }
+    ensures first { result ≡ found (λ port. ltb slots (value_at loads.now port)) 0 16 }
+    ensures low { IfSome result (λ port. port < 16) }
 {
-    let mut untried: usize = 16;
-    while 0 < untried {
-        let x = 16 - untried;
-        if slots < loads[x] {
-            return x;
-        }
-        untried -= 1;
-    }
-    16
+    (0..16).find(|&port| slots < loads[port])
 }
 
-// The lowest of the links of sixteen outputs whose load is above its limit; 64 where there is none.
-fn lowest_past(links: &[usize; 64], limits: [u16; 64]) -> usize
-    requires { length links.now ≡ 64 }
-    ensures { result ≡ lowest_past 16 limits (value_at links.now) }
+// The lowest of the links of sixteen outputs whose load is above its limit.
+fn lowest_past(loads: &[usize; 64], limits: [u16; 64]) -> Option<usize>
+    requires { length loads.now ≡ 64 }
+    ensures first { result ≡ found (λ link. ltb (value_at limits link) (value_at loads.now link)) 0 64 }
+    ensures low { IfSome result (λ link. link < 64) }
 {
-    let mut untried: usize = 64;
-    while 0 < untried {
-        let x = 64 - untried;
-        if (limits[x] as usize) < links[x] {
-            return x;
-        }
-        untried -= 1;
-    }
-    64
+    (0..64).find(|&link| usize::from(limits[link]) < loads[link])
 }
 
 // Refusals 5 and 6, decided from the loads of the ports and slots.
-pub fn port_overload<'a>(slots: usize, inputs: &'a [usize; 16], outputs: &'a [usize; 16]) -> Answer
-    requires { (length inputs.now ≡ 16) × (length outputs.now ≡ 16) }
-    ensures { answered result ≡ decided_ports slots inputs.now outputs.now }
+pub fn port_overload(slots: usize, loads: &Loads) -> Result<(), Refusal>
+    ensures { answered result ≡ decided_ports slots loads.now }
 {
-    let i = lowest_above(slots, inputs);
-    if i < 16 {
-        return Answer::Refused(Refusal::InputLoad {
-            port: i + 1,
-            cells: inputs[i],
+    if let Some(input) = lowest_above(slots, &loads.inputs) {
+        return Err(Refusal::InputLoad {
+            port: input + 1,
+            cells: loads.inputs[input],
         });
     }
-    let o = lowest_above(slots, outputs);
-    if o < 16 {
-        return Answer::Refused(Refusal::OutputLoad {
-            port: o + 1,
-            cells: outputs[o],
+    if let Some(output) = lowest_above(slots, &loads.outputs) {
+        return Err(Refusal::OutputLoad {
+            port: output + 1,
+            cells: loads.outputs[output],
         });
     }
-    Answer::Accepted
+    Ok(())
 }
 
 // Refusals 5, 6 and 24, decided from every load, slots and the limits.
-pub fn overload<'a>(
-    slots: usize,
-    inputs: &'a [usize; 16],
-    outputs: &'a [usize; 16],
-    links: &'a [usize; 64],
-    limits: [u16; 64],
-) -> Answer
-    requires { (length inputs.now ≡ 16) × (length outputs.now ≡ 16) × (length links.now ≡ 64) }
-    ensures { answered result ≡ decided slots inputs.now outputs.now links.now limits }
+pub fn overload(slots: usize, loads: &Loads, limits: [u16; 64]) -> Result<(), Refusal>
+    ensures { answered result ≡ decided slots loads.now limits }
 {
-    if let Answer::Refused(refusal) = port_overload(slots, inputs, outputs) {
-        return Answer::Refused(refusal);
-    }
-    let x = lowest_past(links, limits);
-    if x < 64 {
-        return Answer::Refused(Refusal::LinkLoad {
-            output: x / 4 + 1,
-            link: x % 4 + 1,
-            cells: links[x],
+    port_overload(slots, loads)?;
+    if let Some(link) = lowest_past(&loads.links, limits) {
+        return Err(Refusal::LinkLoad {
+            output: link / 4 + 1,
+            link: link % 4 + 1,
+            cells: loads.links[link],
         });
     }
-    Answer::Accepted
+    Ok(())
 }
 
 // Admit: 1, 2, 3, 21, 22, 23, 5, 6, 24.
-pub fn admit(ports: usize, slots: usize, list: &[u16], limits: [u16; 64]) -> Answer
+pub fn admit(ports: usize, slots: usize, list: &[u16], limits: [u16; 64]) -> Result<(), Refusal>
     ensures { answered result ≡ admitted ports slots list.now limits }
 {
-    if let Answer::Refused(refusal) = check_list(ports, slots, list) {
-        return Answer::Refused(refusal);
-    }
-    let mut loads = Loads {
-        inputs: [0; 16],
-        outputs: [0; 16],
-        links: [0; 64],
-    };
-    add_loads(ports, list, &mut loads);
-    overload(slots, &loads.inputs, &loads.outputs, &loads.links, limits)
+    let of = check_list(ports, slots, list)?;
+    let mut loads = Loads::new();
+    add_loads(&of, &mut loads);
+    overload(slots, &loads, limits)
 }

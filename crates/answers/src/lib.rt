@@ -7,7 +7,9 @@ ghost use Rattle.numbers.specs.Numbers.{Values2, Replied};
 ghost use Rattle.numbers.specs.Sides.{side_numbered};
 
 use calls::Who;
-use numbers::side_of;
+use depth::depth_of;
+use numbers::{CountNumbers, Numbers, side_of};
+use service::service_count;
 
 // Service count in a frame of a side; the cells and the lead are 0 where it is refused.
 pub fn count(
@@ -24,20 +26,9 @@ pub fn count(
 ) -> usize
     ensures { Replied (service (side_numbered side) ports slots list.now frame.now who start len) result cells.new lead.new }
 {
-    let n = numbers::of_service(service::service_count(
-        side_of(side),
-        ports,
-        slots,
-        list,
-        frame,
-        who,
-        start,
-        len,
-    ));
-    *cells = n.cells;
-    let signed = n.lead;
-    *lead = signed;
-    n.number
+    let counted = service_count(side_of(side), ports, slots, list, frame, who, start, len);
+    let numbers = CountNumbers::from(counted);
+    numbers.put(cells, lead)
 }
 
 // Depth: the bound and the cells to order; refusals 5 and 6 have the port and its load in their place.
@@ -51,8 +42,6 @@ pub fn bound(
 ) -> usize
     ensures { Values2 (depth ports slots list.now who) result first.new second.new }
 {
-    let n = numbers::of_depth(depth::depth_of(ports, slots, list, who));
-    *first = n.first;
-    *second = n.second;
-    n.number
+    let numbers = Numbers::from(depth_of(ports, slots, list, who));
+    numbers.put_two(first, second)
 }

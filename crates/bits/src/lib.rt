@@ -1,22 +1,9 @@
-//! Widths and digits: bytes and numbers of 16 bits made wide, and the binary digits of words.
+//! The binary digits of words.
 #![tactic(auto)]
 
-ghost use Rattle.std.specs.Prelude.{◌≡◌, ◌<◌, ◌≤◌, eqb};
-ghost use Rattle.bits.specs.Digits.{digit, PutAt, FlippedAt};
-
-// A byte as a number; an index of 256 without a test.
-pub fn byte(x: u8) -> usize
-    ensures { (result ≡ x) × (result < 256) }
-{
-    x as usize
-}
-
-// A number of 16 bits: a position, a count, an entry of a frame.
-pub fn number(n: u16) -> usize
-    ensures { (result ≡ n) × (result ≤ 65535) }
-{
-    n as usize
-}
+ghost use Rattle.std.specs.Prelude.{◌≡◌, ◌<◌, ◌≤◌, ◌^◌, eqb};
+ghost use Rattle.std.specs.Iterator.{YieldsFirst, item_count};
+ghost use Rattle.bits.specs.Digits.{digit, places, PutAt, FlippedAt};
 
 // A word with d put at digit i.
 pub fn put_digit(x: u64, i: usize, d: u64) -> u64
@@ -40,4 +27,35 @@ pub fn has_digit(x: u64, i: usize) -> bool
     ensures { result ≡ eqb (digit x i) 1 }
 {
     (x >> i) % 2 == 1
+}
+
+// The places of the digits of a word that are 1, the lowest first.
+#[derive(Clone, Copy, Debug, PartialEq, Eq)]
+pub struct Ones {
+    word: u64,
+}
+
+pub fn ones_of(word: u64) -> Ones
+    ensures { result.word ≡ word }
+{
+    Ones { word }
+}
+
+impl Iterator for Ones {
+    type Item = usize;
+
+    ghost next_gives = { YieldsFirst (λ s. places 0 64 s.word) };
+
+    ghost remaining = { item_count (λ s. places 0 64 s.word) };
+
+    #[inline]
+    fn next(&mut self) -> Option<usize> {
+        if self.word == 0 {
+            return None;
+        }
+        // By `as`: std has no `From` of a `u32` for a `usize`.
+        let place = self.word.trailing_zeros() as usize;
+        self.word &= self.word - 1;
+        Some(place)
+    }
 }

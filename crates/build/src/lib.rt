@@ -2,12 +2,12 @@
 #![tactic(auto)]
 
 ghost use Rattle.std.specs.Prelude.{◌≡◌};
-ghost use Rattle.rules.specs.OddShares.{settled};
 ghost use Rattle.calls.specs.Build.{outcome, built, frame_after};
 
 use admission::{Loads, add_loads, overload};
-use calls::{Answer, Built, Refusal};
-use checks::{bad_length, check_list};
+use calls::Refusal;
+use checks::frames::check_frame;
+use checks::reservations::check_list;
 use schedule::fill;
 
 // Build: 1, 2, 3, 21, 22, 23, 4, 5, 6, 24, and nothing is written until all have passed.
@@ -17,26 +17,14 @@ pub fn build(
     list: &[u16],
     limits: [u16; 64],
     frame: &mut [u16],
-) -> Built
-    ensures { (outcome result ≡ built ports slots list.now limits frame.old)
-        × (frame.new ≡ frame_after ports slots list.now limits frame.old) }
+) -> Result<usize, Refusal>
+    ensures answer { outcome result ≡ built ports slots list.now limits frame.old }
+    ensures entries { frame.new ≡ frame_after ports slots list.now limits frame.old }
 {
-    if let Answer::Refused(refusal) = check_list(ports, slots, list) {
-        return Built::Refused(refusal);
-    }
-    if bad_length(frame.len(), slots, ports) {
-        return Built::Refused(Refusal::FrameLength);
-    }
-    let mut loads = Loads {
-        inputs: [0; 16],
-        outputs: [0; 16],
-        links: [0; 64],
-    };
-    add_loads(ports, list, &mut loads);
-    let over = overload(slots, &loads.inputs, &loads.outputs, &loads.links, limits);
-    if let Answer::Refused(refusal) = over {
-        return Built::Refused(refusal);
-    }
-    let settled = fill(ports, slots, list, frame);
-    Built::Accepted { settled }
+    let of = check_list(ports, slots, list)?;
+    check_frame(of, frame)?;
+    let mut loads = Loads::new();
+    add_loads(&of, &mut loads);
+    overload(slots, &loads, limits)?;
+    Ok(fill(&of, frame))
 }

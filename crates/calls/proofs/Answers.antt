@@ -3,9 +3,10 @@ use Prim.Native.Nat.{ℕ}
 use mathlib.Core.Path.{◌≡◌, subst, refl}
 use mathlib.Core.List.{[], ◌∷◌, map}
 use lib.IntN.{pos}
+use Rattle.std.specs.Prelude.{Ok, Err}
 use Rattle.calls.specs.Refusals.{refusal, answered}
 use Rattle.calls.specs.Build.{outcome}
-use Rattle.calls.specs.Inspect.{finding}
+use Rattle.calls.specs.Inspect.{finding, inspection_numbers}
 use Rattle.calls.specs.Service.{served}
 use Rattle.calls.specs.Answers.{Exactly}
 use Rattle.calls.specs.Sides.{side_of}
@@ -13,14 +14,9 @@ use Rattle.rules.specs.Flows.{input, output}
 use Rattle.calls.specs.declared.Side.TheVariants.{Input, Output}
 use Rattle.calls.specs.declared.Refusal.{Refusal}
 use Rattle.calls.specs.declared.Refusal.TheVariants.{Ports, Slots, ListLength, FrameLength, InputLoad, OutputLoad, LineForm, LinePort, SheetLength, SlotNumber, FlowOrPort, RunLength, Entries, SecondLength, TooManyFlows, FlowPort, FlowLink, LinkLoad}
-use Rattle.calls.specs.declared.Answer.TheVariants as answer
-use Rattle.calls.specs.declared.Answer.TheVariants.{Accepted}
-use Rattle.calls.specs.declared.Built.TheVariants as building
-use Rattle.calls.specs.declared.Inspection.TheVariants as inspection
+use Rattle.calls.specs.declared.Inspection.{Inspection}
 use Rattle.calls.specs.declared.Inspection.TheVariants.{Clean, WrongEntry, PortTwice, FlowCount, UnbalancedBlock}
 use Rattle.calls.specs.declared.Count.{Count}
-use Rattle.calls.specs.declared.Service.TheVariants as served-as
-use Rattle.calls.specs.declared.Service.TheVariants.{Counted}
 
 -- some case, and that what any case says is the answer, are enough
 pub exactly : {A : Type 0} {cases : A → Type 0} {answer : A} → ((given : A) → cases given → given ≡ answer) → {given : A} → cases given → Exactly cases answer
@@ -41,11 +37,12 @@ fault_numbers slot port f size = refl
 
 -- Acceptance is 0, Build's 0 and the odd counts settled, a count 0 and its cells with its lead, and a refusal has its number in each
 -- answer, and no lead.
-pub answer_numbers : (r : Refusal) (settled : ℕ) (c : Count)
-    → (answered Accepted ≡ 0 ∷ []) × (answered (answer.Refused r) ≡ refusal r) × (finding (inspection.Refused r) ≡ refusal r)
-    × (outcome (building.Accepted settled) ≡ 0 ∷ settled ∷ []) × (outcome (building.Refused r) ≡ refusal r)
-    × (served (Counted c) ≡ record { numbers = 0 ∷ c.cells ∷ []; ahead = c.lead }) × (served (served-as.Refused r) ≡ record { numbers = refusal r; ahead = pos 0 })
-answer_numbers r settled c = (refl, refl, refl, refl, refl, refl, refl)
+pub answer_numbers : (r : Refusal) (settled : ℕ) (c : Count) (found : Inspection)
+    → (answered (Ok tt) ≡ 0 ∷ []) × (answered (Err r) ≡ refusal r) × (inspection_numbers (Err r) ≡ refusal r)
+    × (outcome (Ok settled) ≡ 0 ∷ settled ∷ []) × (outcome (Err r) ≡ refusal r)
+    × (served (Ok c) ≡ record { numbers = 0 ∷ c.cells ∷ []; ahead = c.lead }) × (served (Err r) ≡ record { numbers = refusal r; ahead = pos 0 })
+    × (inspection_numbers (Ok found) ≡ finding found)
+answer_numbers r settled c found = (refl, refl, refl, refl, refl, refl, refl, refl)
 
 -- The side that a call is told.
 pub sides_told : (side_of Input ≡ input) × (side_of Output ≡ output)

@@ -1,13 +1,12 @@
 -- Build: its answer, and the entries that it leaves.
-use Rattle.std.specs.Prelude.{ℕ, ◌≡◌, List, [], ◌∷◌, ◌++◌, Bool, true, get_or}
+use Rattle.std.specs.Prelude.{ℕ, ◌≡◌, List, [], ◌∷◌, ◌++◌, Bool, true, get_or, Result, Ok, Err}
 use Rattle.rules.specs.Words.{if}
 use Rattle.rules.specs.Flows.{port_of, counts_of}
 use Rattle.calls.specs.Refusals.{Check, report, none_holds, refusal, list_checks, bad_frame, overloads}
 use Rattle.rules.specs.Frames.{levels}
 use Rattle.rules.specs.Schedule.{frame_of}
 use Rattle.calls.specs.Work.{work}
-use Rattle.calls.specs.declared.Built.{Built}
-use Rattle.calls.specs.declared.Built.TheVariants.{Accepted, Refused}
+use Rattle.calls.specs.declared.Refusal.{Refusal}
 
 -- Build: 1, 2, 3, 21, 22, 23, 4, 5, 6, 24.
 unfoldable pub build_checks : ℕ → ℕ → List ℕ → List ℕ → List ℕ → List Check
@@ -25,9 +24,9 @@ abbrev pub frame_after : ℕ → ℕ → List ℕ → List ℕ → List ℕ → 
 frame_after ports slots list limits buffer = if (build_accepts ports slots list limits buffer) (frame_for ports slots list) buffer
 
 -- An answer as numbers: acceptance's is 0 and then the odd counts settled, a refusal's its own numbers.
-abbrev pub outcome : Built → List ℕ
-outcome (Accepted settled) = 0 ∷ settled ∷ []
-outcome (Refused r) = refusal r
+abbrev pub outcome : Result ℕ Refusal → List ℕ
+outcome (Ok settled) = 0 ∷ settled ∷ []
+outcome (Err r) = refusal r
 
 -- Build's acceptance: the odd counts settled are those of the frame that it leaves.
 abbrev pub acceptance : ℕ → ℕ → List ℕ → List ℕ → List ℕ → List ℕ

@@ -1,13 +1,13 @@
 -- Depth: how far from its share a flow, an input or an output can get, and how deep a buffer to order for it.
-use Rattle.std.specs.Prelude.{ℕ, ◌+◌, ◌*◌, ◌-◌, ◌/◌, List, [], ◌∷◌, ◌++◌}
+use Rattle.std.specs.Prelude.{ℕ, ◌+◌, ◌*◌, ◌-◌, ◌/◌, List, [], ◌∷◌, ◌++◌, Result, Ok, Err}
 use Rattle.rules.specs.Flows.{load}
 use Rattle.rules.specs.Frames.{levels}
 use Rattle.strays.specs.Stray.{stray}
 use Rattle.calls.specs.Refusals.{Check, report, refusal, list_checks, port_overloads}
 use Rattle.calls.specs.Service.{class_of, bad_who}
 use Rattle.calls.specs.declared.Who.{Who}
-use Rattle.calls.specs.declared.Depth.{Depth}
-use Rattle.calls.specs.declared.Depth.TheVariants.{Bound, Refused}
+use Rattle.calls.specs.declared.Bound.{Bound}
+use Rattle.calls.specs.declared.Refusal.{Refusal}
 
 -- Depth: 1, 2, 3, 21, 22, 23, 5, 6, 12.
 unfoldable pub depth_checks : ℕ → ℕ → List ℕ → Who → List Check
@@ -23,9 +23,9 @@ abbrev pub most_waiting : ℕ → ℕ → ℕ
 most_waiting slots m = (slots - 1 + farthest slots m + m) / slots
 
 -- An answer as numbers: acceptance's is 0, the bound and the cells to order, a refusal's its own numbers.
-abbrev pub depth_numbers : Depth → List ℕ
-depth_numbers (Bound parts cells) = 0 ∷ parts ∷ cells ∷ []
-depth_numbers (Refused r) = refusal r
+abbrev pub depth_numbers : Result Bound Refusal → List ℕ
+depth_numbers (Ok b) = 0 ∷ b.parts ∷ b.cells ∷ []
+depth_numbers (Err r) = refusal r
 
 -- By the load of the one that is asked about.
 unfoldable pub depth : ℕ → ℕ → List ℕ → Who → List ℕ

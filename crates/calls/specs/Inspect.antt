@@ -1,11 +1,12 @@
 -- Inspect: a frame from anywhere, of either side, is clean, or has a first fault.
-use Rattle.std.specs.Prelude.{ℕ, suc, ◌+◌, ◌*◌, ◌/◌, ◌%◌, ◌^◌, List, [], ◌∷◌, ◌++◌, map, Bool, true, not, eqb, ltb, get_or}
+use Rattle.std.specs.Prelude.{ℕ, suc, ◌+◌, ◌*◌, ◌/◌, ◌%◌, ◌^◌, List, [], ◌∷◌, ◌++◌, map, Bool, true, not, eqb, ltb, get_or, Result, Ok, Err}
 use Rattle.rules.specs.Words.{both, near, up_from, first}
 use Rattle.rules.specs.Flows.{flows, Side, other, Class, flow, port_on, input, output, link, total, load}
 use Rattle.rules.specs.Frames.{right_on, cells_on, run_of, levels}
 use Rattle.calls.specs.Refusals.{Check, report, refusal, list_checks, bad_frame}
 use Rattle.calls.specs.declared.Inspection.{Inspection}
-use Rattle.calls.specs.declared.Inspection.TheVariants.{Clean, WrongEntry, PortTwice, FlowCount, UnbalancedBlock, Refused}
+use Rattle.calls.specs.declared.Inspection.TheVariants.{Clean, WrongEntry, PortTwice, FlowCount, UnbalancedBlock}
+use Rattle.calls.specs.declared.Refusal.{Refusal}
 
 -- An answer as numbers: 0 for clean; a fault's number and its place. Document 01 orders the faults and does not number
 -- them: 101 to 104, in its order, are ours, clear of the refusals.
@@ -15,7 +16,10 @@ finding (WrongEntry s x) = 101 ∷ s ∷ x ∷ []
 finding (PortTwice s x) = 102 ∷ s ∷ x ∷ []
 finding (FlowCount f) = 103 ∷ f ∷ []
 finding (UnbalancedBlock s size) = 104 ∷ s ∷ size ∷ []
-finding (Refused r) = refusal r
+
+abbrev pub inspection_numbers : Result Inspection Refusal → List ℕ
+inspection_numbers (Ok found) = finding found
+inspection_numbers (Err r) = refusal r
 
 -- The first of n places that a test names wrong, by two numbers from 1: its row and its column in rows of some width.
 abbrev pub first_place : ℕ → (ℕ → Bool) → ℕ → ℕ → Check

@@ -1,12 +1,10 @@
 -- Refusals 1 to 18 and 21 to 24: each condition with its number and what it carries, and the number and values of each answer.
-use Rattle.std.specs.Prelude.{ℕ, suc, ◌*◌, ◌%◌, List, [], ◌∷◌, ◌++◌, Bool, true, not, eqb, ltb, length, get_or, replicate}
+use Rattle.std.specs.Prelude.{ℕ, suc, ◌*◌, ◌%◌, List, [], ◌∷◌, ◌++◌, Bool, true, not, eqb, ltb, length, get_or, replicate, Result, Ok, Err, ⊤}
 use Rattle.rules.specs.Words.{if, both, within, first}
 use Rattle.rules.specs.Flows.{stride, flows, number_of, inputs, links, output_of, place_of, Class, port_on, input, output, link, load}
 use Rattle.rules.specs.Frames.{levels}
 use Rattle.calls.specs.declared.Refusal.{Refusal}
 use Rattle.calls.specs.declared.Refusal.TheVariants.{Ports, Slots, ListLength, FrameLength, InputLoad, OutputLoad, LineForm, LinePort, SheetLength, SlotNumber, FlowOrPort, RunLength, Entries, SecondLength, FrameEntries, InputFull, OutputFull, TooManyFlows, FlowPort, FlowLink, LinkLoad}
-use Rattle.calls.specs.declared.Answer.{Answer}
-use Rattle.calls.specs.declared.Answer.TheVariants.{Accepted, Refused}
 
 -- An answer as numbers: a refusal's is its number and then its values, acceptance's is 0.
 abbrev pub refusal : Refusal → List ℕ
@@ -35,9 +33,9 @@ refusal (LinkLoad o l cells) = 24 ∷ o ∷ l ∷ cells ∷ []
 abbrev pub accepted : List ℕ
 accepted = 0 ∷ []
 
-abbrev pub answered : Answer → List ℕ
-answered Accepted = accepted
-answered (Refused r) = refusal r
+abbrev pub answered : Result ⊤ Refusal → List ℕ
+answered (Ok _) = accepted
+answered (Err r) = refusal r
 
 -- A condition, with the answer where it holds.
 abbrev pub Check : Type 0

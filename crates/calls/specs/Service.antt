@@ -1,13 +1,13 @@
 -- Slot view and Service count: what is asked about a frame.
-use Rattle.std.specs.Prelude.{ℕ, ◌-◌, ◌*◌, List, [], ◌∷◌, ◌++◌, Bool, not, ltb, get_or, take, drop, ℤ, pos, ◌-ℤ◌}
+use Rattle.std.specs.Prelude.{ℕ, ◌-◌, ◌*◌, List, [], ◌∷◌, ◌++◌, Bool, not, ltb, get_or, take, drop, ℤ, pos, ◌-ℤ◌, Result, Ok, Err}
 use Rattle.rules.specs.Words.{if, within}
 use Rattle.rules.specs.Flows.{flows, Side, Class, flow, port_on, input, output}
 use Rattle.rules.specs.Frames.{cells_on, repeated}
 use Rattle.calls.specs.Refusals.{Check, report, none_holds, accepted, refusal, bad_ports, bad_slots, list_checks, bad_frame, bad_slot}
 use Rattle.calls.specs.declared.Who.{Who}
 use Rattle.calls.specs.declared.Who.TheVariants.{Flow, Input, Output}
-use Rattle.calls.specs.declared.Service.{Service}
-use Rattle.calls.specs.declared.Service.TheVariants.{Counted, Refused}
+use Rattle.calls.specs.declared.Count.{Count}
+use Rattle.calls.specs.declared.Refusal.{Refusal}
 
 -- Slot view: 1, 2, 4, 11.
 unfoldable pub view_checks : ℕ → ℕ → List ℕ → ℕ → List Check
@@ -61,9 +61,9 @@ pub record Reply : Type 0 where
   pub ahead : ℤ
 
 -- A count's answer is 0 and the cells, and the lead; a refusal's is its own numbers, and 0 for the lead.
-abbrev pub served : Service → Reply
-served (Counted c) = record { numbers = 0 ∷ c.cells ∷ []; ahead = c.lead }
-served (Refused r) = record { numbers = refusal r; ahead = pos 0 }
+abbrev pub served : Result Count Refusal → Reply
+served (Ok c) = record { numbers = 0 ∷ c.cells ∷ []; ahead = c.lead }
+served (Err r) = record { numbers = refusal r; ahead = pos 0 }
 
 -- Service count: 1, 2, 3, 21, 22, 23, 4, 11, 12, 13.
 unfoldable pub count_checks : ℕ → ℕ → List ℕ → List ℕ → Who → ℕ → ℕ → List Check

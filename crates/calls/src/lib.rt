@@ -1,8 +1,13 @@
 //! The answers that the calls share. Their numbers and values are given in specs/Refusals.antt.
 #![tactic(auto)]
 
-// A refusal, with what it carries.
-#[derive(Clone, Copy)]
+ghost use Rattle.std.specs.Prelude.{◌≡◌};
+ghost use Rattle.rules.specs.Flows.{other};
+ghost use Rattle.calls.specs.Sides.{side_of};
+
+// A refusal, with what it carries: the error of every call. Admit and Turn answer nothing else; Build's value is how many odd counts were
+// settled for the frame.
+#[derive(Clone, Copy, Debug, PartialEq, Eq)]
 pub enum Refusal {
     Ports,
     Slots,
@@ -41,41 +46,38 @@ pub enum Refusal {
     },
 }
 
-// What Admit answers.
-#[derive(Clone, Copy)]
-pub enum Answer {
-    Accepted,
-    Refused(Refusal),
-}
-
-// What Build answers: with the frame, how many odd counts were settled for it.
-#[derive(Clone, Copy)]
-pub enum Built {
-    Accepted { settled: usize },
-    Refused(Refusal),
-}
-
 // The side of a frame: a slot has one entry for each port of it.
-#[derive(Clone, Copy)]
+#[derive(Clone, Copy, Debug, PartialEq, Eq)]
 pub enum Side {
     Input,
     Output,
 }
 
-// What Inspect answers; slots, ports, flows and the first slot of a block are numbered from 1. A wrong entry stands at a port of the
+impl Side {
+    // The side across the switch.
+    pub fn other(self) -> Side
+        ensures { side_of result ≡ other (side_of self) }
+    {
+        match self {
+            Side::Input => Side::Output,
+            Side::Output => Side::Input,
+        }
+    }
+}
+
+// What Inspect finds; slots, ports, flows and the first slot of a block are numbered from 1. A wrong entry stands at a port of the
 // frame's own side, and a port that is used twice is one of the other side.
-#[derive(Clone, Copy)]
+#[derive(Clone, Copy, Debug, PartialEq, Eq)]
 pub enum Inspection {
     Clean,
     WrongEntry { slot: usize, port: usize },
     PortTwice { slot: usize, port: usize },
     FlowCount { flow: usize },
     UnbalancedBlock { slot: usize, size: usize },
-    Refused(Refusal),
 }
 
 // Whom Service count counts for, numbered from 1.
-#[derive(Clone, Copy)]
+#[derive(Clone, Copy, Debug, PartialEq, Eq)]
 pub enum Who {
     Flow(usize),
     Input(usize),
@@ -84,33 +86,23 @@ pub enum Who {
 
 // What a run had of a flow or a port, and how far ahead that is: slots × cells, less the run's length × the cells of one
 // whole frame, below 0 where the run is behind.
-#[derive(Clone, Copy)]
+#[derive(Clone, Copy, Debug, PartialEq, Eq)]
 pub struct Count {
     pub cells: usize,
     pub lead: i64,
 }
 
-// What Service count answers.
-#[derive(Clone, Copy)]
-pub enum Service {
-    Counted(Count),
-    Refused(Refusal),
+// How far from its share a run can get, in parts of 1 / slots of a cell, and the cells to order for an even source.
+#[derive(Clone, Copy, Debug, PartialEq, Eq)]
+pub struct Bound {
+    pub parts: usize,
+    pub cells: usize,
 }
 
-// What Depth answers: how far from its share a run can get, in parts of 1 / slots of a cell, and the cells to order for an even source.
-#[derive(Clone, Copy)]
-pub enum Depth {
-    Bound { parts: usize, cells: usize },
-    Refused(Refusal),
-}
-
-// What Add answers: the slot that the cell was put into, the other slot that changed, 0 where there is none, and how many cells were moved.
-#[derive(Clone, Copy)]
-pub enum Added {
-    Accepted {
-        slot: usize,
-        other: usize,
-        moved: usize,
-    },
-    Refused(Refusal),
+// The slot that an added cell was put into, the other slot that changed, where there is one, and how many cells were moved.
+#[derive(Clone, Copy, Debug, PartialEq, Eq)]
+pub struct Added {
+    pub slot: usize,
+    pub other: Option<usize>,
+    pub moved: usize,
 }

@@ -1,5 +1,5 @@
 -- What follows of a list and of a frame that no refusal turns away.
-use Prim.Native.Nat.{ℕ, ◌-◌, ◌*◌, ◌≤◌, ◌<◌}
+use Prim.Native.Nat.{ℕ, ◌*◌, ◌≤◌, ◌<◌}
 use mathlib.Core.Path.{◌≡◌, refl}
 use mathlib.Core.List.{List}
 use native.Mathlib.Omega.{arith}
@@ -7,14 +7,13 @@ use native.Mathlib.Nat.{mul-le-mul}
 use lib.ListN.{length}
 use lib.Pow.{pow_pos}
 use Rattle.rules.specs.Words.{Within}
-use Rattle.rules.specs.Flows.{flows, number_of, Side, input, output, inputs, links, port_of, on_side}
+use Rattle.rules.specs.Flows.{flows, Side, input, output, inputs, links, port_of, output_of, on_side}
 use Rattle.rules.specs.Frames.{levels}
-use Rattle.rules.proofs.Flows.{output_is}
 use Rattle.rules.proofs.Levels.{power_level, power_most}
 use Rattle.calls.specs.Demand2.{WellFormed}
 use Rattle.calls.proofs.Demand2.{ported_placed}
+use Rattle.checks.specs.Ports.{port_at}
 use Rattle.checks.specs.Fits.{ListFits, FrameFits}
-use Rattle.checks.specs.Places.{place_on}
 
 -- a well-formed list
 pub well_fits : {ports slots : ℕ} {list : List ℕ} → WellFormed ports slots list → ListFits ports list
@@ -41,15 +40,13 @@ module _ {ports : ℕ} {list : List ℕ} (l : ListFits ports list) where
     unfolding port_of
     link_below = let p = l.ported links f h in let k = l.linked f h in omega arith
 
-    -- its port on a side, by the number of the list
-    pub side_number : (side : Side) → Within 1 ports (number_of (place_on side) list f)
-    side_number input = l.ported inputs f h
-    side_number output = l.ported links f h
+    pub output_below : output_of (port_of list links f) < ports
+    output_below = let h = link_below in omega arith
 
-    pub side_is : (side : Side) → on_side side (port_of list) f ≡ number_of (place_on side) list f - 1
-    unfolding port_of
-    side_is input = refl
-    side_is output = output_is list f (l.linked f h)
+-- its port on a side
+pub port_is : (list : List ℕ) (f : ℕ) (side : Side) → port_at side (port_of list inputs f) (output_of (port_of list links f)) ≡ on_side side (port_of list) f
+port_is list f input = refl
+port_is list f output = refl
 
 module _ {ports slots : ℕ} {entries : List ℕ} (f : FrameFits ports slots entries) where
   pub slots_within : Within 1 1024 slots

@@ -1,8 +1,8 @@
 -- Laws of the checks.
 pub mod Fits
-pub mod InOrder
 pub mod Lengths
 pub mod Listed
-pub mod Ports
+pub mod Framed
 pub mod Searching
+pub mod Links
 pub mod Whom

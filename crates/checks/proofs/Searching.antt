@@ -1,72 +1,37 @@
--- The searches of Admit by a loop.
-use Prim.Native.Nat.{ℕ, ◌+◌, ◌-◌, ◌*◌, ◌^◌, ◌≤◌, ◌<◌}
-use mathlib.Core.Path.{◌≡◌, refl, sym, ap, ◌∙◌, subst}
-use mathlib.Core.Bool.{Bool}
+-- The level of slots, by their binary digits.
+use Prim.Native.Nat.{ℕ, suc, ◌*◌, ◌%◌, ◌^◌, ◌≤◌, ◌<◌}
+use mathlib.Core.Path.{◌≡◌, refl, ap, ◌∙◌}
 use native.Mathlib.Omega.{arith}
-use native.Mathlib.Nat.{pow-le-pow_right, two-pow-succ}
-use native.Mathlib.Numerals.{add-one}
-use lib.Dec.{eqb, ltb}
-use borrow.Author.Tests.{eq-eqb, ne_eqb, lt-ltb, le-ltb}
-use Rattle.rules.specs.Words.{first}
+use native.Mathlib.Nat.{pow-le-pow_right}
+use lib.Dec.{eqb}
+use borrow.Author.Tests.{eq-eqb, ne_eqb}
+use Rattle.std.specs.Prelude.{Some, None}
+use Rattle.rules.specs.Words.{if}
 use Rattle.rules.specs.Frames.{levels}
-use Rattle.rules.proofs.Searches.{Passed, passed_start, passed_on, passed_found, passed_done}
+use Rattle.rules.proofs.Cases.{by_eq, by_lt}
+use Rattle.rules.proofs.Levels.{levels_of, levels_power, levels_most, pow_less, double}
 
--- ---- the level of slots: power is 2 ^ k, and no lower power is slots
-pub record Climbing (slots k power : ℕ) : Type 0 where
-  pub is : power ≡ 2 ^ k
-  pub passed : Passed (λ j. eqb slots (2 ^ j)) 0 11 k
+-- a shift of 1 that stays within a word
+pub shifted : (k : ℕ) → k ≤ 10 → (1 * 2 ^ k) % 18446744073709551616 ≡ 2 ^ k
+shifted k h =
+    let p : 2 ^ k ≤ 2 ^ 10 = pow-le-pow_right (omega arith) {j = 10} h in
+    omega arith
 
-pub climbing_start : {slots : ℕ} → Climbing slots 0 1
-climbing_start {slots} = record { is = refl; passed = passed_start (λ j. eqb slots (2 ^ j)) 0 11 }
+pub level_some : (slots k : ℕ) → slots ≡ 2 ^ k → k ≤ 10 → Some k ≡ if (eqb (levels slots) 11) None (Some (levels slots))
+level_some slots k e h =
+    let l : levels slots ≡ k = rw e (levels_of k h) in
+    rw (l, ne_eqb k 11 (omega arith))
 
-module _ {slots k power : ℕ} (c : Climbing slots k power) where
-  pub climbing_low : k < 11 → power ≤ 1024
-  climbing_low l = let h : k ≤ 10 = omega arith in rw c.is (pow-le-pow_right (omega arith) {j = 10} h)
+module _ (slots k : ℕ) (low : 2 ^ k ≤ slots) (high : slots < 2 * 2 ^ k) where
+  -- no other number is the level
+  other_level : (j : ℕ) → slots ≡ 2 ^ j → j ≡ k
+  other_level j e =
+      by_lt j k (λ h. absurd (let p = pow_less j k h in omega arith))
+      (λ h. by_lt k j (λ l. absurd (let p : 2 ^ suc k ≤ 2 ^ j = pow-le-pow_right (omega arith) l in omega (arith, double k))) (λ l. omega arith))
 
-  pub climbing_on : k < 11 → (slots ≡ power → ⊥) → Climbing slots (k + 1) (power * 2)
-  climbing_on l n =
-      record {
-        is = rw (add-one k) (omega (arith, c.is, two-pow-succ k));
-        passed = passed_on c.passed (omega arith) (ne_eqb slots (2 ^ k) (λ e. n (e ∙ sym c.is)));
-      }
-
-  pub climbing_found : k < 11 → slots ≡ power → k ≡ levels slots
-  climbing_found l e = passed_found c.passed (omega arith) (eq-eqb slots (2 ^ k) (e ∙ c.is))
-
-  pub climbing_none : 11 ≤ k → k ≡ levels slots
-  climbing_none l = passed_done c.passed l
-
--- 2, by the level
-pub level_told : (slots : ℕ) {k : ℕ} → k ≡ levels slots → eqb k 11 ≡ eqb (levels slots) 11
-level_told slots e = ap (λ z. eqb z 11) e
-
--- ---- the lowest place above its bound: of so many places, none of those tried is
-pub record Passing (size : ℕ) (bound loads : ℕ → ℕ) (untried : ℕ) : Type 0 where
-  pub most : untried ≤ size
-  pub passed : Passed (λ x. ltb (bound x) (loads x)) 0 size (size - untried)
-
-pub passing_start : {size : ℕ} {bound loads : ℕ → ℕ} → Passing size bound loads size
-passing_start {size} {bound} {loads} =
-    let e : 0 ≡ size - size = omega arith in
-    let above : ℕ → Bool = λ x. ltb (bound x) (loads x) in
-    record { most = omega arith; passed = subst (Passed above 0 size) e (passed_start above 0 size) }
-
-module _ {size untried : ℕ} {bound loads : ℕ → ℕ} (p : Passing size bound loads untried) where
-  pub passing_on : loads (size - untried) ≤ bound (size - untried) → 0 < untried → Passing size bound loads (untried - 1)
-  passing_on l h =
-      let m = p.most in
-      let next : size - untried + 1 ≡ size - (untried - 1) = omega arith in
-      record {
-        most = omega arith;
-        passed = subst (Passed (λ x. ltb (bound x) (loads x)) 0 size) next
-            (passed_on p.passed (omega arith) (le-ltb (bound (size - untried)) (loads (size - untried)) l));
-      }
-
-  pub passing_found : bound (size - untried) < loads (size - untried) → 0 < untried
-      → size - untried ≡ first (λ x. ltb (bound x) (loads x)) 0 size
-  passing_found l h =
-      let m = p.most in
-      passed_found p.passed (omega arith) (lt-ltb (bound (size - untried)) (loads (size - untried)) l)
-
-  pub passing_none : untried ≤ 0 → size ≡ first (λ x. ltb (bound x) (loads x)) 0 size
-  passing_none l = let e : size - untried ≡ size = omega arith in sym e ∙ passed_done p.passed (omega arith)
+  pub level_none : (slots ≡ 2 ^ k → k ≤ 10 → ⊥) → None ≡ if (eqb (levels slots) 11) None (Some (levels slots))
+  level_none n =
+      by_eq (levels slots) 11
+      (λ e. rw (eq-eqb (levels slots) 11 e) refl)
+      (λ d. let p = levels_power slots d in let l = other_level (levels slots) p in
+      absurd (n (p ∙ ap (λ z. 2 ^ z) l) (omega (arith, levels_most slots))))

@@ -1,4 +1,3 @@
--- What the checks of a list promise, and what holds where they let it pass.
+-- What holds where the checks let a list and a frame pass, and the ports of a flow.
 pub mod Fits
-pub mod Places
-pub mod Lists
+pub mod Ports

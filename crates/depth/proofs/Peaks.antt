@@ -9,7 +9,7 @@ use Rattle.rules.specs.Frames.{levels}
 use Rattle.strays.specs.Stray.{earliest, stray}
 use Rattle.depth.specs.Steps.{peak, LoadWithin, BothPeaks}
 use Rattle.rules.proofs.Cases.{by_eq, by_lt}
-use Rattle.rules.proofs.Levels.{double, pow_only, power_level, power_most}
+use Rattle.rules.proofs.Levels.{double, pow_only, known_power, power_level, power_most}
 use Rattle.strays.proofs.Earliest.{earliest_near, earliest_far, earliest_most, earliest_slot, by_half}
 use Rattle.strays.proofs.Strays.{furthest_has, furthest_most, furthest_is}
 
@@ -71,6 +71,10 @@ module _ (slots m : ℕ) where
 pub peak_whole : (k m : ℕ) → peak (2 ^ k) m k m ≡ stray k m
 unfolding peak stray
 peak_whole k m = refl
+
+-- a load that fits a power of two slots
+pub room_of : {slots m : ℕ} → levels slots < 11 → m ≤ slots → LoadWithin slots m
+room_of {slots} p f = record { power = known_power slots (omega (arith, p)); fits = f }
 
 -- ---- the blocks of one size
 module _ {slots m size low high : ℕ} (room : LoadWithin slots m) (both : BothPeaks slots m size low high) where

@@ -1,10 +1,6 @@
--- What the steps of Depth are lent: the peaks of the blocks of a load, from one slot up to the whole frame, and the loads of the ports.
-use Rattle.std.specs.Prelude.{ℕ, suc, ◌+◌, ◌*◌, ◌-◌, ◌/◌, ◌^◌, ◌≤◌, ◌≡◌, List}
-use Rattle.rules.specs.Flows.{port_on, input, output, load}
+-- What the steps of Depth are lent: the peaks of the blocks of a load, from one slot up to the whole frame.
+use Rattle.std.specs.Prelude.{ℕ, suc, ◌+◌, ◌*◌, ◌-◌, ◌/◌, ◌^◌, ◌≤◌, ◌≡◌}
 use Rattle.rules.specs.Frames.{Power}
-use Rattle.calls.specs.declared.Who.{Who}
-use Rattle.checks.specs.Fits.{WhoFits}
-use Rattle.admission.specs.Overloads.{Given}
 use Rattle.strays.specs.Stray.{earliest, largest}
 
 -- The furthest that the first slots of a block of 2 ^ j slots with x cells get above their share, where the frame has m cells in so many slots.
@@ -23,10 +19,3 @@ pub record BothPeaks (slots m size low high : ℕ) : Type 0 where
   pub inside : size ≤ slots
   pub low_is : low ≡ peak slots m j (m * size / slots)
   pub high_is : high ≡ peak slots m j (m * size / slots + 1)
-
--- Two rows of sixteen numbers have the loads of the ports, and whom is asked about is a flow of the list or one of the ports.
-pub record PortLoads (list : List ℕ) (who : Who) (ins outs : List ℕ) : Type 0 where
-  pub ports : ℕ
-  pub asked : WhoFits ports list who
-  pub of_inputs : Given 16 ports (λ i. load (port_on input i) list) ins
-  pub of_outputs : Given 16 ports (λ o. load (port_on output o) list) outs

@@ -1,6 +1,5 @@
--- Laws of the searches, of words, and of clearing.
+-- Laws of the searches and of words.
 pub mod Found
 pub mod Words
 pub mod Read
 pub mod Told
-pub mod Cleared

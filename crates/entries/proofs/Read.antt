@@ -1,8 +1,8 @@
 -- Words read from a list and by the entries of a frame, step by step.
-use Prim.Native.Nat.{ℕ, suc, ◌+◌, ◌*◌, ◌-◌, ◌/◌, ◌%◌, ◌^◌, ◌≤◌, ◌<◌, max}
-use mathlib.Core.Path.{◌≡◌, refl, sym, ap, ap₂, ◌∙◌}
+use Prim.Native.Nat.{ℕ, suc, ◌+◌, ◌*◌, ◌/◌, ◌%◌, ◌^◌, ◌≤◌, ◌<◌, max}
+use mathlib.Core.Path.{◌≡◌, refl, sym, ap, ◌∙◌}
 use mathlib.Core.List.{List}
-use mathlib.Core.Bool.{Bool, true, false, not, true≢false}
+use mathlib.Core.Bool.{Bool, false, not}
 use native.Mathlib.Omega.{arith}
 use native.Mathlib.Numerals.{add-one}
 use lib.Bits.{bit_or}
@@ -10,43 +10,21 @@ use lib.Dec.{eqb}
 use lib.ListN.{length, get_or, set, replicate, length-set, length-replicate}
 use lib.Pow.{shl_exact, shr-shr}
 use lib.Seq.{get_or-set_same, get_or-set_other}
-use mir.Syntax.{w64}
-use mir.Val.{Fits}
 use borrow.Author.Tests.{eq-eqb, eqb-true, not-false}
 use Rattle.rules.specs.Words.{sum_to}
-use Rattle.rules.specs.Flows.{flows, number_of, Side, other, on_side, port_of}
+use Rattle.rules.specs.Flows.{flows, Side, other, on_side, port_of}
 use Rattle.rules.proofs.Cases.{by_eq}
 use Rattle.rules.proofs.Lists.{zero_at}
 use Rattle.rules.proofs.Sums.{sum_none, sum_more}
 use Rattle.bits.specs.Digits.{digit}
 use Rattle.bits.proofs.Digits.{digit_most, digit_or, digits_same, if_same, if_other}
 use Rattle.checks.specs.Fits.{ListFits}
-use Rattle.checks.specs.Places.{place_on}
-use Rattle.checks.proofs.Fits.{side_number, side_is}
-use Rattle.entries.specs.Usable.{Denies, Largest, word_of, WordsTo, Words, Read, word_at, together, Apart, ColumnsRead, SlotRead, OwnDigits, ColumnsOwn, FrameApart}
-use Rattle.entries.proofs.Found.{place_low}
+use Rattle.entries.specs.Usable.{Denies, word_of, WordsTo, word_at, together, Apart, ColumnsRead, SlotRead, OwnDigits, ColumnsOwn, FrameApart}
 use Rattle.entries.proofs.Words.{one_digit, together_more, together_zero, zero_together}
-
--- ---- the largest entry
-pub largest_start : (frame : List ℕ) → Largest frame 0 0
-largest_start frame = record { each = λ q l. absurd (omega arith); least = λ k h. omega arith }
-
-pub largest_on : {frame : List ℕ} {i most r : ℕ} → Largest frame i most → r ≡ max most (get_or frame i 0) → Largest frame (i + 1) r
-largest_on {frame} {i} {most} {r} m e =
-    record {
-      each = λ q l. by_eq q i (λ d. rw d (omega arith)) (λ d. omega (arith, m.each q (omega arith)));
-      least = λ k h. omega (arith, m.least k (λ q l. h q (omega arith)), h i (omega arith));
-    }
-
-pub largest_end : {frame : List ℕ} {i most : ℕ} → Largest frame i most → i ≤ length frame → length frame ≤ i → Largest frame (length frame) most
-largest_end {frame} {i} m h l = let e : length frame ≡ i = omega arith in rw e m
 
 -- ---- one word
 shifted : (p : ℕ) → p < 32 → (1 * 2 ^ p) % 2 ^ 32 ≡ 2 ^ p
 shifted p h = shl_exact 1 p 32 (omega arith) (omega arith) ∙ omega arith
-
-pub word_made : {x o : ℕ} → x < 16 → o < 16 → bit_or ((1 * 2 ^ x) % 2 ^ 32) ((1 * 2 ^ (16 + o)) % 2 ^ 32) ≡ bit_or (2 ^ x) (2 ^ (16 + o))
-word_made {x} {o} h k = ap₂ bit_or (shifted x (omega arith)) (shifted (16 + o) (omega arith))
 
 pub astray_told : (w : ℕ) {i : ℕ} → i < 16 → Denies (OwnDigits w i) (not (eqb (bit_or (w / 2 ^ 16) ((1 * 2 ^ i) % 2 ^ 32)) ((1 * 2 ^ i) % 2 ^ 32)))
 unfolding digit
@@ -73,35 +51,17 @@ unfolding word_of
 words_start side list e =
     rw e (record { size = length-replicate {A = ℕ} 513 0; each = λ q l. let z : q ≡ 0 = omega arith in rw z (zero_at 513 0) })
 
-module _ {list : List ℕ} {f n : ℕ} (l : ListFits 16 list) (is : n ≡ flows list) (low : f < n) where
-  listed : f < flows list
-  listed = omega arith
-
-  -- the number of a flow's port of a side
-  module _ (s : Side) {p m : ℕ} (place : p ≡ place_on s) (read : m ≡ number_of p list f) where
-    pub port_least : 1 ≤ m
-    port_least = omega (arith, read, ap (λ z. number_of z list f) place, side_number l f listed s)
-
-    pub port_most : m - 1 < 16
-    port_most = omega (arith, read, ap (λ z. number_of z list f) place, side_number l f listed s)
-
-    port_is : on_side s (port_of list) f ≡ m - 1
-    port_is = side_is l f listed s ∙ ap (λ z. z - 1) (sym (read ∙ ap (λ z. number_of z list f) place))
-
-  pub words_on : (side : Side) {words : List ℕ} {p q x o r : ℕ} → WordsTo side list f words → p ≡ place_on (other side) → x ≡ number_of p list f
-      → q ≡ place_on side → o ≡ number_of q list f → r ≡ bit_or (2 ^ (x - 1)) (2 ^ (16 + (o - 1))) → WordsTo side list (f + 1) (set words (f + 1) r)
-  unfolding word_of
-  words_on side {words} {p} {q} {x} {o} {r} w across x_is own o_is e =
-      let is : word_of side list (suc f) ≡ r = rw (port_is (other side) across x_is, port_is side own o_is) (sym e) in
-      record {
-        size = length-set words (f + 1) r ∙ w.size;
-        each = λ y k. by_eq y (f + 1)
-            (λ d. rw d (get_or-set_same words (f + 1) r 0 (omega (arith, listed, w.size, l.few)) ∙ sym (rw (add-one f) is)))
-            (λ d. get_or-set_other words (f + 1) y r 0 d ∙ w.each y (omega arith));
-      }
-
-pub words_end : {side : Side} {list words : List ℕ} {f n : ℕ} → WordsTo side list f words → n ≡ flows list → f ≤ flows list → n ≤ f → Words side list words
-words_end {side} {list} {words} {f} w is h l = let e : f ≡ flows list = omega arith in rw e at w
+pub words_on : (side : Side) {list words : List ℕ} {f x o r : ℕ} → ListFits 16 list → f < flows list → WordsTo side list f words
+    → x ≡ on_side (other side) (port_of list) f → o ≡ on_side side (port_of list) f → r ≡ bit_or (2 ^ x) (2 ^ (16 + o)) → WordsTo side list (f + 1) (set words (f + 1) r)
+unfolding word_of
+words_on side {list} {words} {f} {x} {o} {r} l h w across own e =
+    let is : word_of side list (suc f) ≡ r = rw (sym across, sym own) (sym e) in
+    record {
+      size = length-set words (f + 1) r ∙ w.size;
+      each = λ y k. by_eq y (f + 1)
+          (λ d. rw d (get_or-set_same words (f + 1) r 0 (omega (arith, w.size, l.few)) ∙ sym (rw (add-one f) is)))
+          (λ d. get_or-set_other words (f + 1) y r 0 d ∙ w.each y (omega arith));
+    }
 
 -- ---- the words of a slot
 pub record SlotReading (ports : ℕ) (words frame : List ℕ) (slot : ℕ) (old : List ℕ) (i : ℕ) (new : List ℕ) (sum seen : ℕ) : Type 0 where
@@ -110,9 +70,6 @@ pub record SlotReading (ports : ℕ) (words frame : List ℕ) (slot : ℕ) (old 
   pub sums : sum ≡ sum_to i (word_at ports words frame slot)
   pub sees : seen ≡ together i (word_at ports words frame slot)
   pub room : sum ≤ i * 4294967295
-
-pub entry_word : {ports slots slot i e : ℕ} {words frame : List ℕ} → Read ports slots words frame → slot < slots → i < ports → e ≡ get_or frame (slot * ports + i) 0 → e < 513
-entry_word {ports} {slots} {slot} {i} r h k is = omega (arith, is, r.low (slot * ports + i) (place_low r.framed h k))
 
 pub slot_start : (ports : ℕ) (words frame : List ℕ) (slot : ℕ) {old : List ℕ} → length old ≡ 16 → SlotReading ports words frame slot old 0 old 0 0
 unfolding together
@@ -126,13 +83,10 @@ slot_start ports words frame slot size =
     }
 
 module _ {ports : ℕ} {words frame : List ℕ} {slot : ℕ} {old : List ℕ} {i : ℕ} {new : List ℕ} {sum seen : ℕ} (g : SlotReading ports words frame slot old i new sum seen) where
-  pub sum_fits : {w : ℕ} → ports ≤ 16 → i < ports → w < 2 ^ 32 → Fits w64 (sum + w)
-  sum_fits h l k = record { fits = omega (arith, g.room) }
-
-  pub slot_on : {e w v : ℕ} → i < ports → ports ≤ 16 → e ≡ get_or frame (slot * ports + i) 0 → w ≡ get_or words e 0 → v ≡ w → v < 2 ^ 32
-      → SlotReading ports words frame slot old (i + 1) (set new i (bit_or (get_or new i 0) w)) (sum + v) (bit_or seen w)
+  pub slot_on : {e w v s : ℕ} → i < ports → ports ≤ 16 → e ≡ get_or frame (slot * ports + i) 0 → w ≡ get_or words e 0 → v ≡ w → w < 2 ^ 32 → s ≡ bit_or seen w
+      → SlotReading ports words frame slot old (i + 1) (set new i (bit_or (get_or new i 0) w)) (sum + v) s
   unfolding word_at
-  slot_on {e} {w} {v} l h is word same k =
+  slot_on {e} {w} {v} l h is word same k more =
       let at : ℕ → ℕ = word_at ports words frame slot in
       let d : w ≡ at i = word ∙ ap (λ z. get_or words z 0) is in
       let c = g.columns in
@@ -146,36 +100,11 @@ module _ {ports : ℕ} {words frame : List ℕ} {slot : ℕ} {old : List ℕ} {i
           others = λ x b. get_or-set_other new i x (bit_or (get_or new i 0) w) 0 (omega arith) ∙ c.others x (omega arith);
         };
         sums = omega (arith, same, d, g.sums, sum_more i at, ap (λ z. sum_to z at) (add-one i));
-        sees = rw (add-one i, together_more at i, d) (ap (λ z. bit_or z (at i)) g.sees);
+        sees = more ∙ rw (add-one i, together_more at i, d) (ap (λ z. bit_or z (at i)) g.sees);
         room = omega (arith, g.room);
       }
 
-  pub slot_end : {r : ℕ} → ports ≤ i → r ≡ seen → SlotRead ports words frame slot old new (not (eqb sum r))
-  slot_end l e =
-      let z : i ≡ ports = omega (arith, g.most) in
-      record {
-        columns = rw z at g.columns;
-        told = ap not (ap₂ eqb (g.sums ∙ ap (λ n. sum_to n (word_at ports words frame slot)) z) (e ∙ g.sees ∙ ap (λ n. together n (word_at ports words frame slot)) z));
-      }
-
--- ---- columns, one after the other
-pub record OwnTo (columns : List ℕ) (ports n : ℕ) : Type 0 where
-  pub most : n ≤ ports
-  pub each : (i : ℕ) → i < n → OwnDigits (get_or columns i 0) i
-
-pub own_start : (columns : List ℕ) (ports : ℕ) → OwnTo columns ports 0
-own_start columns ports = record { most = omega arith; each = λ i l. absurd (omega arith) }
-
-module _ {columns : List ℕ} {ports i : ℕ} {r : Bool} (o : OwnTo columns ports i) (h : i < ports) (t : Denies (OwnDigits (get_or columns i 0) i) r) where
-  pub own_on : r ≡ false → OwnTo columns ports (i + 1)
-  own_on e = record { most = omega arith; each = λ x l. by_eq x i (λ d. rw d (t.known e)) (λ d. o.each x (omega arith)) }
-
-  pub own_found : r ≡ true → Denies (ColumnsOwn ports columns) true
-  own_found e = record { known = λ z. absurd (true≢false z); met = λ all. sym e ∙ t.met (all i h) }
-
-pub own_end : {columns : List ℕ} {ports i : ℕ} → OwnTo columns ports i → ports ≤ i → Denies (ColumnsOwn ports columns) false
-own_end o l = record { known = λ _ i h. o.each i (omega arith); met = λ _. refl }
-
+-- ---- columns
 -- ---- slots, one after the other
 pub record FrameReading (ports slots : ℕ) (words frame : List ℕ) (s : ℕ) (columns : List ℕ) : Type 0 where
   pub most : s ≤ slots
@@ -198,9 +127,6 @@ module _ {ports slots : ℕ} {words frame : List ℕ} {s : ℕ} {columns : List 
           apart = λ x l. by_eq x s (λ d. rw d (eqb-true _ _ (not-false _ (sym t.told ∙ e)))) (λ d. g.apart x (omega arith));
           each = λ i k. rw (add-one s, together_more (λ t. word_at ports words frame t i) s) (t.columns.each i k ∙ ap (λ z. bit_or z (word_at ports words frame s i)) (g.each i k));
         }
-
-    pub frame_found : r ≡ true → Denies (FrameApart ports slots words frame) true
-    frame_found e = record { known = λ z. absurd (true≢false z); met = λ a. sym e ∙ t.told ∙ ap not (eq-eqb _ _ (a.apart s h)) }
 
   pub frame_end : {r : Bool} → slots ≤ s → Denies (ColumnsOwn ports columns) r → Denies (FrameApart ports slots words frame) r
   frame_end l t =

@@ -1,14 +1,15 @@
 -- Words of entries: their digits, and what it means that those of a slot are apart.
 use Prim.Native.Nat.{ℕ, suc, zero, ◌+◌, ◌*◌, ◌-◌, ◌/◌, ◌%◌, ◌^◌, ◌≤◌, ◌<◌, max}
 use mathlib.Core.Path.{◌≡◌, refl, sym, ap, ◌∙◌, subst}
-use mathlib.Core.List.{List}
+use mathlib.Core.List.{List, [], ◌∷◌}
+use Rattle.std.specs.List.{fold}
 use mathlib.Core.Bool.{Bool, true, false, not, true≢false}
 use native.Mathlib.Omega.{arith}
 use lib.Bits.{bit_and, bit_or, bit_xor, or_add_and}
 use lib.Dec.{eqb}
 use lib.ListN.{length, get_or}
 use Rattle.rules.specs.Words.{if, bit, sum_to}
-use Rattle.rules.specs.Flows.{flows, Side, other, on_side, port_of, port_on}
+use Rattle.rules.specs.Flows.{flows, Side, input, output, other, on_side, port_of, port_on}
 use Rattle.rules.specs.Frames.{is_flow_of, right_on, cells_on, run_of}
 use Rattle.rules.proofs.Cases.{by_eq, by_lt, is_yes, is_no}
 use Rattle.rules.proofs.Sums.{sum_ext, sum_zero, sum_one}
@@ -21,9 +22,9 @@ use Rattle.calls.proofs.Faults.{place_of, entries_search, twice_search}
 use Rattle.usable_frames.proofs.Slots.{slot_size, slot_at, other_cells}
 use Rattle.bits.specs.Digits.{digit}
 use Rattle.bits.proofs.Digits.{digit_most, digit_none, digit_or, digit_sum, digit_shifted, digits_same, if_same, if_other}
-use Rattle.checks.specs.Fits.{ListFits, FrameFits}
-use Rattle.checks.proofs.Fits.{side_number, side_is}
-use Rattle.entries.specs.Usable.{Denies, Largest, word_of, Words, Read, word_at, together, Apart, OwnDigits, FrameApart}
+use Rattle.checks.specs.Fits.{ListFits, FrameFits, EachFlow}
+use Rattle.checks.proofs.Fits.{input_below, output_below}
+use Rattle.entries.specs.Usable.{Denies, word_of, Words, word_at, together, Apart, OwnDigits, FrameApart}
 use Rattle.entries.proofs.Found.{place_low}
 
 -- ---- words together
@@ -86,7 +87,8 @@ one_digit p j = let e : 2 ^ p ≡ 1 * 2 ^ p = omega arith in ap (λ z. digit z j
 
 module _ (side : Side) {ports : ℕ} {list : List ℕ} (l : ListFits ports list) where
   port_low : (s : Side) (f : ℕ) → f < flows list → on_side s (port_of list) f < ports
-  port_low s f h = omega (arith, side_is l f h s, side_number l f h s)
+  port_low input f h = input_below l f h
+  port_low output f h = output_below l f h
 
   flow_digits : (f j : ℕ)
       → digit (word_of side list (suc f)) j ≡ max (if (eqb j (on_side (other side) (port_of list) f)) 1 0) (if (eqb j (16 + on_side side (port_of list) f)) 1 0)
@@ -217,9 +219,23 @@ module _ (side : Side) {ports slots : ℕ} {list frame words : List ℕ} (l : Li
       (λ e. let p = clear_passes (bad_entries 14 side ports slots list frame) e in
       t.met (usable_apart ((entries_search side ports slots list frame).tells.known p.0) ((twice_search side ports slots list frame).tells.known p.1.0)))
 
--- ---- the largest entry, e, against the number of flows, n
+-- ---- the largest entry
+largest_least : (n k : ℕ) (entries : List ℕ) → n ≤ k → ((q : ℕ) → q < length entries → get_or entries q 0 ≤ k) → fold (λ most entry. max most entry) n entries ≤ k
+largest_least n k [] h each = h
+largest_least n k (e ∷ entries) h each = largest_least (max n e) k entries (omega (arith, each 0 (omega arith))) (λ q l. each (suc q) (omega arith))
+
+largest_from : (n : ℕ) (entries : List ℕ) → n ≤ fold (λ most entry. max most entry) n entries
+largest_from n [] = omega arith
+largest_from n (e ∷ entries) = omega (arith, largest_from (max n e) entries)
+
+largest_each : (n : ℕ) (entries : List ℕ) (q : ℕ) → q < length entries → get_or entries q 0 ≤ fold (λ most entry. max most entry) n entries
+largest_each n [] q h = absurd (omega arith)
+largest_each n (e ∷ entries) zero h = omega (arith, largest_from (max n e) entries)
+largest_each n (e ∷ entries) (suc q) h = largest_each (max n e) entries q (omega arith)
+
+-- e, which is the largest entry, against the number of flows, n
 module _ (side : Side) {ports slots n e most : ℕ} {list frame : List ℕ} (l : ListFits ports list) (f : FrameFits ports slots frame)
-    (flows_are : n ≡ flows list) (m : Largest frame (length frame) most) (is : e ≡ most) where
+    (flows_are : n ≡ flows list) (m : most ≡ fold (λ most entry. max most entry) 0 frame) (is : e ≡ most) where
   -- an entry above is wrong
   pub above_told : n < e → true ≡ not (none_holds (bad_entries 14 side ports slots list frame))
   above_told h =
@@ -227,16 +243,16 @@ module _ (side : Side) {ports slots n e most : ℕ} {list frame : List ℕ} (l :
       (λ clear. absurd
       (let p = clear_passes (bad_entries 14 side ports slots list frame) clear in
       let right = (entries_search side ports slots list frame).tells.known p.0 in
-      let low = m.least (flows list) (λ q k.
+      let low = largest_least 0 (flows list) frame (omega arith) (λ q k.
       let d = place_of slots ports q (omega (arith, f.size)) in
       by_entry side list (q % ports) (get_or frame q 0)
       (subst (λ (z : ℕ). right_on side list (q % ports) (get_or frame z 0) ≡ true) (sym d.2) (right (q / ports) (q % ports) d.0 d.1))
       (λ z. omega arith) (λ g b z _. omega arith)) in
       omega arith))
 
-  module _ (h : e ≤ n) {words : List ℕ} (w : Words side list words) where
-    pub all_read : Read ports slots words frame
-    all_read = record { framed = f; size = w.size; low = λ q k. omega (arith, m.each q k, l.few) }
+  module _ (h : e ≤ n) where
+    pub all_flows : EachFlow list frame
+    all_flows q k = omega (arith, largest_each 0 frame q k)
 
-    pub words_told : {r : Bool} → Denies (FrameApart ports slots words frame) r → r ≡ not (none_holds (bad_entries 14 side ports slots list frame))
-    words_told t = words_tell side l f w (λ q k. omega (arith, m.each q k)) t
+    pub words_told : {words : List ℕ} {r : Bool} → Words side list words → Denies (FrameApart ports slots words frame) r → r ≡ not (none_holds (bad_entries 14 side ports slots list frame))
+    words_told w t = words_tell side l f w all_flows t

@@ -4,17 +4,11 @@ use Rattle.std.specs.Int.Bits.{bit_or}
 use Rattle.rules.specs.Words.{sum_to}
 use Rattle.rules.specs.Flows.{flows, Side, other, on_side, port_of}
 use Rattle.bits.specs.Digits.{digit}
-use Rattle.checks.specs.Fits.{FrameFits}
 
 -- An answer is true where a fact does not hold, and only there.
 pub record Denies (Fact : Type 0) (answer : Bool) : Type 0 where
   pub known : answer ≡ false → Fact
   pub met : Fact → answer ≡ false
-
--- The largest of the first n numbers of a list, 0 of none.
-pub record Largest (numbers : List ℕ) (n most : ℕ) : Type 0 where
-  pub each : (q : ℕ) → q < n → get_or numbers q 0 ≤ most
-  pub least : (k : ℕ) → ((q : ℕ) → q < n → get_or numbers q 0 ≤ k) → most ≤ k
 
 -- The word of an entry that is 0 or a flow: a digit for the flow's port of the other side, and one for its port of the frame's own, 16 above.
 unfoldable pub word_of : Side → List ℕ → ℕ → ℕ
@@ -28,12 +22,6 @@ pub record WordsTo (side : Side) (list : List ℕ) (n : ℕ) (words : List ℕ) 
 
 abbrev pub Words : Side → List ℕ → List ℕ → Type 0
 Words side list words = WordsTo side list (flows list) words
-
--- A frame whose entries all have a word.
-pub record Read (ports slots : ℕ) (words entries : List ℕ) : Type 0 where
-  pub framed : FrameFits ports slots entries
-  pub size : length words ≡ 513
-  pub low : (q : ℕ) → q < length entries → get_or entries q 0 < 513
 
 -- The word of the entry of port i in a slot.
 unfoldable pub word_at : ℕ → List ℕ → List ℕ → ℕ → ℕ → ℕ

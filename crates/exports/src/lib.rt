@@ -12,9 +12,14 @@ ghost use Rattle.sides.specs.Turn.{turn_number, second_after};
 ghost use Rattle.numbers.specs.Numbers.{Values2, Values3, Replied};
 ghost use Rattle.numbers.specs.Sides.{side_numbered};
 
+use admission::admit;
 use answers::{bound, count};
+use build::build;
 use calls::Who;
-use numbers::side_of;
+use inspection::inspect;
+use numbers::{Numbers, side_of};
+use turning::turn;
+use view::part_of;
 
 // Admit.
 #[unsafe(no_mangle)]
@@ -30,11 +35,8 @@ pub extern "C" fn frame_builder_admit(
     ensures { Values3 (admitted ports slots list.now limits.now) result
         first.new second.new third.new }
 {
-    let answer = numbers::of_answer(admission::admit(ports, slots, list, *limits));
-    *first = answer.first;
-    *second = answer.second;
-    *third = answer.third;
-    answer.number
+    let numbers = Numbers::from(admit(ports, slots, list, *limits));
+    numbers.put_three(first, second, third)
 }
 
 // Inspect a frame of a side.
@@ -50,10 +52,8 @@ pub extern "C" fn frame_builder_inspect(
 ) -> usize
     ensures { Values2 (inspected (side_numbered side) ports slots list.now frame.now) result first.new second.new }
 {
-    let n = numbers::of_inspection(inspection::inspect(side_of(side), ports, slots, list, frame));
-    *first = n.first;
-    *second = n.second;
-    n.number
+    let numbers = Numbers::from(inspect(side_of(side), ports, slots, list, frame));
+    numbers.put_two(first, second)
 }
 
 // Build.
@@ -72,11 +72,8 @@ pub extern "C" fn frame_builder_build(
         first.new second.new third.new }
     ensures frame_after { frame.new ≡ frame_after ports slots list.now limits.now frame.old }
 {
-    let n = numbers::of_built(build::build(ports, slots, list, *limits, frame));
-    *first = n.first;
-    *second = n.second;
-    *third = n.third;
-    n.number
+    let numbers = Numbers::from(build(ports, slots, list, *limits, frame));
+    numbers.put_three(first, second, third)
 }
 
 // Turn a frame of a side; no answer of it has a value.
@@ -92,8 +89,7 @@ pub extern "C" fn frame_builder_turn(
     ensures value { result ≡ turn_number (side_numbered side) ports slots list.now frame.now second.old }
     ensures second_after { second.new ≡ second_after (side_numbered side) ports slots list.now frame.now second.old }
 {
-    let n = numbers::of_answer(turning::turn(side_of(side), ports, slots, list, frame, second));
-    n.number
+    Numbers::from(turn(side_of(side), ports, slots, list, frame, second)).number
 }
 
 // Service count for a flow.
@@ -170,10 +166,18 @@ pub extern "C" fn frame_builder_slot_view(
     ensures start_after { start.new ≡ view_start ports slots frame.now slot }
     ensures size_after { size.new ≡ view_size ports slots frame.now slot }
 {
-    let part = view::part_of(ports, slots, frame, slot);
-    *start = part.start;
-    *size = part.size;
-    part.number
+    match part_of(ports, slots, frame, slot) {
+        Ok(part) => {
+            *start = part.start;
+            *size = part.size;
+            0
+        }
+        Err(refusal) => {
+            *start = 0;
+            *size = 0;
+            Numbers::from(refusal).number
+        }
+    }
 }
 
 // Depth for a flow.

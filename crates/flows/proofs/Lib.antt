@@ -1,3 +1,2 @@
--- Laws of a list that is written, and of the links in it.
+-- Laws of a list that is written.
 pub mod Puts
-pub mod Links

@@ -3,8 +3,7 @@
 
 ghost use Rattle.std.specs.Prelude.{◌≡◌, [], ◌∷◌, ◌*◌, ◌<◌, ◌≤◌, length};
 ghost use Rattle.std.proofs.lemmas.List.Edits.{sets};
-ghost use Rattle.rules.specs.Flows.{stride, flows, number_of, links, port_of};
-ghost use Rattle.rules.specs.Words.{Within};
+ghost use Rattle.rules.specs.Flows.{stride, flows, number_of};
 
 // The numbers of a flow: its input, its output, its cells, its link.
 pub const STRIDE: usize = 4;
@@ -19,43 +18,33 @@ pub fn flows_of(list: &[u16]) -> usize
     list.len() / STRIDE
 }
 
-// The number at a place among those of flow f, from 0: its input, its output, its cells, its link.
-pub fn number_of(list: &[u16], f: usize, place: usize) -> usize
-    requires { (f < flows list.now) × (place < stride) }
-    ensures { (result ≡ number_of place list.now f) × (result ≤ 65535) }
-{
-    let at = f * STRIDE + place;
-    bits::number(list[at])
+// The numbers of a flow, as they stand in a list.
+#[derive(Clone, Copy, Debug, PartialEq, Eq)]
+pub struct Numbers {
+    pub input: u16,
+    pub output: u16,
+    pub cells: u16,
+    pub link: u16,
 }
 
-// The cells of flow f, as they stand in the list.
-pub fn cells_of(list: &[u16], f: usize) -> u16
+// The numbers of flow f, from 0.
+pub fn numbers_of(list: &[u16], f: usize) -> Numbers
     requires { f < flows list.now }
-    ensures { result ≡ number_of 2 list.now f }
+    ensures input { result.input ≡ number_of 0 list.now f }
+    ensures output { result.output ≡ number_of 1 list.now f }
+    ensures cells { result.cells ≡ number_of 2 list.now f }
+    ensures link { result.link ≡ number_of 3 list.now f }
 {
-    let at = f * STRIDE + 2;
-    list[at]
+    let at = f * STRIDE;
+    Numbers {
+        input: list[at],
+        output: list[at + 1],
+        cells: list[at + 2],
+        link: list[at + 3],
+    }
 }
 
-// The link of flow f, numbered from 0 through all outputs, four to each.
-pub fn link_of(list: &[u16], f: usize) -> usize
-    requires { (f < flows list.now) × Within 1 16 (number_of 1 list.now f) × Within 1 4 (number_of 3 list.now f) }
-    ensures { (result ≡ port_of list.now links f) × (result < 64) }
-{
-    let o = number_of(list, f, 1) - 1;
-    let l = number_of(list, f, 3) - 1;
-    o * 4 + l
-}
-
-// A number at the width of the list.
-fn narrow(x: usize) -> u16
-    requires { x ≤ 65535 }
-    ensures { result ≡ x }
-{
-    x as u16
-}
-
-// Puts a flow behind so many others, on link 1.
+// Puts a flow behind so many others, on link 1. A list with room, and no `Vec`: nothing here takes memory.
 pub fn put_flow(
     list: &mut [u16; LIST_MOST],
     flows: usize,
@@ -67,8 +56,9 @@ pub fn put_flow(
     ensures { list.new ≡ sets list.old (flows * stride) (input ∷ output ∷ cells ∷ 1 ∷ []) }
 {
     let at = flows * STRIDE;
-    list[at] = narrow(input);
-    list[at + 1] = narrow(output);
-    list[at + 2] = narrow(cells);
+    // By `as`: `try_from` would have a case that does not come.
+    list[at] = input as u16;
+    list[at + 1] = output as u16;
+    list[at + 2] = cells as u16;
     list[at + 3] = 1;
 }

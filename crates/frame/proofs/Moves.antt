@@ -1,7 +1,7 @@
 -- What one more read, or one more write, adds to what was moved before it.
 use Rattle.std.proofs.Common.{◌≡◌, ℕ, ◌+◌, ◌-◌, ◌≤◌, List, ◌++◌, length, take, drop, None, Some, arith, refl, sym, ap, ◌∙◌, append_assoc}
-use Rattle.std.proofs.lemmas.List.{take-append-le, length-append, length-take-le, take_rest}
-use Rattle.std.proofs.Math.Seq.{take-add, take-append-add}
+use Rattle.std.proofs.lemmas.List.{take-append-le, length-append, length-take-le, length-drop}
+use Rattle.std.proofs.Math.Seq.{take-add, take-append-add, drop-drop}
 use Rattle.std.specs.declared.option.Option.{Option}
 use Rattle.std.specs.Io.KnownBytes.{Appends, Consumes}
 use Rattle.frame.specs.Streams.{TakesAtMost}
@@ -31,12 +31,24 @@ front_of_part at k n xs ys within fits =
     ap (λ m. take (m + n) (take at xs ++ rest)) (sym front) ∙ take-append-add (take at xs) rest n
     ∙ ap (λ l. take at xs ++ l) (take-append-le n ys _ fits)
 
--- A front of the bytes to write, and a front of the rest behind it, are a longer front.
-pub front_more : (at n : ℕ) (xs : List ℕ) → n ≤ length (take (length xs - at) (drop at xs))
-    → take (at + n) xs ≡ take at xs ++ take n (take (length xs - at) (drop at xs))
-front_more at n xs fits =
-    let all : take (length xs - at) (drop at xs) ≡ drop at xs = take_rest xs at in
-    take-add at n xs ∙ ap (λ l. take at xs ++ take n l) (sym all)
+-- The rest of the bytes after a front of what was left, and the longer front before it.
+pub record Rest (xs rest : List ℕ) : Type 0 where
+  pub within : length rest ≤ length xs
+  pub is : rest ≡ drop (length xs - length rest) xs
+
+pub rest_more : (xs rest : List ℕ) (n : ℕ) (rest' : List ℕ) → Rest xs rest → n ≤ length rest → rest' ≡ drop n rest
+    → Rest xs rest' × (take (length xs - length rest') xs ≡ take (length xs - length rest) xs ++ take n rest)
+rest_more xs rest n rest' x fits e =
+    let a = length xs - length rest in
+    let w = x.within in
+    let l : length rest' ≡ length rest - n = ap length e ∙ length-drop n rest in
+    let k : length xs - length rest' ≡ a + n = omega arith in (
+      record {
+        within = omega arith;
+        is = e ∙ (ap (drop n) x.is ∙ (drop-drop n a xs ∙ ap (λ m. drop m xs) (sym k)));
+      },
+      ap (λ m. take m xs) k ∙ (take-add a n xs ∙ ap (λ l. take a xs ++ take n l) (sym x.is)),
+    )
 
 -- What two steps take together.
 pub takes_more : (a b c : Option (List ℕ)) (m n most : ℕ) → TakesAtMost m a b → TakesAtMost n b c → m + n ≤ most → TakesAtMost most a c

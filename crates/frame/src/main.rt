@@ -43,6 +43,7 @@ fn fill<R: Read>(input: &mut R, buffer: &mut [u8]) -> io::Result<usize>
     ensures end { IfOk result (λ n. n < length buffer.new → IsAtEnd (R.remaining input.new)) }
     ensures most { TakesAtMost (length buffer.old) (R.remaining input.old) (R.remaining input.new) }
 {
+    // By place, and not by what is left of the buffer: the place is the answer.
     let mut at: usize = 0;
     while at < buffer.len() {
         let n = read_some(input, &mut buffer[at..])?;
@@ -91,13 +92,13 @@ fn write_whole<W: Write>(output: &mut W, bytes: &[u8]) -> io::Result<()>
     ensures whole { OnOk result (Appends (W.contents output.old) (W.contents output.new) bytes.now) }
     ensures front { OnErr result (AppendsFront (W.contents output.old) (W.contents output.new) bytes.now) }
 {
-    let mut at: usize = 0;
-    while at < bytes.len() {
-        let n = output.write(&bytes[at..])?;
+    let mut rest = bytes;
+    while !rest.is_empty() {
+        let n = output.write(rest)?;
         if n == 0 {
             return Err(io::Error::from(ErrorKind::WriteZero));
         }
-        at += n;
+        rest = &rest[n..];
     }
     output.flush()
 }
@@ -121,14 +122,9 @@ fn run<R: Read, W: Write>(input: &mut R, output: &mut W) -> Result<(), Failure>
     ensures left { IfErr result (λ failure. Leaves (R.remaining input.old) (W.contents output.old) (W.contents output.new) failure) }
 {
     let mut bytes = [0u8; SHEET_MOST + 1];
-    let n = match take_sheet(input, &mut bytes) {
-        Ok(n) => n,
-        Err(error) => return Err(Failure::Input(error)),
-    };
-    match answer(output, &bytes[..n]) {
-        Ok(()) => Ok(()),
-        Err(error) => Err(Failure::Output(error)),
-    }
+    let n = take_sheet(input, &mut bytes).map_err(Failure::Input)?;
+    answer(output, &bytes[..n]).map_err(Failure::Output)?;
+    Ok(())
 }
 
 // Standard error says which stream failed, and the status is then 1.

@@ -8,14 +8,15 @@ use native.Mathlib.Omega.{arith}
 use native.Mathlib.Numerals.{add-one}
 use borrow.Author.Tests.{eq-eqb, ne_eqb}
 use lib.ListN.{length, get_or, set, take, replicate, length-set}
-use lib.Seq.{take-suc}
+use lib.Seq.{take-suc, take-length}
 use Rattle.rules.specs.Schedule.{favouring, level}
 use Rattle.rules.proofs.Cases.{by_eq, within_yes, within_below, within_above}
 use Rattle.rules.proofs.Favouring.{favouring_more, favouring_same}
 use Rattle.rules.proofs.Shares.{Alike, alike_set, same_shares}
 use Rattle.planes.specs.Tables.{Wide}
-use Rattle.groups.specs.Steps.{Reaches, ReachesBoth, ReachesAll, stepped, walked, WalkedBy, Walks, other_half, both_ways, group_settled, larger_half, Next, Settles, all_settled, SettledBy}
-use Rattle.planes.proofs.Lists.{at_end, every_get}
+use Rattle.planes.specs.Favours.{other_half}
+use Rattle.groups.specs.Steps.{Reaches, ReachesBoth, ReachesAll, stepped, walked, WalkedBy, Walks, both_ways, group_settled, larger_half, Next, Settles, all_settled, SettledBy}
+use Rattle.planes.proofs.Lists.{every_get}
 use Rattle.groups.proofs.Stepped.{stepped_alike, ways, ways_length, ways_again}
 
 -- ---- whose turn it is
@@ -176,24 +177,23 @@ next_start e =
       ahead = rw e;
     }
 
-pub settled_start : {i o : ℕ → ℕ} {odds c : List ℕ} → c ≡ replicate 528 0 → SettledBy i o odds 0 c c
-settled_start e = record { len = rw e; same = refl }
+pub settled_start : {i o : ℕ → ℕ} (odds : List ℕ) {c : List ℕ} → c ≡ replicate 528 0 → SettledBy i o (take 0 odds) c c
+settled_start odds e = record { len = rw e; same = refl }
 
 -- ---- one group more
 all_snoc : (i o : ℕ → ℕ) (l : List ℕ) (p : ℕ) (c : List ℕ) → all_settled i o (l ++ (p ∷ [])) c ≡ group_settled i o p (all_settled i o l c)
 all_snoc i o [] p c = refl
 all_snoc i o (x ∷ l) p c = all_snoc i o l p (group_settled i o x c)
 
-module _ {mates odds : List ℕ} {j k p : ℕ} (r : ReachesAll mates odds k) (a : j < k) (e : p ≡ get_or odds j 0) where
-  j_in : j < length odds
-  j_in = omega (arith, r.len, r.most)
+module _ (odds : List ℕ) {j p : ℕ} (a : j < length odds) (e : p ≡ get_or odds j 0) where
+  pub reaches_next : {mates : List ℕ} → ReachesAll mates odds → ReachesBoth mates p
+  reaches_next {mates} r = rw e (every_get (ReachesBoth mates) j (length odds) odds (rw (take-length odds) r) a a)
 
-  pub reaches_next : ReachesBoth mates p
-  reaches_next = rw e (every_get (ReachesBoth mates) j k odds r.each a j_in)
-
-  pub settled_on : {i o : ℕ → ℕ} {c₀ c d : List ℕ} {v : ℕ} → SettledBy i o odds j c₀ c → Settles i o p c v d → SettledBy i o odds (j + 1) c₀ d
+  pub settled_on : {i o : ℕ → ℕ} {c₀ c d : List ℕ} {v : ℕ} → SettledBy i o (take j odds) c₀ c → Settles i o p c v d → SettledBy i o (take (j + 1) odds) c₀ d
   settled_on {i} {o} {c₀} {c} {d} s f =
-      record { len = f.len; same = f.same ∙ rw (add-one, take-suc odds j 0 j_in, all_snoc i o (take j odds) (get_or odds j 0) c₀, ← s.same, e) }
+      record { len = f.len; same = f.same ∙ rw (add-one, take-suc odds j 0 a, all_snoc i o (take j odds) (get_or odds j 0) c₀, ← s.same, e) }
 
-pub settled_end : {i o : ℕ → ℕ} {odds c₀ : List ℕ} {j k : ℕ} {c : List ℕ} → SettledBy i o odds j c₀ c → j ≤ k → k ≤ j → SettledBy i o odds k c₀ c
-settled_end {i} {o} {odds} {c₀} {c = c} = at_end (λ j. SettledBy i o odds j c₀ c)
+pub settled_end : {i o : ℕ → ℕ} {odds c₀ : List ℕ} {j : ℕ} {c : List ℕ} → SettledBy i o (take j odds) c₀ c → j ≡ length odds → SettledBy i o odds c₀ c
+settled_end {i} {o} {odds} {c₀} {j} {c} s e =
+    let all : take j odds ≡ odds = ap (λ (n : ℕ). take n odds) e ∙ take-length odds in
+    record { len = s.len; same = s.same ∙ ap (λ (l : List ℕ). all_settled i o l c₀) all }

@@ -3,14 +3,23 @@ use Prim.Native.Nat.{ℕ, suc, zero, ◌+◌, ◌-◌, ◌/◌, ◌%◌, ◌≤�
 use mathlib.Core.Path.{◌≡◌, refl, sym, ap, ◌∙◌}
 use mathlib.Core.Logic.{◌≢◌}
 use mathlib.Core.List.{List}
+use mathlib.Core.Bool.{Bool, true, false, not}
+use native.Mathlib.Numerals.{add-one}
+use lib.Dec.{eqb}
+use borrow.Author.Tests.{eq-eqb, ne_eqb}
+use Rattle.rules.specs.Words.{if}
+use Rattle.rules.proofs.Cases.{by_bool, by_eq}
+use Rattle.planes.specs.declared.favours.Favour as told
+use Rattle.planes.specs.declared.favours.Favour.TheVariants.{First, Second}
+use Rattle.planes.specs.Favours.{favour_number, favour_numbers, other_half}
+use Rattle.planes.proofs.Halves.{numbers_set, wide_set, settled_yes, settled_no}
 use native.Mathlib.Omega.{arith}
 use lib.ListN.{length, get_or, set, length-set}
 use Rattle.rules.specs.Schedule.{walk, favouring}
 use Rattle.rules.proofs.Favouring.{settled_less, unsettled_most, favouring_more, favouring_same}
 use Rattle.rules.proofs.Shares.{Alike}
 use Rattle.rules.proofs.Walks.{walk_on, walk_off}
-use Rattle.planes.proofs.Lists.{at_end}
-use Rattle.planes.specs.Tables.{Wide}
+use Rattle.planes.specs.Tables.{Wide, lookup}
 use Rattle.groups.specs.Steps.{reached, Reaches, stepped, walked, WalkedBy, Walks}
 use Rattle.groups.proofs.Stepped.{reached_near, reached_far, stepped_near, stepped_far, stepped_alike}
 
@@ -92,6 +101,8 @@ module _ (near far : ℕ → ℕ) (start half : ℕ) (c₀ : List ℕ) (p : ℕ)
 
 -- ---- the walk from a count that favours the first half, and that from a start which favours either, where the same counts were settled
 pub record Walking (near far : ℕ → ℕ) (start : ℕ) (c₀ : List ℕ) (p steps : ℕ) (c : List ℕ) : Type 0 where
+  pub within : Reaches near far start
+  pub begun : Wide c₀
   pub low : p < 528
   pub place : p ≡ reached near far start steps
   pub even : steps % 2 ≡ 0
@@ -103,6 +114,8 @@ pub record Walking (near far : ℕ → ℕ) (start : ℕ) (c₀ : List ℕ) (p s
 pub walking_start : (near far : ℕ → ℕ) {start : ℕ} {c : List ℕ} → Reaches near far start → Wide c → Walking near far start c start 0 c
 walking_start near far {start} {c} within len =
     record {
+      within = within;
+      begun = len;
       low = within.low 0;
       place = refl;
       even = refl;
@@ -112,8 +125,13 @@ walking_start near far {start} {c} within len =
       along = λ h low high d a. along_start near far start h d;
     }
 
-module _ {near far : ℕ → ℕ} {start : ℕ} {c₀ : List ℕ} {p steps : ℕ} {c : List ℕ} (w : Walking near far start c₀ p steps c)
-    (within : Reaches near far start) (len₀ : Wide c₀) {q : ℕ} (e : q ≡ near p) where
+module _ {near far : ℕ → ℕ} {start : ℕ} {c₀ : List ℕ} {p steps : ℕ} {c : List ℕ} (w : Walking near far start c₀ p steps c) {q : ℕ} (e : q ≡ near p) where
+  within : Reaches near far start
+  within = w.within
+
+  len₀ : Wide c₀
+  len₀ = w.begun
+
   next_near : reached near far start (steps + 1) ≡ q
   next_near = reached_near near far start steps w.even ∙ ap near (sym w.place) ∙ sym e
 
@@ -199,6 +217,8 @@ module _ {near far : ℕ → ℕ} {start : ℕ} {c₀ : List ℕ} {p steps : ℕ
         pub walking_on : Walking near far start c₀ r (steps + 1 + 1) (set (set c q 2) r 1)
         walking_on =
             record {
+              within = within;
+              begun = len₀;
               low = walking_at_2;
               place = sym next_far;
               even = omega (arith, w.even);
@@ -213,44 +233,84 @@ module _ {near far : ℕ → ℕ} {start : ℕ} {c₀ : List ℕ} {p steps : ℕ
         pub walking_less : favouring 0 (set (set c q 2) r 1) < favouring 0 c
         walking_less = omega (arith, less, less_2)
 
+-- the same by the halves, as they stand in the list
+module _ {near far : ℕ → ℕ} {start : ℕ} {c₀ : List ℕ} {p steps : ℕ} (fav : List told.Favour) (w : Walking near far start c₀ p steps (favour_numbers fav)) {q : ℕ} (e : q ≡ near p)
+    (d : told.Favour) {b : Bool} (s : b ≡ not (eqb (favour_number (get_or fav q d)) 0)) where
+  pub walking_stop_told : b ≡ true → Walks near far start c₀ steps (favour_numbers fav)
+  walking_stop_told t = walking_stop w e (settled_yes fav w.len q (walking_at w e) d s t)
+
+  module _ (t : b ≡ false) {r : ℕ} (f : r ≡ far q) where
+    off : get_or (favour_numbers fav) q 0 ≡ 0
+    off = settled_no fav w.len q (walking_at w e) d s t
+
+    first_put : favour_numbers (set fav q Second) ≡ set (favour_numbers fav) q 2
+    first_put = numbers_set fav q Second
+
+    wide : Wide (favour_numbers (set fav q Second))
+    wide = wide_set fav q Second w.len
+
+    pub walking_at_2_told : r < 528
+    walking_at_2_told = walking_at_2 w e off f
+
+    module _ (g : told.Favour) {v : Bool} (y : v ≡ not (eqb (favour_number (get_or (set fav q Second) r g)) 0)) where
+      pub walking_stop_2_told : v ≡ true → Walks near far start c₀ (steps + 1) (favour_numbers (set fav q Second))
+      walking_stop_2_told x = rw first_put (walking_stop_2 w e off f (rw first_put at (settled_yes (set fav q Second) wide r walking_at_2_told g y x)))
+
+      module _ (x : v ≡ false) where
+        both_put : favour_numbers (set (set fav q Second) r First) ≡ set (set (favour_numbers fav) q 2) r 1
+        both_put = numbers_set (set fav q Second) r First ∙ ap (λ (l : List ℕ). set l r 1) first_put
+
+        open_place : get_or (set (favour_numbers fav) q 2) r 0 ≡ 0
+        open_place = rw first_put at (settled_no (set fav q Second) wide r walking_at_2_told g y x)
+
+        pub walking_on_told : Walking near far start c₀ r (steps + 1 + 1) (favour_numbers (set (set fav q Second) r First))
+        walking_on_told = rw both_put (walking_on w e off f open_place)
+
+        pub walking_less_told : favouring 0 (favour_numbers (set (set fav q Second) r First)) < favouring 0 (favour_numbers fav)
+        walking_less_told = rw both_put (walking_less w e off f open_place)
+
 -- ---- the steps gone again
-pub record Flipping (near far : ℕ → ℕ) (start i : ℕ) (c d : List ℕ) (p : ℕ) : Type 0 where
-  pub low : p < 528
-  pub place : p ≡ reached near far start i
-  pub even : i % 2 ≡ 0
-  pub same : d ≡ stepped near far start 2 i c
+-- the ends take turns, and so do the halves
+pub record Flipping (here there : ℕ → ℕ) (start i : ℕ) (c d : List ℕ) (p half : ℕ) (near far : ℕ → ℕ) : Type 0 where
+  pub place : p ≡ reached here there start i
+  pub same : d ≡ stepped here there start 2 i c
+  pub half_is : half ≡ if (eqb (i % 2) 0) 1 2
+  pub near_is : (x : ℕ) → near x ≡ if (eqb (i % 2) 0) here there x
+  pub far_is : (x : ℕ) → far x ≡ if (eqb (i % 2) 0) there here x
 
-pub flipping_start : (near far : ℕ → ℕ) {start : ℕ} {c : List ℕ} → Reaches near far start → Flipping near far start 0 c c start
-flipping_start near far within = record { low = within.low 0; place = refl; even = refl; same = refl }
+pub flipping_start : (here there : ℕ → ℕ) {start : ℕ} {c : List ℕ} → Flipping here there start 0 c c start 1 here there
+flipping_start here there = record { place = refl; same = refl; half_is = refl; near_is = λ x. refl; far_is = λ x. refl }
 
-module _ {near far : ℕ → ℕ} {start i : ℕ} {c d : List ℕ} {p : ℕ} (t : Flipping near far start i c d p) (within : Reaches near far start) {q : ℕ} (e : q ≡ near p) where
-  flip_near : reached near far start (i + 1) ≡ q
-  flip_near = reached_near near far start i t.even ∙ ap near (sym t.place) ∙ sym e
+next_turn : (i : ℕ) → eqb ((i + 1) % 2) 0 ≡ not (eqb (i % 2) 0)
+next_turn i =
+    by_eq (i % 2) 0
+    (λ e. ne_eqb ((i + 1) % 2) 0 (omega arith) ∙ sym (ap not (eq-eqb (i % 2) 0 e)))
+    (λ n. eq-eqb ((i + 1) % 2) 0 (omega arith) ∙ sym (ap not (ne_eqb (i % 2) 0 n)))
 
-  pub flipping_at : q < 528
-  flipping_at = rw (sym flip_near) (within.low (i + 1))
+module _ {here there : ℕ → ℕ} {start i : ℕ} {c d : List ℕ} {p half : ℕ} {near far : ℕ → ℕ} (t : Flipping here there start i c d p half near far) {q : ℕ} (e : q ≡ near p) where
+  flip_place : q ≡ reached here there start (i + 1)
+  flip_place = rw add-one (e ∙ t.near_is p ∙ ap (if (eqb (i % 2) 0) here there) t.place)
 
-  flipping_once : set d q 1 ≡ stepped near far start 2 (i + 1) c
-  flipping_once = rw (stepped_near near far start i 2 c t.even, sym t.same, sym t.place, e)
+  pub flipping_at : Reaches here there start → q < 528
+  flipping_at within = rw flip_place (within.low (i + 1))
 
-  pub flipping_stop : {steps : ℕ} → i + 1 ≡ steps → set d q 1 ≡ stepped near far start 2 steps c
-  flipping_stop f = rw (sym f) flipping_once
+  pub flipping_on : {next : ℕ} → next ≡ other_half half → Flipping here there start (i + 1) c (set d q half) q next far near
+  flipping_on {next} f =
+      record {
+        place = flip_place;
+        same = rw (t.same, t.half_is, flip_place, add-one) refl;
+        half_is = rw (next_turn i) (f ∙ ap other_half t.half_is ∙ by_bool (eqb (i % 2) 0) (λ b. rw b refl) (λ b. rw b refl));
+        near_is = λ x. rw (next_turn i) (t.far_is x ∙ by_bool (eqb (i % 2) 0) (λ b. rw b refl) (λ b. rw b refl));
+        far_is = λ x. rw (next_turn i) (t.near_is x ∙ by_bool (eqb (i % 2) 0) (λ b. rw b refl) (λ b. rw b refl));
+      }
 
-  module _ {r : ℕ} (f : r ≡ far q) where
-    flip_far : reached near far start (i + 1 + 1) ≡ r
-    flip_far = reached_far near far start (i + 1) (omega (arith, t.even)) ∙ ap far flip_near ∙ sym f
+-- ---- the ends by their places
+module _ (mates : List ℕ) {near far a b : ℕ} (e : near ≡ a) (f : far ≡ b) where
+  pub reaches_told : {p : ℕ} → Reaches (lookup mates a) (lookup mates b) p → Reaches (lookup mates near) (lookup mates far) p
+  reaches_told r = rw (e, f) r
 
-    pub flipping_at_2 : r < 528
-    flipping_at_2 = rw (sym flip_far) (within.low (i + 1 + 1))
+  pub walks_told : {p steps : ℕ} {c d : List ℕ} → Walks (lookup mates near) (lookup mates far) p c steps d → Walks (lookup mates a) (lookup mates b) p c steps d
+  walks_told w = rw (← e, ← f) w
 
-    pub flipping_on : Flipping near far start (i + 1 + 1) c (set (set d q 1) r 2) r
-    flipping_on =
-        record {
-          low = flipping_at_2;
-          place = sym flip_far;
-          even = omega (arith, t.even);
-          same = rw (stepped_far near far start (i + 1) 2 c (omega (arith, t.even)), flip_near, sym flipping_once, f);
-        }
-
-pub flipping_end : {near far : ℕ → ℕ} {start i steps : ℕ} {c d : List ℕ} {p : ℕ} → Flipping near far start i c d p → i ≤ steps → steps ≤ i → d ≡ stepped near far start 2 steps c
-flipping_end {near} {far} {start} {c = c} {d} t a b = at_end (λ n. d ≡ stepped near far start 2 n c) t.same a b
+  pub stepped_told : (p h steps : ℕ) (c : List ℕ) {d : List ℕ} → d ≡ stepped (lookup mates near) (lookup mates far) p h steps c → d ≡ stepped (lookup mates a) (lookup mates b) p h steps c
+  stepped_told p h steps c w = rw (← e, ← f) w

@@ -1,5 +1,5 @@
 -- The steps by which a group is settled, as functions of the lists that they are lent.
-use Rattle.std.specs.Prelude.{ℕ, suc, zero, ◌+◌, ◌-◌, ◌/◌, ◌%◌, ◌≤◌, ◌<◌, ◌≡◌, List, [], ◌∷◌, eqb, length, get_or, set, take}
+use Rattle.std.specs.Prelude.{ℕ, suc, zero, ◌+◌, ◌-◌, ◌/◌, ◌%◌, ◌≤◌, ◌<◌, ◌≡◌, List, [], ◌∷◌, eqb, length, get_or, set}
 use Rattle.rules.specs.Words.{if, Every}
 use Rattle.rules.specs.Flows.{inputs, links}
 use Rattle.rules.specs.Schedule.{walk, favouring, level}
@@ -14,15 +14,13 @@ reached near far p (suc n) = if (eqb (n % 2) 0) near far (reached near far p n)
 pub record Reaches (near far : ℕ → ℕ) (p : ℕ) : Type 0 where
   pub low : (n : ℕ) → reached near far p n < 528
 
--- From p both ways lead to positions, by the mates at inputs and at outputs; and from each of the first k of a list they do.
+-- From p both ways lead to positions, by the mates at inputs and at outputs; and from each of a list they do.
 pub record ReachesBoth (mates : List ℕ) (p : ℕ) : Type 0 where
   pub by_inputs : Reaches (tabled mates inputs) (tabled mates links) p
   pub by_links : Reaches (tabled mates links) (tabled mates inputs) p
 
-pub record ReachesAll (mates odds : List ℕ) (k : ℕ) : Type 0 where
-  pub len : Wide odds
-  pub most : k ≤ 528
-  pub each : Every (ReachesBoth mates) (take k odds)
+abbrev pub ReachesAll : List ℕ → List ℕ → Type 0
+ReachesAll mates odds = Every (ReachesBoth mates) odds
 
 -- So many steps from p, which favours half h, each settle the count that they lead to, with the other half and h in turn.
 abbrev pub stepped : (ℕ → ℕ) → (ℕ → ℕ) → ℕ → ℕ → ℕ → List ℕ → List ℕ
@@ -46,10 +44,6 @@ pub record Walks (near far : ℕ → ℕ) (start : ℕ) (c : List ℕ) (steps : 
   pub few : steps ≤ 528
   pub same : d ≡ stepped near far start 1 steps c
   pub whole : (h : ℕ) → 1 ≤ h → h ≤ 2 → (e : List ℕ) → Alike c e → WalkedBy near far start h e steps (stepped near far start h steps e)
-
--- The half that is not h.
-abbrev pub other_half : ℕ → ℕ
-other_half h = if (eqb h 1) 2 1
 
 -- The group of p settled by walks both ways, p favouring half h.
 abbrev pub both_ways : (ℕ → ℕ) → (ℕ → ℕ) → ℕ → ℕ → List ℕ → List ℕ
@@ -81,7 +75,7 @@ abbrev pub all_settled : (ℕ → ℕ) → (ℕ → ℕ) → List ℕ → List �
 all_settled i o [] c = c
 all_settled i o (p ∷ l) c = all_settled i o l (group_settled i o p c)
 
--- What was favoured is c, and with the groups of the first k of a list settled it is d.
-pub record SettledBy (i o : ℕ → ℕ) (odds : List ℕ) (k : ℕ) (c d : List ℕ) : Type 0 where
+-- What was favoured is c, and with the groups of those of a list settled it is d.
+pub record SettledBy (i o : ℕ → ℕ) (odds c d : List ℕ) : Type 0 where
   pub len : Wide d
-  pub same : d ≡ all_settled i o (take k odds) c
+  pub same : d ≡ all_settled i o odds c

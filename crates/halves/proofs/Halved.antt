@@ -157,6 +157,5 @@ halved_block {m} {n} {planes} {mask} {half = half} w b k some =
       past = λ p a h. rw up (omega (arith, b.past p a h, w.each p h, k.only p h, count_odd m planes p));
     }
 
-pub halving_end : {m n : ℕ} {planes mask old half : List ℕ} {w words : ℕ} → Halving m n planes mask old w half → words ≡ words_of n → w ≤ words → words ≤ w
-    → HalfPlanes m n planes mask old half
-halving_end g v a b = record { each = λ p h. g.done p (omega arith) h; past = λ j h. g.past j (omega arith); above = λ j h. g.above j (omega arith) }
+pub halving_end : {m n : ℕ} {planes mask old half : List ℕ} {w words : ℕ} → Halving m n planes mask old w half → words ≡ words_of n → w ≡ words → HalfPlanes m n planes mask old half
+halving_end g v a = record { each = λ p h. g.done p (omega arith) h; past = λ j h. g.past j (omega arith); above = λ j h. g.above j (omega arith) }

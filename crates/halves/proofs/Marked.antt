@@ -1,75 +1,76 @@
 -- One more digit picked, one more word marked, and one more made that of the others.
 use Prim.Native.Nat.{ℕ, ◌+◌, ◌-◌, ◌*◌, ◌/◌, ◌%◌, ◌^◌, ◌≤◌, ◌<◌}
-use mathlib.Core.Path.{◌≡◌, refl, ap, ◌∙◌}
+use mathlib.Core.Path.{◌≡◌, refl, sym, ap, ◌∙◌}
 use mathlib.Core.Logic.{◌≢◌}
-use mathlib.Core.List.{List}
+use mathlib.Core.List.{List, [], ◌∷◌}
 use native.Mathlib.Omega.{arith}
 use lib.Bits.{bit_xor}
-use lib.Count.{count_trailing_zeros}
 use lib.ListN.{length, get_or, set, length-set}
 use lib.Seq.{get_or-set_same, get_or-set_other}
 use Rattle.rules.specs.Words.{Every}
-use Rattle.rules.proofs.Cases.{by_eq}
+use Rattle.rules.proofs.Cases.{by_eq, by_lt}
 use Rattle.rules.proofs.Lists.{every_map}
 use Rattle.bits.specs.Digits.{digit, places, PutAt}
 use Rattle.planes.specs.Planes.{digit_at, words_of, span_of, Ends, Mask}
 use Rattle.halves.specs.Steps.{Picked, Marked, Others}
-use Rattle.bits.proofs.Digits.{digit_most, digit_none, digit_sum, if_same, if_other}
-use Rattle.bits.proofs.Lowest.{rest, next_place, next_zeros, next_digit, next_fits}
+use Rattle.bits.proofs.Digits.{digit_most, digit_none, digit_past, digit_sum, if_same, if_other}
+use Rattle.bits.proofs.Lowest.{turn_below, turn_place, turn_digit, end_digit}
 use Rattle.planes.proofs.Placed.{word_below}
 
 -- ---- one word
 pub record Picking (x base : ℕ) (favoured : List ℕ) (left r : ℕ) : Type 0 where
-  pub fits : left < 2 ^ 64
   pub below : Every (λ p. p < 528) (places base 64 left)
-  pub within : (i : ℕ) → digit left i ≤ digit x i
-  pub done : (i : ℕ) → digit x i ≡ 1 → digit left i ≡ 0 → digit r i ≡ get_or favoured (base + i) 0 % 2
-  pub wait : (i : ℕ) → digit left i ≡ 1 → digit r i ≡ 0
+  pub within : (i : ℕ) → i < 64 → digit left i ≤ digit x i
+  pub done : (i : ℕ) → i < 64 → digit x i ≡ 1 → digit left i ≡ 0 → digit r i ≡ get_or favoured (base + i) 0 % 2
+  pub wait : (i : ℕ) → i < 64 → digit left i ≡ 1 → digit r i ≡ 0
   pub none : (i : ℕ) → digit x i ≡ 0 → digit r i ≡ 0
 
-pub picking_start : {x base : ℕ} {favoured : List ℕ} → x < 2 ^ 64 → Every (λ p. p < 528) (places base 64 x) → Picking x base favoured x 0
-picking_start f b =
+pub picking_start : {x base : ℕ} {favoured : List ℕ} → Every (λ p. p < 528) (places base 64 x) → Picking x base favoured x 0
+picking_start b =
     record {
-      fits = f;
       below = b;
-      within = λ i. omega arith;
-      done = λ i a c. absurd (omega arith);
-      wait = λ i a. digit_none i;
+      within = λ i h. omega arith;
+      done = λ i h a c. absurd (omega arith);
+      wait = λ i h a. digit_none i;
       none = λ i a. digit_none i;
     }
 
-module _ {x base : ℕ} {favoured : List ℕ} {left r : ℕ} (p : Picking x base favoured left r) (some : left ≢ 0) where
-  pub picking_zeros : count_trailing_zeros 64 left < 64
-  picking_zeros = next_zeros p.fits some
+module _ {x base : ℕ} {favoured : List ℕ} {left r : ℕ} (p : Picking x base favoured left r) {t : ℕ} (next : ℕ) (e : places 0 64 left ≡ t ∷ places 0 64 next) where
+  pub picking_zeros : t < 64
+  picking_zeros = turn_below left next e
 
-  pub picking_below : base + count_trailing_zeros 64 left < 528
-  picking_below = let b = rw (next_place p.fits some base) at p.below in b.0
+  pub picking_below : base + t < 528
+  picking_below = let b = rw (turn_place left next e base) at p.below in b.0
 
-  pub picking_on : {d v : ℕ} → d ≡ get_or favoured (base + count_trailing_zeros 64 left) 0 % 2 → PutAt r (count_trailing_zeros 64 left) d v
-      → Picking x base favoured (rest left) v
-  picking_on {d} {v} e u =
-      let t = count_trailing_zeros 64 left in
-      let law = next_digit p.fits some in
+  pub picking_on : {d v : ℕ} → d ≡ get_or favoured (base + t) 0 % 2 → PutAt r t d v → Picking x base favoured next v
+  picking_on {d} {v} f u =
+      let law = turn_digit left next e in
       record {
-        fits = next_fits p.fits some;
-        below = let b = rw (next_place p.fits some base) at p.below in b.1;
-        within = λ i. omega (arith, law i, p.within i);
-        done = λ i a b.
+        below = let b = rw (turn_place left next e base) at p.below in b.1;
+        within = λ i h. omega (arith, law i h, p.within i h);
+        done = λ i h a b.
             by_eq i t
-            (λ z. omega (arith, law i, if_same i t 1 z, if_same i t d z, u.put i, p.wait i (omega (arith, law i, if_same i t 1 z)), ap (λ (y : ℕ). get_or favoured (base + y) 0) z))
-            (λ z. omega (arith, u.put i, if_other i t d z, p.done i a (omega (arith, law i, if_other i t 1 z))));
-        wait = λ i a.
+            (λ z. omega (arith, law i h, if_same i t 1 z, if_same i t d z, u.put i, p.wait i h (omega (arith, law i h, if_same i t 1 z)), ap (λ (y : ℕ). get_or favoured (base + y) 0) z))
+            (λ z. omega (arith, u.put i, if_other i t d z, p.done i h a (omega (arith, law i h, if_other i t 1 z))));
+        wait = λ i h a.
             by_eq i t
-            (λ z. absurd (omega (arith, law i, if_same i t 1 z, digit_most left i)))
-            (λ z. omega (arith, u.put i, if_other i t d z, p.wait i (omega (arith, law i, if_other i t 1 z))));
+            (λ z. absurd (omega (arith, law i h, if_same i t 1 z, digit_most left i)))
+            (λ z. omega (arith, u.put i, if_other i t d z, p.wait i h (omega (arith, law i h, if_other i t 1 z))));
         none = λ i a.
             by_eq i t
-            (λ z. absurd (omega (arith, law i, if_same i t 1 z, p.within i)))
+            (λ z. let h : i < 64 = omega (arith, picking_zeros) in absurd (omega (arith, law i h, if_same i t 1 z, p.within i h)))
             (λ z. omega (arith, u.put i, if_other i t d z, p.none i a));
       }
 
-pub picking_end : {x base : ℕ} {favoured : List ℕ} {left r : ℕ} → Picking x base favoured left r → left ≡ 0 → Picked x base favoured r
-picking_end {left = left} p e = record { has = λ i a. p.done i a (ap (λ (z : ℕ). digit z i) e ∙ digit_none i); none = p.none }
+pub picking_end : {x base : ℕ} {favoured : List ℕ} {left r : ℕ} → Picking x base favoured left r → places 0 64 left ≡ [] → x < 2 ^ 64 → Picked x base favoured r
+picking_end {x} {left = left} p e f =
+    record {
+      has = λ i a.
+          by_lt i 64
+          (λ h. p.done i h a (end_digit left e i h))
+          (λ h. absurd (omega (arith, digit_past 64 x i f h)));
+      none = p.none;
+    }
 
 -- ---- one word of a mask
 module _ (mask : List ℕ) (w v : ℕ) (l : length mask ≡ 9) (h : w < 9) where
@@ -89,16 +90,16 @@ pub marking_start : {planes favoured mask : List ℕ} → length mask ≡ 9 → 
 marking_start l = record { len = l; has = λ p h. absurd (omega arith); none = λ p h. absurd (omega arith); kept = λ v h. refl }
 
 -- the positions that are looked up are below 528
-pub marking_below : {n : ℕ} {planes : List ℕ} {w words : ℕ} → Ends n planes → words ≡ words_of n → w < words → Every (λ p. p < 528) (places (w * 64) 64 (get_or planes w 0))
-marking_below {n} {planes} {w} e v h =
+pub marking_below : {n : ℕ} {planes : List ℕ} {w x : ℕ} → Ends n planes → w < words_of n → x ≡ get_or planes w 0 → Every (λ p. p < 528) (places (w * 64) 64 x)
+marking_below {n} {planes} {w} e h is =
     let few = e.few in
-    every_map (λ p. p < n) (λ p. p < 528) (λ p l. omega arith) (places (w * 64) 64 (get_or planes w 0)) (word_below e w (omega arith))
+    rw is (every_map (λ p. p < n) (λ p. p < 528) (λ p l. omega arith) (places (w * 64) 64 (get_or planes w 0)) (word_below e w h))
 
-pub marking_on : {planes favoured old mask : List ℕ} {w words v : ℕ} → Marking planes favoured old w mask → w < words → words ≤ 9
-    → Picked (get_or planes w 0) (w * 64) favoured v → Marking planes favoured old (w + 1) (set mask w v)
-marking_on {planes} {favoured} {old} {mask} {w} {words} {v} m h k p =
+pub marking_on : {planes favoured old mask : List ℕ} {w x v : ℕ} → Marking planes favoured old w mask → w < 9 → x ≡ get_or planes w 0
+    → Picked x (w * 64) favoured v → Marking planes favoured old (w + 1) (set mask w v)
+marking_on {planes} {favoured} {old} {mask} {w} {x} {v} m w_lt is q =
     let l = m.len in
-    let w_lt : w < 9 = omega arith in
+    let p : Picked (get_or planes w 0) (w * 64) favoured v = rw (sym is) q in
     record {
       len = length-set mask w v ∙ l;
       has = λ q g o.
@@ -112,9 +113,8 @@ marking_on {planes} {favoured} {old} {mask} {w} {words} {v} m h k p =
       kept = λ u g. get_or-set_other mask w u v 0 (λ e. absurd (omega arith)) ∙ m.kept u (omega arith);
     }
 
-pub marking_end : {n : ℕ} {planes favoured old mask : List ℕ} {w words : ℕ} → Marking planes favoured old w mask → words ≡ words_of n → w ≤ words → words ≤ w
-    → Marked n planes favoured old mask
-marking_end m v a b = record { len = m.len; has = λ p h. m.has p (omega arith); none = λ p h. m.none p (omega arith); behind = λ u h. m.kept u (omega arith) }
+pub marking_end : {n : ℕ} {planes favoured old mask : List ℕ} {w : ℕ} → Marking planes favoured old w mask → w ≡ words_of n → Marked n planes favoured old mask
+marking_end m v = record { len = m.len; has = λ p h. m.has p (omega arith); none = λ p h. m.none p (omega arith); behind = λ u h. m.kept u (omega arith) }
 
 -- ---- the others
 pub record Complementing (n : ℕ) (planes old : List ℕ) (w : ℕ) (mask : List ℕ) : Type 0 where
@@ -129,13 +129,12 @@ complementing_start m = record { len = m.len; done = λ p h. absurd (omega arith
 other_digit : (x y i : ℕ) → digit y i ≤ digit x i → digit (bit_xor x y) i ≡ digit x i - digit y i
 other_digit x y i h = omega (arith, digit_sum x y i, digit_most (bit_xor x y) i, digit_most x i)
 
-pub complementing_on : {n : ℕ} {planes old mask : List ℕ} {w words : ℕ} → Complementing n planes old w mask → Mask n planes old → w < words → words ≤ 9
-    → Complementing n planes old (w + 1) (set mask w (bit_xor (get_or planes w 0) (get_or mask w 0)))
-complementing_on {n} {planes} {old} {mask} {w} {words} t m h k =
+pub complementing_on : {n : ℕ} {planes old mask : List ℕ} {w x : ℕ} → Complementing n planes old w mask → Mask n planes old → w < 9 → x ≡ get_or planes w 0
+    → Complementing n planes old (w + 1) (set mask w (bit_xor x (get_or mask w 0)))
+complementing_on {n} {planes} {old} {mask} {w} {x} t m w_lt is =
     let l = t.len in
-    let w_lt : w < 9 = omega arith in
     let v = bit_xor (get_or planes w 0) (get_or mask w 0) in
-    record {
+    rw is (record {
       len = length-set mask w v ∙ l;
       done = λ p g s.
           by_eq (p / 64) w
@@ -147,11 +146,10 @@ complementing_on {n} {planes} {old} {mask} {w} {words} t m h k =
           (λ z. word_other mask w v l w_lt p z ∙ t.done p (omega arith) s);
       left = λ p g. word_other mask w v l w_lt p (omega arith) ∙ t.left p (omega arith);
       kept = λ u g. get_or-set_other mask w u v 0 (λ e. absurd (omega arith)) ∙ t.kept u (omega arith);
-    }
+    })
 
-pub complementing_end : {n : ℕ} {planes old mask : List ℕ} {w words : ℕ} → Complementing n planes old w mask → words ≡ words_of n → w ≤ words → words ≤ w
-    → Others n planes old mask
-complementing_end t v a b = record { len = t.len; has = λ p h. t.done p (omega arith) h; kept = λ u h. t.kept u (omega arith) }
+pub complementing_end : {n : ℕ} {planes old mask : List ℕ} {w : ℕ} → Complementing n planes old w mask → w ≡ words_of n → Others n planes old mask
+complementing_end t v = record { len = t.len; has = λ p h. t.done p (omega arith) h; kept = λ u h. t.kept u (omega arith) }
 
 pub others_mask : {n : ℕ} {planes old mask : List ℕ} → Others n planes old mask → Mask n planes mask
 others_mask o = record { len = o.len; only = λ p h. omega (arith, o.has p h) }

@@ -4,9 +4,10 @@ ghost use Rattle.planes.specs.Planes.{BlockPlanes, Mask};
 ghost use Rattle.halves.specs.Steps.{Grown, HalfPlanes};
 
 use planes::words::words_of;
-use planes::{PLANE_WORDS, PLANES_WORDS};
+use planes::{PLANE_WORDS, PLANES_WORDS, Planes};
 
-// One word of every plane: the planes above the lowest, with one word added.
+// One word of every plane: the planes above the lowest, with one word added. Planes are told by number, for the words of a column stand
+// a plane apart.
 fn ripple(
     planes: &[u64; PLANES_WORDS],
     m: usize,
@@ -14,35 +15,31 @@ fn ripple(
     extra: u64,
     half: &mut [u64; PLANES_WORDS],
 )
-    requires { (m ≤ 10) × (w < 9) × (length half.old ≡ 99) }
+    requires { (m ≤ 10) × (w < 9) }
     ensures { Grown planes.now w extra m half.old half.new }
 {
     let mut carry = extra;
-    let mut b: usize = 0;
-    while b < m {
+    for b in 0..m {
         let at = b * PLANE_WORDS + w;
         let x = planes[at + PLANE_WORDS];
         half[at] = x ^ carry;
         carry = x & carry;
-        b += 1;
     }
 }
 
 // The mask has the odd counts that favour the half.
 pub fn halve(
-    planes: &[u64; PLANES_WORDS],
+    planes: Planes<'_>,
     m: usize,
-    n: usize,
     mask: &[u64; PLANE_WORDS],
     half: &mut [u64; PLANES_WORDS],
 )
-    requires { (1 ≤ m) × (m ≤ 10) × BlockPlanes m n planes.now × Mask n planes.now mask.now × (length half.old ≡ 99) }
-    ensures { (length half.new ≡ 99) × HalfPlanes m n planes.now mask.now half.old half.new }
+    requires { (1 ≤ m) × (m ≤ 10) × BlockPlanes m planes.positions planes.words.now
+        × Mask planes.positions planes.words.now mask.now }
+    ensures { (length half.new ≡ 99)
+        × HalfPlanes m planes.entry.positions planes.entry.words.now mask.now half.old half.new }
 {
-    let words = words_of(n);
-    let mut w: usize = 0;
-    while w < words {
-        ripple(planes, m, w, mask[w], half);
-        w += 1;
+    for w in 0..words_of(planes.positions) {
+        ripple(planes.words, m, w, mask[w], half);
     }
 }

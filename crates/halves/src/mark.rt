@@ -1,63 +1,42 @@
 // Masks of the odd counts that favour a half.
-ghost use Rattle.std.specs.Prelude.{◌≡◌, ◌%◌, ◌<◌, ◌≤◌, length};
+ghost use Rattle.std.specs.Prelude.{◌≤◌, ◌<◌};
 ghost use Rattle.rules.specs.Words.{Every};
 ghost use Rattle.bits.specs.Digits.{places};
-ghost use Rattle.planes.specs.Planes.{Ends, Mask};
+ghost use Rattle.planes.specs.Planes.{Mask};
+ghost use Rattle.planes.specs.Favours.{favour_numbers};
 ghost use Rattle.halves.specs.Steps.{Picked, Marked, Others};
 
-use bits::put_digit;
-use planes::words::words_of;
-use planes::{PLANE_WORDS, PLANES_WORDS, POSITIONS};
-
-// 1 for a count that favours the first half, 0 for any other.
-fn first_half(favoured: u8) -> u64
-    ensures { (result ≡ favoured % 2) × (result ≤ 1) }
-{
-    (favoured % 2) as u64
-}
+use bits::{ones_of, put_digit};
+use planes::favours::Favour;
+use planes::{PLANE_WORDS, POSITIONS, Planes};
 
 // The word is made in a register: digits put into a mask one after the other would wait for each store.
-fn pick(x: u64, base: usize, favoured: &[u8; POSITIONS]) -> u64
-    requires { (base ≤ 512) × (length favoured.now ≡ 528) × Every (λ p. p < 528) (places base 64 x) }
-    ensures { Picked x base favoured.now result }
+fn pick(x: u64, base: usize, favoured: &[Favour; POSITIONS]) -> u64
+    requires { (base ≤ 512) × Every (λ p. p < 528) (places base 64 x) }
+    ensures { Picked x base (favour_numbers favoured.now) result }
 {
-    let mut rest = x;
     let mut picked: u64 = 0;
-    while rest != 0 {
-        let t = u64::trailing_zeros(rest) as usize;
-        picked = put_digit(picked, t, first_half(favoured[base + t]));
-        rest = rest & (rest - 1);
+    for t in ones_of(x) {
+        picked = put_digit(picked, t, favoured[base + t].digit());
     }
     picked
 }
 
 // The odd counts that favour the first half.
-pub fn mark(
-    planes: &[u64; PLANES_WORDS],
-    n: usize,
-    favoured: &[u8; POSITIONS],
-    mask: &mut [u64; PLANE_WORDS],
-)
-    requires { Ends n planes.now × (length favoured.now ≡ 528) × (length mask.old ≡ 9) }
-    ensures { Marked n planes.now favoured.now mask.old mask.new }
+pub fn mark(planes: Planes<'_>, favoured: &[Favour; POSITIONS], mask: &mut [u64; PLANE_WORDS])
+    ensures { Marked planes.entry.positions planes.entry.words.now (favour_numbers favoured.now) mask.old mask.new }
 {
-    let words = words_of(n);
-    let mut w: usize = 0;
-    while w < words {
-        mask[w] = pick(planes[w], w * 64, favoured);
-        w += 1;
+    for (w, &word) in planes.lowest().iter().enumerate() {
+        mask[w] = pick(word, w * 64, favoured);
     }
 }
 
 // The odd counts that are not in the mask.
-pub fn others(planes: &[u64; PLANES_WORDS], n: usize, mask: &mut [u64; PLANE_WORDS])
-    requires { Ends n planes.now × Mask n planes.now mask.old }
-    ensures { Others n planes.now mask.old mask.new }
+pub fn others(planes: Planes<'_>, mask: &mut [u64; PLANE_WORDS])
+    requires { Mask planes.positions planes.words.now mask.old }
+    ensures { Others planes.entry.positions planes.entry.words.now mask.old mask.new }
 {
-    let words = words_of(n);
-    let mut w: usize = 0;
-    while w < words {
-        mask[w] = planes[w] ^ mask[w];
-        w += 1;
+    for (w, &word) in planes.lowest().iter().enumerate() {
+        mask[w] = word ^ mask[w];
     }
 }

@@ -2,98 +2,62 @@
 #![tactic(auto)]
 
 ghost use Rattle.std.specs.Prelude.{◌≡◌, ◌≤◌, ◌<◌};
-ghost use Rattle.rules.specs.Words.{Within};
+ghost use Rattle.rules.specs.Words.{both, found, Within};
 ghost use Rattle.rules.specs.Flows.{flows, input, output};
-ghost use Rattle.checks.specs.Fits.{ListFits, FlowFrame};
-ghost use Rattle.exchange.specs.Add.{lowest_idle, lowest_both};
-ghost use Rattle.exchange.specs.Swaps.{output_number, lowest_to};
+ghost use Rattle.exchange.specs.Add.{idle};
+ghost use Rattle.exchange.specs.Swaps.{output_number, goes_to};
 
-use flows::number_of;
+use checks::frames::FrameOfFlows;
+use checks::reservations::Reservations;
 
-// The output of the flow that an entry is the number of, from 1; 0 where it is idle.
-pub fn output_of(list: &[u16], entry: u16) -> usize
-    requires { ListFits 16 list.now × (entry ≤ flows list.now) }
-    ensures { result ≡ output_number list.now entry }
+// The output of the flow that an entry is the number of, from 1; 0 where it is idle. No Option: the law of the exchange (`output_number`) counts so.
+pub fn output_of(of: &Reservations<'_>, entry: u16) -> usize
+    requires { entry ≤ flows of.now.list.now }
+    ensures { result ≡ output_number of.now.list.now entry }
 {
     if entry == 0 {
         return 0;
     }
-    number_of(list, bits::number(entry) - 1, 1)
+    of.flow(usize::from(entry) - 1).output + 1
 }
 
-// The lowest input of a slot, other than a given one, whose cell goes to an output, from 1; ports where there is none.
-pub fn lowest_to(
-    ports: usize,
-    slots: usize,
-    list: &[u16],
-    frame: &[u16],
-    slot: usize,
-    output: usize,
-    but: usize,
-) -> usize
-    requires { FlowFrame ports slots list.now frame.now × (slot < slots) }
-    ensures { result ≡ lowest_to ports list.now frame.now slot output but }
+// The lowest input of a slot, other than a given one, whose cell goes to an output, from 1. Where `but` is ports, no input is left out.
+pub fn lowest_to(frame: &FrameOfFlows<'_>, slot: usize, output: usize, but: usize) -> Option<usize>
+    requires { slot < frame.now.frame.of.slots }
+    ensures { result ≡ found (goes_to frame.now.frame.of.ports frame.now.frame.of.list.now frame.now.frame.entries.now slot output but) 0 frame.now.frame.of.ports }
 {
-    let from = slot * ports;
-    let mut i: usize = 0;
-    while i < ports {
-        if i != but {
-            if output_of(list, frame[from + i]) == output {
-                return i;
-            }
-        }
-        i += 1;
-    }
-    i
+    let entries = frame.frame.slot(slot);
+    (0..frame.frame.of.ports).find(|&i| i != but
+        && output_of(&frame.frame.of, entries[i]) == output)
 }
 
-// The lowest slot in which the flow's input is idle; slots where there is none.
-pub fn lowest_input(ports: usize, slots: usize, list: &[u16], frame: &[u16], flow: usize) -> usize
-    requires { FlowFrame ports slots list.now frame.now × Within 1 (flows list.now) flow }
-    ensures { result ≡ lowest_idle input ports slots list.now frame.now flow }
+// The lowest slot in which the flow's input is idle.
+pub fn lowest_input(frame: &FrameOfFlows<'_>, flow: usize) -> Option<usize>
+    requires { Within 1 (flows frame.now.frame.of.list.now) flow }
+    ensures { result ≡ found (idle input frame.now.frame.of.ports frame.now.frame.of.list.now frame.now.frame.entries.now flow) 0 frame.now.frame.of.slots }
 {
-    let i = number_of(list, flow - 1, 0) - 1;
-    let mut s: usize = 0;
-    while s < slots {
-        if frame[s * ports + i] == 0 {
-            return s;
-        }
-        s += 1;
-    }
-    s
+    let i = frame.frame.of.flow(flow - 1).input;
+    (0..frame.frame.of.slots).find(|&s| frame.frame.slot(s)[i] == 0)
 }
 
-// The lowest slot in which the flow's output is idle; slots where there is none.
-pub fn lowest_output(ports: usize, slots: usize, list: &[u16], frame: &[u16], flow: usize) -> usize
-    requires { FlowFrame ports slots list.now frame.now × Within 1 (flows list.now) flow }
-    ensures { result ≡ lowest_idle output ports slots list.now frame.now flow }
+// The lowest slot in which the flow's output is idle.
+pub fn lowest_output(frame: &FrameOfFlows<'_>, flow: usize) -> Option<usize>
+    requires { Within 1 (flows frame.now.frame.of.list.now) flow }
+    ensures { result ≡ found (idle output frame.now.frame.of.ports frame.now.frame.of.list.now frame.now.frame.entries.now flow) 0 frame.now.frame.of.slots }
 {
-    let o = number_of(list, flow - 1, 1);
-    let mut s: usize = 0;
-    while s < slots {
-        if lowest_to(ports, slots, list, frame, s, o, ports) == ports {
-            return s;
-        }
-        s += 1;
-    }
-    s
+    let o = frame.frame.of.flow(flow - 1).output + 1;
+    let ports = frame.frame.of.ports;
+    (0..frame.frame.of.slots).find(|&s| lowest_to(frame, s, o, ports).is_none())
 }
 
-// The lowest slot in which both ports of the flow are idle; slots where there is none. Only where its input is, its output is looked for.
-pub fn lowest_both(ports: usize, slots: usize, list: &[u16], frame: &[u16], flow: usize) -> usize
-    requires { FlowFrame ports slots list.now frame.now × Within 1 (flows list.now) flow }
-    ensures { result ≡ lowest_both ports slots list.now frame.now flow }
+// The lowest slot in which both ports of the flow are idle. Only where its input is, its output is looked for.
+pub fn lowest_both(frame: &FrameOfFlows<'_>, flow: usize) -> Option<usize>
+    requires { Within 1 (flows frame.now.frame.of.list.now) flow }
+    ensures { result ≡ found (λ s. both (idle input frame.now.frame.of.ports frame.now.frame.of.list.now frame.now.frame.entries.now flow s)
+        (idle output frame.now.frame.of.ports frame.now.frame.of.list.now frame.now.frame.entries.now flow s)) 0 frame.now.frame.of.slots }
 {
-    let i = number_of(list, flow - 1, 0) - 1;
-    let o = number_of(list, flow - 1, 1);
-    let mut s: usize = 0;
-    while s < slots {
-        if frame[s * ports + i] == 0 {
-            if lowest_to(ports, slots, list, frame, s, o, ports) == ports {
-                return s;
-            }
-        }
-        s += 1;
-    }
-    s
+    let own = frame.frame.of.flow(flow - 1);
+    let ports = frame.frame.of.ports;
+    (0..frame.frame.of.slots).find(|&s| frame.frame.slot(s)[own.input] == 0
+        && lowest_to(frame, s, own.output + 1, ports).is_none())
 }

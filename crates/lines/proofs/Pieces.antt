@@ -3,9 +3,8 @@ use Prim.Native.Nat.{ℕ, suc, ◌+◌, ◌/◌, ◌%◌, ◌≤◌, ◌<◌}
 use mathlib.Core.Path.{◌≡◌, refl, sym, ap, ◌∙◌}
 use mathlib.Core.List.{List, [], ◌∷◌, ◌++◌, append_assoc}
 use native.Mathlib.Omega.{arith}
-use native.Mathlib.Numerals.{add-one}
-use lib.ListN.{length, get_or, set, drop, length-append, length-drop, drop_of_length-le}
-use lib.Seq.{sets, length-sets, set_out, drop-cons}
+use lib.ListN.{length, set, length-append}
+use lib.Seq.{sets, length-sets}
 use mir.Syntax.{w64}
 use mir.Val.{Fits}
 use Rattle.sheets.specs.Text.{decimal}
@@ -50,26 +49,7 @@ printed_both out at a b mid at' new next x y =
       place = omega (arith, length-append a b);
     }
 
--- ---- a byte, a word, a number
-pub put_out : (out : List ℕ) (at b : ℕ) → length out ≤ at → Printed out at (b ∷ []) out (at + 1)
-put_out out at b h = record { is = sym (set_out out at b h); place = refl }
-
-pub word_first : (out w : List ℕ) (at : ℕ) → Prints out at w out at (drop 0 w)
-word_first out w at = prints_all out at w
-
-pub word_next : (out w : List ℕ) (at i : ℕ) (mid : List ℕ) (at' : ℕ) (new : List ℕ) (next : ℕ)
-    → Prints out at w mid at' (drop i w) → i < length w → Printed mid at' (get_or w i 0 ∷ []) new next → Prints out at w new next (drop (i + 1) w)
-word_next out w at i mid at' new next x h y =
-    prints_on out at w mid at' (get_or w i 0 ∷ []) (drop (i + 1) w) new next
-    (prints_as out at w mid at' (drop i w) (get_or w i 0 ∷ drop (i + 1) w) (drop-cons w i 0 h ∙ ap (λ z. get_or w i 0 ∷ drop z w) (sym (add-one i))) x) y
-
-pub word_room : (out w : List ℕ) (at i : ℕ) (mid : List ℕ) (at' : ℕ) → Prints out at w mid at' (drop i w) → i < length w → at + length w ≤ 4294967296 → at' < 4294967296
-word_room out w at i mid at' x h r = omega (arith, x.place, length-drop i w)
-
-pub word_done : (out w : List ℕ) (at i : ℕ) (new : List ℕ) (next : ℕ) → Prints out at w new next (drop i w) → length w ≤ i → Printed out at w new next
-word_done out w at i new next x h =
-    prints_end out at w new next (prints_as out at w new next (drop i w) [] (drop_of_length-le w h) x)
-
+-- ---- a number
 number_room : (out : List ℕ) (at n : ℕ) (new : List ℕ) (next : ℕ) → Printed out at (decimal n) new next → Fits w64 n → PrintedIn 20 out at (decimal n) new next
 number_room out at n new next x h = record { printed = x; most_bytes = omega (arith, x.place, decimal_most n h.fits) }
 
@@ -97,3 +77,7 @@ pub piece : {out : List ℕ} {at : ℕ} {bytes mid : List ℕ} {at' : ℕ} (w : 
 piece {out} {at} {bytes} {mid} {at'} w n rest {new} {next} x y =
     prints_on out at bytes mid at' (w ++ decimal n) rest new next
     (prints_as out at bytes mid at' (w ++ (decimal n ++ rest)) ((w ++ decimal n) ++ rest) (sym (append_assoc w (decimal n) rest)) x) y.printed
+
+-- what a line leaves in its buffer
+pub printed_left : {out : List ℕ} {at : ℕ} {bytes kept : List ℕ} {next : ℕ} (last : List ℕ) (size : ℕ) → Printed out at bytes kept next → last ≡ kept → size ≡ next → Printed out at bytes last size
+printed_left last size x e f = rw (e, f) x

@@ -1,2 +1,3 @@
 -- What the functions that print a line promise.
 pub mod Lines
+pub mod Puts

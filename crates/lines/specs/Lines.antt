@@ -1,9 +1,7 @@
 -- What is written into a buffer from a place on.
-use Rattle.std.specs.Prelude.{ℕ, ◌+◌, ◌≤◌, ◌≡◌, List, [], ◌∷◌, ◌++◌, length}
+use Rattle.std.specs.Prelude.{ℕ, ◌+◌, ◌≤◌, ◌≡◌, List, ◌++◌, length}
 use Rattle.std.proofs.lemmas.List.Edits.{sets}
 use Rattle.sheets.specs.Text.{text, decimal}
-use Rattle.lines.specs.declared.Values.{Values}
-use Rattle.lines.specs.declared.Values.TheVariants.{None, Line, Port, Link}
 
 -- The bytes stand in the buffer from a place on, as far as they fit, and next is the place behind them.
 pub record Printed (out : List ℕ) (at : ℕ) (bytes new : List ℕ) (next : ℕ) : Type 0 where
@@ -26,10 +24,3 @@ word_then w n = w ++ decimal n
 -- A word and a number in brackets, of which the word has the first.
 abbrev pub bracketed : List ℕ → ℕ → List ℕ
 bracketed w n = word_then w n ++ text ")"
-
--- The values of a refusal.
-abbrev pub carried : Values → List ℕ
-carried None = []
-carried (Line line) = line ∷ []
-carried (Port port cells) = port ∷ cells ∷ []
-carried (Link o x cells) = o ∷ x ∷ cells ∷ []

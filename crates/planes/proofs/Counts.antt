@@ -5,14 +5,15 @@ use mathlib.Core.List.{List, [], ◌∷◌, map}
 use mathlib.Core.Bool.{false}
 use native.Mathlib.Omega.{arith}
 use lib.Dec.{eqb}
-use lib.ListN.{length, get_or}
+use lib.ListN.{length, get_or, take}
+use lib.Seq.{get_or-take}
 use borrow.Author.Tests.{ne_eqb}
 use Rattle.rules.specs.Words.{up_from, keep}
 use Rattle.rules.specs.Rules.{odd}
 use Rattle.rules.proofs.Flows.{map_length, map_at}
 use Rattle.rules.proofs.Kept.{keep_same}
 use Rattle.bits.specs.Digits.{digit, binary}
-use Rattle.planes.specs.Planes.{digit_in, digit_at, count_at, counts_in, odd_at, odds_in, span_of, Ends, BlockPlanes}
+use Rattle.planes.specs.Planes.{digit_in, digit_at, count_at, counts_in, odd_at, odds_in, words_of, span_of, Ends, BlockPlanes}
 use Rattle.bits.proofs.Digits.{digit_most, binary_up}
 
 -- ---- lists of counts
@@ -73,3 +74,7 @@ block_ends {m} {n} {planes} b =
 -- no count behind the first n is odd
 pub none_odd : {n : ℕ} {planes : List ℕ} → Ends n planes → (p : ℕ) → n ≤ p → p < span_of n → odd_at planes p ≡ false
 none_odd {n} {planes} e p l h = let z = e.past p l h in ne_eqb (digit_at planes p) 1 (omega arith)
+
+-- ---- the words of the lowest plane
+pub lowest_at : (n : ℕ) (planes words : List ℕ) → words ≡ take (words_of n) planes → (w : ℕ) → w < words_of n → get_or words w 0 ≡ get_or planes w 0
+lowest_at n planes words is w h = ap (λ (x : List ℕ). get_or x w 0) is ∙ get_or-take (words_of n) planes w 0 h

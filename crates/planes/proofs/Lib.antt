@@ -3,3 +3,4 @@ pub mod Lists
 pub mod Counts
 pub mod Stored
 pub mod Placed
+pub mod Halves

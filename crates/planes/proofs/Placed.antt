@@ -1,13 +1,11 @@
 -- One more place written, and one more word gathered.
-use Prim.Native.Nat.{ℕ, ◌+◌, ◌-◌, ◌*◌, ◌^◌, ◌≤◌, ◌<◌}
+use Prim.Native.Nat.{ℕ, ◌+◌, ◌-◌, ◌*◌, ◌≤◌, ◌<◌}
 use mathlib.Core.Path.{◌≡◌, refl, sym, ap, ap₂, ◌∙◌}
-use mathlib.Core.Logic.{◌≢◌}
-use mathlib.Core.List.{List, [], ◌++◌, append-nil}
+use mathlib.Core.List.{List, [], ◌∷◌, ◌++◌, append-nil}
 use mathlib.Core.Bool.{true}
 use native.Mathlib.Omega.{arith}
 use native.Mathlib.Numerals.{add-one}
 use lib.Dec.{eqb}
-use lib.Count.{count_trailing_zeros}
 use lib.ListN.{length, get_or, set, take, length-set, length-append}
 use lib.Seq.{take-suc-set, append_snoc, get_or-set_other}
 use borrow.Author.Tests.{eqb-true}
@@ -18,43 +16,36 @@ use Rattle.rules.proofs.Kept.{keep_every, keep_add, keep_none, keep_most}
 use Rattle.bits.specs.Digits.{digit, places}
 use Rattle.planes.specs.Planes.{digit_at, odd_at, odds_in, words_of, span_of, Ends}
 use Rattle.planes.specs.Steps.{PlacesListed, Gathered}
-use Rattle.bits.proofs.Lowest.{rest, places_none, places_kept, next_place, next_fits, next_zeros}
+use Rattle.bits.proofs.Lowest.{places_kept, turn_place, end_place}
 use Rattle.planes.proofs.Counts.{none_odd}
 
 -- ---- one word
 pub record Placing (base x k : ℕ) (old list : List ℕ) (left r : ℕ) : Type 0 where
   pub len : length list ≡ 528
-  pub fits : left < 2 ^ 64
   pub number : r + length (places base 64 left) ≡ k + length (places base 64 x)
   pub same : take r list ++ places base 64 left ≡ take k old ++ places base 64 x
   pub kept : (j : ℕ) → r ≤ j → get_or list j 0 ≡ get_or old j 0
 
-pub placing_start : {base x k : ℕ} {old : List ℕ} → length old ≡ 528 → x < 2 ^ 64 → Placing base x k old old x k
-placing_start l f = record { len = l; fits = f; number = refl; same = refl; kept = λ j h. refl }
+pub placing_start : {base x k : ℕ} {old : List ℕ} → length old ≡ 528 → Placing base x k old old x k
+placing_start l = record { len = l; number = refl; same = refl; kept = λ j h. refl }
 
-module _ {base x k : ℕ} {old list : List ℕ} {left r : ℕ} (p : Placing base x k old list left r) (some : left ≢ 0) where
-  pub placing_zeros : count_trailing_zeros 64 left < 64
-  placing_zeros = next_zeros p.fits some
-
+module _ {base x k : ℕ} {old list : List ℕ} {left r : ℕ} (p : Placing base x k old list left r) {t : ℕ} (next : ℕ) (e : places 0 64 left ≡ t ∷ places 0 64 next) where
   pub placing_room : k + length (places base 64 x) ≤ 528 → r < 528
-  placing_room h = omega (arith, p.number, ap length (next_place p.fits some base))
+  placing_room h = omega (arith, p.number, ap length (turn_place left next e base))
 
-  pub placing_on : k + length (places base 64 x) ≤ 528
-      → Placing base x k old (set list r (base + count_trailing_zeros 64 left)) (rest left) (r + 1)
+  pub placing_on : k + length (places base 64 x) ≤ 528 → Placing base x k old (set list r (base + t)) next (r + 1)
   placing_on h =
-      let first = next_place p.fits some base in
-      let at = base + count_trailing_zeros 64 left in
+      let first = turn_place left next e base in
       record {
-        len = length-set list r at ∙ p.len;
-        fits = next_fits p.fits some;
+        len = length-set list r (base + t) ∙ p.len;
         number = omega (arith, p.number, ap length first);
-        same = rw (add-one, take-suc-set list r at (omega (arith, p.len, placing_room h))) (append_snoc (take r list) at (places base 64 (rest left)) ∙ rw (← first) p.same);
-        kept = λ j l. get_or-set_other list r j at 0 (λ e. absurd (omega arith)) ∙ p.kept j (omega arith);
+        same = rw (add-one, take-suc-set list r (base + t) (omega (arith, p.len, placing_room h))) (append_snoc (take r list) (base + t) (places base 64 next) ∙ rw (← first) p.same);
+        kept = λ j g. get_or-set_other list r j (base + t) 0 (λ q. absurd (omega arith)) ∙ p.kept j (omega arith);
       }
 
-pub placing_end : {base x k : ℕ} {old list : List ℕ} {left r : ℕ} → Placing base x k old list left r → left ≡ 0 → PlacesListed base x k old list r
+pub placing_end : {base x k : ℕ} {old list : List ℕ} {left r : ℕ} → Placing base x k old list left r → places 0 64 left ≡ [] → PlacesListed base x k old list r
 placing_end {base} {x} {k} {old} {list} {left} {r} p e =
-    let none : places base 64 left ≡ [] = ap (places base 64) e ∙ places_none base 64 in
+    let none : places base 64 left ≡ [] = end_place left e base in
     record {
       len = p.len;
       number = omega (arith, p.number, ap length none);
@@ -116,29 +107,30 @@ pub record Gathering (planes old : List ℕ) (w : ℕ) (list : List ℕ) (r : �
 pub gathering_start : {planes list : List ℕ} → length list ≡ 528 → Gathering planes list 0 list 0
 gathering_start l = record { len = l; number = refl; same = refl; kept = λ j h. refl }
 
-module _ {n : ℕ} {planes old list : List ℕ} {w words k : ℕ} (g : Gathering planes old w list k) (e : Ends n planes) (v : words ≡ words_of n) (h : w < words) where
-  pub gathering_room : k + length (places (w * 64) 64 (get_or planes w 0)) ≤ 528
+module _ {n : ℕ} {planes old list : List ℕ} {w k : ℕ} (g : Gathering planes old w list k) (e : Ends n planes) (h : w < words_of n) {x : ℕ} (is : x ≡ get_or planes w 0) where
+  pub gathering_room : k + length (places (w * 64) 64 x) ≤ 528
   gathering_room =
-      omega (
+      rw is
+      (omega (
         arith,
         g.number,
         odds_most e ((w + 1) * 64) (omega arith),
         ap length (words_odds planes w),
         length-append (odds_in (w * 64) planes) (places (w * 64) 64 (get_or planes w 0)),
-      )
+      ))
 
-  pub gathering_on : {next : List ℕ} {r : ℕ} → PlacesListed (w * 64) (get_or planes w 0) k list next r → Gathering planes old (w + 1) next r
+  pub gathering_on : {next : List ℕ} {r : ℕ} → PlacesListed (w * 64) x k list next r → Gathering planes old (w + 1) next r
   gathering_on p =
-      let l = length-append (odds_in (w * 64) planes) (places (w * 64) 64 (get_or planes w 0)) in
+      let l = length-append (odds_in (w * 64) planes) (places (w * 64) 64 x) in
+      let all : keep (odd_at planes) (up_from 0 ((w + 1) * 64)) ≡ odds_in (w * 64) planes ++ places (w * 64) 64 x = rw is (words_odds planes w) in
       record {
         len = p.len;
-        number = omega (arith, p.number, g.number, ap length (words_odds planes w));
-        same = p.same ∙ ap (λ (l : List ℕ). l ++ places (w * 64) 64 (get_or planes w 0)) g.same ∙ sym (words_odds planes w);
+        number = omega (arith, p.number, g.number, ap length all);
+        same = p.same ∙ ap (λ (l : List ℕ). l ++ places (w * 64) 64 x) g.same ∙ sym all;
         kept = λ j h. p.kept j h ∙ g.kept j (omega (arith, p.number));
       }
 
-pub gathering_end : {n : ℕ} {planes old list : List ℕ} {w words r : ℕ} → Gathering planes old w list r → Ends n planes → words ≡ words_of n → w ≤ words → words ≤ w
-    → Gathered n planes old list r
-gathering_end {n} {planes} {old} {list} {w} {words} {r} g e v a b =
+pub gathering_end : {n : ℕ} {planes old list : List ℕ} {w r : ℕ} → Gathering planes old w list r → Ends n planes → w ≡ words_of n → Gathered n planes old list r
+gathering_end {n} {planes} {old} {list} {w} {r} g e at =
     let all = odds_past e (w * 64) (omega arith) (omega arith) in
     record { len = g.len; number = g.number ∙ ap length all; same = g.same ∙ all; behind = λ j h. g.kept j (omega arith) }

@@ -2,10 +2,9 @@
 use Prim.Native.Nat.{ℕ, suc, zero, ◌+◌, ◌-◌, ◌*◌, ◌/◌, ◌%◌, ◌^◌, ◌≤◌, ◌<◌, max}
 use mathlib.Core.Path.{◌≡◌, refl, sym, ap, ap₂, ◌∙◌}
 use mathlib.Core.Logic.{◌≢◌}
-use mathlib.Core.List.{List}
+use mathlib.Core.List.{List, [], ◌∷◌}
 use native.Mathlib.Omega.{arith}
 use lib.Dec.{eqb}
-use lib.Count.{count_trailing_zeros}
 use lib.ListN.{length, get_or, set, length-set, replicate, length-replicate}
 use lib.Seq.{get_or-set_same, get_or-set_other}
 use borrow.Author.Tests.{eq-eqb, ne_eqb}
@@ -13,20 +12,19 @@ use Rattle.rules.specs.Words.{if}
 use Rattle.rules.specs.Flows.{flows, number_of, counts_of}
 use Rattle.rules.proofs.Cases.{by_eq, by_lt}
 use Rattle.rules.proofs.Flows.{counts_length, counts_at}
-use Rattle.bits.specs.Digits.{digit, PutAt}
+use Rattle.bits.specs.Digits.{digit, places, PutAt}
 use Rattle.planes.specs.Planes.{digit_in, count_at, counts_in}
 use Rattle.planes.specs.Steps.{Blank, Stored, Loaded}
 use Rattle.rules.proofs.Lists.{zero_at}
 use Rattle.bits.proofs.Digits.{digit_most, digit_first, digit_half, digit_none, digit_past, if_same, if_other, binary_same, binary_none, binary_digits}
-use Rattle.bits.proofs.Lowest.{rest, next_zeros, next_digit, next_fits}
+use Rattle.bits.proofs.Lowest.{turn_below, turn_digit, end_digit}
 use Rattle.planes.proofs.Counts.{counts_are}
 
 -- ---- one digit
 -- the digits of x have been put, but for those that are left
 pub record Storing (x left p : ℕ) (old planes : List ℕ) : Type 0 where
   pub len : length planes ≡ 99
-  pub fits : left < 2 ^ 64
-  pub within : (a : ℕ) → digit left a ≤ digit x a
+  pub within : (a : ℕ) → a < 64 → digit left a ≤ digit x a
   pub put : (q a : ℕ) → q < 576 → a < 11 → digit_in planes q a ≡ max (digit_in old q a) (if (eqb q p) (digit x a - digit left a) 0)
 
 -- in one word the digit tells the position
@@ -52,66 +50,64 @@ module _ (planes : List ℕ) (b p d v : ℕ) (l : length planes ≡ 99) (h : p <
       ∙ u.put (q % 64) ∙ ap (max (digit (get_or planes (b * 9 + p / 64) 0) (q % 64))) (same_word q p d e)))
       (λ n. other q b (omega arith) ∙ omega (arith, if_other q p d (λ e. n (ap (λ (z : ℕ). z / 64) e))))
 
-pub storing_start : {x p : ℕ} {planes : List ℕ} → x < 2 ^ 11 → length planes ≡ 99 → Storing x x p planes planes
-storing_start {x} {p} f l =
+pub storing_start : {x p : ℕ} {planes : List ℕ} → length planes ≡ 99 → Storing x x p planes planes
+storing_start {x} {p} l =
     record {
       len = l;
-      fits = omega arith;
-      within = λ a. omega arith;
+      within = λ a h. omega arith;
       put = λ q a g h.
           by_eq q p (λ e. omega (arith, if_same q p (digit x a - digit x a) e)) (λ n. omega (arith, if_other q p (digit x a - digit x a) n));
     }
 
-module _ {x left p : ℕ} {old planes : List ℕ} (s : Storing x left p old planes) (some : left ≢ 0) where
-  abbrev next : ℕ
-  next = count_trailing_zeros 64 left
+module _ {x left p : ℕ} {old planes : List ℕ} (s : Storing x left p old planes) {b : ℕ} (next : ℕ) (e : places 0 64 left ≡ b ∷ places 0 64 next) where
+  low : b < 64
+  low = turn_below left next e
 
-  next_one : digit left next ≡ 1
-  next_one = omega (arith, next_digit s.fits some next, if_same next next 1 refl, digit_most left next)
+  gone : (a : ℕ) → a < 64 → digit next a + if (eqb a b) 1 0 ≡ digit left a
+  gone a h = turn_digit left next e a h
 
-  pub storing_zeros : next < 64
-  storing_zeros = next_zeros s.fits some
+  once : digit left b ≡ 1
+  once = omega (arith, gone b low, if_same b b 1 refl, digit_most left b)
 
   -- a count below 2 ^ 11 has no digit that is 1 behind the eleventh
-  pub storing_low : x < 2 ^ 11 → next < 11
-  storing_low h = by_lt next 11 (λ l. l) (λ l. absurd (omega (arith, next_one, s.within next, digit_past 11 x next h l)))
+  pub storing_low : x < 2 ^ 11 → b < 11
+  storing_low h = by_lt b 11 (λ l. l) (λ l. absurd (omega (arith, once, s.within b low, digit_past 11 x b h l)))
 
-  pub storing_on : {v : ℕ} → x < 2 ^ 11 → p < 528 → PutAt (get_or planes (next * 9 + p / 64) 0) (p % 64) 1 v
-      → Storing x (rest left) p old (set planes (next * 9 + p / 64) v)
+  pub storing_on : {v : ℕ} → x < 2 ^ 11 → p < 528 → PutAt (get_or planes (b * 9 + p / 64) 0) (p % 64) 1 v
+      → Storing x next p old (set planes (b * 9 + p / 64) v)
   storing_on {v} h o u =
       let l = s.len in
       let t = storing_low h in
       record {
-        len = length-set planes (next * 9 + p / 64) v ∙ l;
-        fits = next_fits s.fits some;
-        within = λ a. omega (arith, next_digit s.fits some a, s.within a);
+        len = length-set planes (b * 9 + p / 64) v ∙ l;
+        within = λ a y. omega (arith, gone a y, s.within a y);
         put = λ q a z y.
-            by_eq a next (λ e. rw e (now q z))
-            (λ n. other planes next p 1 v l o t u q a (omega arith) ∙ s.put q a z y
-            ∙ ap (λ (d : ℕ). max (digit_in old q a) (if (eqb q p) (digit x a - d) 0)) (omega (arith, next_digit s.fits some a, if_other a next 1 n)));
+            by_eq a b (λ e. rw e (now q z))
+            (λ n. other planes b p 1 v l o t u q a (omega arith) ∙ s.put q a z y
+            ∙ ap (λ (d : ℕ). max (digit_in old q a) (if (eqb q p) (digit x a - d) 0)) (omega (arith, gone a (omega arith), if_other a b 1 n)));
       }
     where
-      now : (q : ℕ) → q < 576 → digit_in (set planes (next * 9 + p / 64) v) q next
-          ≡ max (digit_in old q next) (if (eqb q p) (digit x next - digit (rest left) next) 0)
+      now : (q : ℕ) → q < 576 → digit_in (set planes (b * 9 + p / 64) v) q b
+          ≡ max (digit_in old q b) (if (eqb q p) (digit x b - digit next b) 0)
       now q z =
           let t = storing_low h in
-          let new = here planes next p 1 v s.len o t u q z in
-          let was = s.put q next z t in
-          let one = next_one in
-          let gone = next_digit s.fits some next in
-          let same = if_same next next 1 refl in
-          let most = digit_most x next in
-          let more = s.within next in
+          let new = here planes b p 1 v s.len o t u q z in
+          let was = s.put q b z t in
+          let one = once in
+          let less = gone b low in
+          let same = if_same b b 1 refl in
+          let most = digit_most x b in
+          let more = s.within b low in
           by_eq q p
-          (λ e. omega (arith, if_same q p 1 e, if_same q p (digit x next - digit left next) e, if_same q p (digit x next - digit (rest left) next) e))
-          (λ n. omega (arith, if_other q p 1 n, if_other q p (digit x next - digit left next) n, if_other q p (digit x next - digit (rest left) next) n))
+          (λ e. omega (arith, if_same q p 1 e, if_same q p (digit x b - digit left b) e, if_same q p (digit x b - digit next b) e))
+          (λ n. omega (arith, if_other q p 1 n, if_other q p (digit x b - digit left b) n, if_other q p (digit x b - digit next b) n))
 
-pub storing_end : {x left p : ℕ} {old planes : List ℕ} → Storing x left p old planes → left ≡ 0 → Stored x p old planes
+pub storing_end : {x left p : ℕ} {old planes : List ℕ} → Storing x left p old planes → places 0 64 left ≡ [] → Stored x p old planes
 storing_end {x} {left} {p} {old} s e =
     record {
       len = s.len;
       put = λ q a z y.
-          let none : digit left a ≡ 0 = ap (λ (d : ℕ). digit d a) e ∙ digit_none a in
+          let none : digit left a ≡ 0 = end_digit left e a (omega arith) in
           let all : digit x a - digit left a ≡ digit x a = omega arith in
           s.put q a z y ∙ ap (λ (d : ℕ). max (digit_in old q a) (if (eqb q p) d 0)) all;
     }

@@ -1,6 +1,8 @@
 -- Lists with a number for each position, and tables with one for each end of each position.
 use Rattle.std.specs.Prelude.{ℕ, ◌+◌, ◌≡◌, List, length, get_or}
 use Rattle.rules.specs.Flows.{End, inputs, links}
+use Rattle.planes.specs.declared.ends.End as told
+use Rattle.planes.specs.declared.ends.End.TheVariants.{Input, Link}
 
 -- A list has room for all positions; and one for both ends of each.
 abbrev pub Wide : List ℕ → Type 0
@@ -20,3 +22,12 @@ first_place links = 528
 
 abbrev pub tabled : List ℕ → End → ℕ → ℕ
 tabled table s = lookup table (first_place s)
+
+-- The end that a function is told, and the one across from an end.
+abbrev pub end_of : told.End → End
+end_of Input = inputs
+end_of Link = links
+
+abbrev pub across : End → End
+across inputs = links
+across links = inputs

@@ -1,95 +1,111 @@
 //! The printing of a frame.
 #![tactic(auto)]
 
-ghost use Rattle.std.specs.Prelude.{◌≡◌, ◌≤◌, length};
-ghost use Rattle.lines.specs.Lines.{Printed, PrintedIn};
+ghost use Rattle.std.specs.Prelude.{◌≡◌, ◌<◌, ◌≤◌, ◌*◌, length, take, drop, is_some, IfSome};
+ghost use Rattle.lines.specs.Lines.{Printed};
+ghost use Rattle.lines.specs.Puts.{Puts, PutsIn};
 ghost use Rattle.sheets.specs.Sheet.{print_cells, print_slots, print_frame};
 ghost use Rattle.printing.specs.Printing.{Sized, of_size, frame_bytes, cell_of, slot_line};
 
-use lines::{put_both, put_word};
+use lines::Line;
+
+// A frame of up to 16 ports and 1024 slots, with an entry for each input and slot.
+#[derive(Clone, Copy)]
+struct Frame<'a> {
+    ports: usize,
+    slots: usize,
+    entries: &'a [u16],
+    ghost sized: { Sized ports slots entries.now },
+}
+
+impl<'a> Frame<'a> {
+    // None where the entries are of another size.
+    fn new(ports: usize, slots: usize, entries: &'a [u16]) -> Option<Frame<'a>>
+        ensures size { is_some result ≡ of_size ports slots (length entries.now) }
+        ensures same { IfSome result (λ frame. (frame.ports ≡ ports) × (frame.slots ≡ slots) × (frame.entries.now ≡ entries.now)) }
+    {
+        if 16 < ports || 1024 < slots || entries.len() != slots * ports {
+            return None;
+        }
+        Some(Frame {
+            ports,
+            slots,
+            entries,
+        })
+    }
+
+    // The entries of slot s, from 0.
+    fn slot(&self, s: usize) -> &'a [u16]
+        requires { s < self.now.slots }
+        ensures run { result.now ≡ take self.now.ports (drop (s * self.now.ports) self.now.entries.now) }
+        ensures few { length result.now ≤ 16 }
+    {
+        let from = s * self.ports;
+        let end = from + self.ports;
+        &self.entries[from..end]
+    }
+}
 
 // Writes the flow that an input sends a cell of in a slot: nothing where it is idle.
-fn put_cell(out: &mut [u8], at: usize, flow: usize) -> usize
-    requires { at ≤ 1000000000 }
-    ensures { PrintedIn 21 out.old at (cell_of flow) out.new result }
+#[inline]
+fn put_cell(line: &mut Line<'_>, flow: usize)
+    requires { line.old.at ≤ 1000000000 }
+    ensures same { line.new.out.ghost_name ≡ line.old.out.ghost_name }
+    ensures printed { PutsIn 21 line.old (cell_of flow) line.new }
 {
     if flow == 0 {
-        return at;
+        return;
     }
-    put_both(out, at, b" ", flow)
+    line.put_both(b" ", flow);
 }
 
 // Writes the flows of a slot, by rising input.
-fn put_cells(out: &mut [u8], at: usize, slot: &[u16]) -> usize
-    requires { (at ≤ 100000000) × (length slot.now ≤ 16) }
-    ensures { PrintedIn 336 out.old at (print_cells slot.now) out.new result }
+fn put_cells(line: &mut Line<'_>, slot: &[u16])
+    requires place { line.old.at ≤ 100000000 }
+    requires few { length slot.now ≤ 16 }
+    ensures same { line.new.out.ghost_name ≡ line.old.out.ghost_name }
+    ensures printed { PutsIn 336 line.old (print_cells slot.now) line.new }
 {
-    let mut i: usize = 0;
-    let mut next = at;
-    while i < slot.len() {
-        let flow = bits::number(slot[i]);
-        next = put_cell(out, next, flow);
-        i += 1;
+    for entry in slot {
+        put_cell(line, usize::from(*entry));
     }
-    next
 }
 
 // Writes the line of a slot.
-fn put_slot(out: &mut [u8], at: usize, number: usize, slot: &[u16]) -> usize
-    requires { (at ≤ 10000000) × (length slot.now ≤ 16) }
-    ensures { PrintedIn 400 out.old at (slot_line number slot.now) out.new result }
+fn put_slot(line: &mut Line<'_>, number: usize, slot: &[u16])
+    requires place { line.old.at ≤ 10000000 }
+    requires few { length slot.now ≤ 16 }
+    ensures same { line.new.out.ghost_name ≡ line.old.out.ghost_name }
+    ensures printed { PutsIn 400 line.old (slot_line number slot.now) line.new }
 {
-    let next = put_both(out, at, b"(slot ", number);
-    let next = put_cells(out, next, slot);
-    put_word(out, next, b")\n")
+    line.put_both(b"(slot ", number);
+    put_cells(line, slot);
+    line.put_word(b")\n");
 }
 
 // Writes the lines of the slots of a frame.
-fn put_slots(out: &mut [u8], at: usize, ports: usize, slots: usize, frame: &[u16]) -> usize
-    requires { (at ≤ 100) × Sized ports slots frame.now }
-    ensures { Printed out.old at (print_slots ports 1 slots frame.now) out.new result }
+fn put_slots(line: &mut Line<'_>, frame: Frame<'_>)
+    requires { line.old.at ≤ 100 }
+    ensures same { line.new.out.ghost_name ≡ line.old.out.ghost_name }
+    ensures printed { Puts line.old (print_slots frame.entry.ports 1 frame.entry.slots frame.entry.entries.now) line.new }
 {
-    let mut s: usize = 0;
-    let mut next = at;
-    while s < slots {
-        let from = s * ports;
-        let end = from + ports;
-        next = put_slot(out, next, s + 1, &frame[from..end]);
-        s += 1;
+    // By number and not by `chunks_exact`: a frame of no ports has slots too.
+    for s in 0..frame.slots {
+        put_slot(line, s + 1, frame.slot(s));
     }
-    next
-}
-
-// Writes a frame of its size.
-fn put_sized(out: &mut [u8], ports: usize, slots: usize, frame: &[u16]) -> usize
-    requires { Sized ports slots frame.now }
-    ensures { Printed out.old 0 (print_frame ports slots frame.now) out.new result }
-{
-    let next = put_both(out, 0, b"(frame (ports ", ports);
-    let next = put_both(out, next, b") (slots ", slots);
-    let next = put_word(out, next, b"))\n");
-    put_slots(out, next, ports, slots, frame)
-}
-
-// Up to 16 ports and 1024 slots, and an entry for each input and slot.
-fn of_size(ports: usize, slots: usize, entries: usize) -> bool
-    ensures { result ≡ of_size ports slots entries }
-{
-    if 16 < ports {
-        return false;
-    }
-    if 1024 < slots {
-        return false;
-    }
-    entries == slots * ports
 }
 
 // Writes a frame; nothing where it is not of its size.
 pub fn put_frame(out: &mut [u8], ports: usize, slots: usize, frame: &[u16]) -> usize
     ensures { Printed out.old 0 (frame_bytes ports slots frame.now) out.new result }
 {
-    if of_size(ports, slots, frame.len()) {
-        return put_sized(out, ports, slots, frame);
-    }
-    0
+    let Some(frame) = Frame::new(ports, slots, frame) else {
+        return 0;
+    };
+    let mut line = Line::new(out);
+    line.put_both(b"(frame (ports ", ports);
+    line.put_both(b") (slots ", slots);
+    line.put_word(b"))\n");
+    put_slots(&mut line, frame);
+    line.at
 }

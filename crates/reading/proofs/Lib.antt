@@ -1,2 +1,3 @@
+-- Laws of the reading of a sheet.
 pub mod Pairs
 pub mod Lines

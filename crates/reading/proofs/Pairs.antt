@@ -1,21 +1,12 @@
 -- A pair line, read word by word.
-use Prim.Native.Nat.{ℕ, ◌+◌, ◌≤◌}
-use mathlib.Core.Path.{◌≡◌, refl, sym, ap, ◌∙◌}
-use mathlib.Core.List.{List, ◌++◌, append_assoc}
-use mathlib.Core.Bool.{Bool, true, false, true≢false}
-use native.Mathlib.Omega.{arith}
-use lib.ListN.{drop}
+use Rattle.std.proofs.Common.{◌≡◌, ℕ, ◌≤◌, ◌≢◌, List, ◌++◌, None, refl, sym, ap, ◌∙◌, append_assoc}
+use Rattle.std.specs.declared.option.Option.{Option}
 use Rattle.sheets.specs.Text.{text, decimal}
 use Rattle.sheets.specs.Sheet.{pair_line}
-use Rattle.text.specs.Places.{starts, NoNumberAt, NumberOf, Limit}
-use Rattle.reading.specs.Reading.{PairAt, NoPairAt}
-use Rattle.text.specs.declared.NumberRead.{NumberRead}
-use Rattle.text.specs.declared.NumberRead.TheVariants.{Number, NoNumber}
-use Rattle.text.proofs.Places.{rest_is, number_known, behind, starts_self, behind_inside}
-
--- the numbers of a sheet have a limit
-pub sheet_limit : Limit 65535
-sheet_limit = record { one_digit = omega arith; million = omega arith }
+use Rattle.text.specs.Numbers.{Number, NoNumber}
+use Rattle.text.proofs.Numbers.{rest_is}
+use Rattle.reading.specs.Reading.{PairAt, NoPairAt, FormOf}
+use Rattle.reading.specs.declared.Pair.{Pair}
 
 abbrev of_words : ℕ → ℕ → ℕ → List ℕ → List ℕ
 of_words i o m t =
@@ -31,52 +22,40 @@ behind_in o m t = text ") (out " ++ (decimal o ++ (text ") (cells " ++ (decimal 
 abbrev behind_out : ℕ → List ℕ → List ℕ
 behind_out m t = text ") (cells " ++ (decimal m ++ (text "))\n" ++ t))
 
-pub form_first : (s : List ℕ) (at : ℕ) (r : NumberRead) → NumberOf 65535 (text "(pair (in ") s at r → r ≡ NoNumber → NoPairAt s at
-form_first s at r y g =
-    let x : NoNumberAt 65535 (text "(pair (in ") s at = rw g at y in
-    record { never = λ i o m t a b c e. x.never i (behind_in o m t) a (λ _. refl) (e ∙ pair_append i o m t) }
+pub form_none : (s : List ℕ) (r : Option Pair) → r ≡ None → NoPairAt s → FormOf s r
+form_none s r e x = rw e x
 
-module _ (s : List ℕ) (at : ℕ) (r1 : NumberRead) (i n1 : ℕ) (y1 : NumberOf 65535 (text "(pair (in ") s at r1) (e1 : r1 ≡ Number i n1) where
-  at_output : (j o m : ℕ) (t : List ℕ) → j ≤ 65535 → drop at s ≡ pair_line j o m ++ t → drop n1 s ≡ behind_in o m t
-  at_output j o m t a e =
-      rest_is 65535 (text "(pair (in ") s at i n1 j (behind_in o m t) (number_known 65535 (text "(pair (in ") s at r1 i n1 y1 e1) a (λ _. refl) (e ∙ pair_append j o m t)
+pub form_first : (s : List ℕ) → NoNumber 65535 (text "(pair (in ") s → NoPairAt s
+form_first s x = record { never = λ i o m t a b c e. x.never i (behind_in o m t) a (λ _. refl) (e ∙ pair_append i o m t) }
 
-  pub form_second : (r : NumberRead) → NumberOf 65535 (text ") (out ") s n1 r → r ≡ NoNumber → NoPairAt s at
-  form_second r y g =
-      let x : NoNumberAt 65535 (text ") (out ") s n1 = rw g at y in
-      record { never = λ j o m t a b c e. x.never o (behind_out m t) b (λ _. refl) (at_output j o m t a e) }
+module _ (s : List ℕ) (i : ℕ) (s1 : List ℕ) (x : Number 65535 (text "(pair (in ") s i s1) where
+  at_output : (j o m : ℕ) (t : List ℕ) → j ≤ 65535 → s ≡ pair_line j o m ++ t → s1 ≡ behind_in o m t
+  at_output j o m t a e = rest_is 65535 (text "(pair (in ") s i s1 j (behind_in o m t) x a (λ _. refl) (e ∙ pair_append j o m t)
 
-  module _ (r2 : NumberRead) (o n2 : ℕ) (y2 : NumberOf 65535 (text ") (out ") s n1 r2) (e2 : r2 ≡ Number o n2) where
-    at_cells : (j p m : ℕ) (t : List ℕ) → j ≤ 65535 → p ≤ 65535 → drop at s ≡ pair_line j p m ++ t → drop n2 s ≡ behind_out m t
-    at_cells j p m t a b e =
-        rest_is 65535 (text ") (out ") s n1 o n2 p (behind_out m t) (number_known 65535 (text ") (out ") s n1 r2 o n2 y2 e2) b (λ _. refl) (at_output j p m t a e)
+  pub form_second : NoNumber 65535 (text ") (out ") s1 → NoPairAt s
+  form_second n = record { never = λ j o m t a b c e. n.never o (behind_out m t) b (λ _. refl) (at_output j o m t a e) }
 
-    pub form_third : (r : NumberRead) → NumberOf 65535 (text ") (cells ") s n2 r → r ≡ NoNumber → NoPairAt s at
-    form_third r y g =
-        let x : NoNumberAt 65535 (text ") (cells ") s n2 = rw g at y in
-        record { never = λ j p m t a b c e. x.never m (text "))\n" ++ t) c (λ _. refl) (at_cells j p m t a b e) }
+  module _ (o : ℕ) (s2 : List ℕ) (y : Number 65535 (text ") (out ") s1 o s2) where
+    at_cells : (j p m : ℕ) (t : List ℕ) → j ≤ 65535 → p ≤ 65535 → s ≡ pair_line j p m ++ t → s2 ≡ behind_out m t
+    at_cells j p m t a b e = rest_is 65535 (text ") (out ") s1 o s2 p (behind_out m t) y b (λ _. refl) (at_output j p m t a e)
 
-    module _ (r3 : NumberRead) (m n3 : ℕ) (b : Bool) (y3 : NumberOf 65535 (text ") (cells ") s n2 r3) (e3 : r3 ≡ Number m n3)
-        (f : b ≡ starts (text "))\n") (drop n3 s)) where
-      pub form_yes : b ≡ true → PairAt s at i o m (n3 + 3)
-      form_yes e =
-          let x = number_known 65535 (text "(pair (in ") s at r1 i n1 y1 e1 in
-          let y = number_known 65535 (text ") (out ") s n1 r2 o n2 y2 e2 in
-          let z = number_known 65535 (text ") (cells ") s n2 r3 m n3 y3 e3 in
+    pub form_third : NoNumber 65535 (text ") (cells ") s2 → NoPairAt s
+    form_third n = record { never = λ j p m t a b c e. n.never m (text "))\n" ++ t) c (λ _. refl) (at_cells j p m t a b e) }
+
+    module _ (m : ℕ) (s3 : List ℕ) (z : Number 65535 (text ") (cells ") s2 m s3) where
+      pub form_end : ((t : List ℕ) → s3 ≢ text "))\n" ++ t) → NoPairAt s
+      form_end n =
+          record {
+            never = λ j p k t a b c e.
+                n t (rest_is 65535 (text ") (cells ") s2 m s3 k (text "))\n" ++ t) z c (λ _. refl) (at_cells j p k t a b e));
+          }
+
+      pub form_yes : (t : List ℕ) → s3 ≡ text "))\n" ++ t → PairAt s i o m t
+      form_yes t e =
           record {
             stands = x.stands
                 ∙ (ap (λ k. text "(pair (in " ++ (decimal i ++ k)) (y.stands
                 ∙ ap (λ k. text ") (out " ++ (decimal o ++ k)) (z.stands
-                ∙ ap (λ k. text ") (cells " ++ (decimal m ++ k)) (behind (text "))\n") s n3 (sym f ∙ e)))) ∙ sym (pair_append i o m (drop (n3 + 3) s)));
+                ∙ ap (λ k. text ") (cells " ++ (decimal m ++ k)) e)) ∙ sym (pair_append i o m t));
             low = (x.low, y.low, z.low);
-            inside = behind_inside (text "))\n") s n3 z.inside (sym f ∙ e);
-          }
-
-      pub form_end : b ≡ false → NoPairAt s at
-      form_end g =
-          record {
-            never = λ j p n t a d c e.
-                let z = number_known 65535 (text ") (cells ") s n2 r3 m n3 y3 e3 in
-                let k = rest_is 65535 (text ") (cells ") s n2 m n3 n (text "))\n" ++ t) z c (λ _. refl) (at_cells j p n t a d e) in
-                true≢false (sym (starts_self (text "))\n") t) ∙ (ap (starts (text "))\n")) (sym k) ∙ (sym f ∙ g)));
           }

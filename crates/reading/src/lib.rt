@@ -1,211 +1,146 @@
 //! The reading of a sheet: what its lines ask for.
 #![tactic(auto)]
 
-ghost use Rattle.std.specs.Prelude.{◌≡◌, [], ◌≤◌, ◌<◌, length, drop};
+ghost use Rattle.std.specs.Prelude.{◌≡◌, [], ◌≤◌, ◌<◌, length};
 ghost use Rattle.sheets.specs.Text.{lines};
 ghost use Rattle.sheets.specs.Sheet.{read_ports, read_pairs};
 ghost use Rattle.reading.specs.Reading.{FormOf, PortsOf, SlotsOf, PairOf, SheetOf, Fresh, list_left};
 
 use calls::Refusal;
 use flows::{LIST_MOST, put_flow};
-use text::{NumberRead, number_after, one_number, word};
+use text::{NumberRead, number_after, one_number};
 
 // The largest number of a sheet.
 const NUMBER_MOST: usize = 65535;
 
-// The numbers of a pair line, and the place behind it.
-#[derive(Drop)]
-enum PairForm {
-    Form {
-        input: usize,
-        output: usize,
-        cells: usize,
-        next: usize,
-    },
-    NoForm,
+// The numbers of a pair line, and the bytes behind it.
+#[derive(Clone, Copy)]
+struct Pair<'a> {
+    input: usize,
+    output: usize,
+    cells: usize,
+    rest: &'a [u8],
 }
 
-// What the reading of a line, or of the sheet, comes to.
-#[derive(Drop)]
-pub enum Reading {
-    Ports {
-        ports: usize,
-        next: usize,
-    },
-    Slots {
-        slots: usize,
-        next: usize,
-    },
-    Pair {
-        input: usize,
-        output: usize,
-        cells: usize,
-        next: usize,
-    },
-    Loads {
-        ports: usize,
-        slots: usize,
-        flows: usize,
-    },
-    Refused(Refusal),
+// What a sheet asks for, beside its list of flows, which stands in a list that the caller lends: no memory is taken for it.
+#[derive(Clone, Copy, Debug, PartialEq, Eq)]
+pub struct Loads {
+    pub ports: usize,
+    pub slots: usize,
+    pub flows: usize,
 }
 
 // Reads the numbers of a pair line.
-fn pair_form(sheet: &[u8], at: usize) -> PairForm
-    requires { at ≤ length sheet.now }
-    ensures { FormOf sheet.now at result }
+fn pair_form(bytes: &[u8]) -> Option<Pair<'_>>
+    ensures { FormOf bytes.now result }
 {
-    let first = number_after(sheet, at, b"(pair (in ", NUMBER_MOST);
-    let NumberRead::Number { value: input, next } = first else {
-        return PairForm::NoForm;
-    };
-    let second = number_after(sheet, next, b") (out ", NUMBER_MOST);
-    let NumberRead::Number {
+    let NumberRead { value: input, rest } = number_after(bytes, b"(pair (in ", NUMBER_MOST)?;
+    let NumberRead {
         value: output,
-        next,
-    } = second
-    else {
-        return PairForm::NoForm;
-    };
-    let third = number_after(sheet, next, b") (cells ", NUMBER_MOST);
-    let NumberRead::Number { value: cells, next } = third else {
-        return PairForm::NoForm;
-    };
-    if word(sheet, next, b"))\n") {
-        return PairForm::Form {
-            input,
-            output,
-            cells,
-            next: next + 3,
-        };
-    }
-    PairForm::NoForm
+        rest,
+    } = number_after(rest, b") (out ", NUMBER_MOST)?;
+    let NumberRead { value: cells, rest } = number_after(rest, b") (cells ", NUMBER_MOST)?;
+    let rest = rest.strip_prefix(b"))\n")?;
+    Some(Pair {
+        input,
+        output,
+        cells,
+        rest,
+    })
 }
 
 // Line 1: 7, then 1.
-fn ports_line(sheet: &[u8]) -> Reading
+fn ports_line(sheet: &[u8]) -> Result<NumberRead<'_>, Refusal>
     ensures { PortsOf sheet.now result }
 {
-    let read = one_number(sheet, 0, b"(ports ", NUMBER_MOST);
-    let NumberRead::Number { value: ports, next } = read else {
-        return Reading::Refused(Refusal::LineForm { line: 1 });
-    };
-    if checks::outside(16, ports) {
-        return Reading::Refused(Refusal::Ports);
+    let read = one_number(sheet, b"(ports ", NUMBER_MOST).ok_or(Refusal::LineForm { line: 1 })?;
+    if checks::outside(16, read.value) {
+        return Err(Refusal::Ports);
     }
-    Reading::Ports { ports, next }
+    Ok(read)
 }
 
-// Line 2: 7, then 2.
-fn slots_line(sheet: &[u8], at: usize, ports: usize) -> Reading
-    requires { at ≤ length sheet.now }
-    ensures { SlotsOf ports sheet.now at result }
+// Line 2: 7, then 2. Apart from line 1, since what is tested and the refusal differ: one function for both would take them as parameters.
+fn slots_line(bytes: &[u8], ports: usize) -> Result<NumberRead<'_>, Refusal>
+    ensures { SlotsOf ports bytes.now result }
 {
-    let read = one_number(sheet, at, b"(slots ", NUMBER_MOST);
-    let NumberRead::Number { value: slots, next } = read else {
-        return Reading::Refused(Refusal::LineForm { line: 2 });
-    };
-    if checks::bad_slots(slots) {
-        return Reading::Refused(Refusal::Slots);
+    let read = one_number(bytes, b"(slots ", NUMBER_MOST).ok_or(Refusal::LineForm { line: 2 })?;
+    if checks::bad_slots(read.value) {
+        return Err(Refusal::Slots);
     }
-    Reading::Slots { slots, next }
+    Ok(read)
 }
 
 // A pair line behind those of so many flows: 7, then 21, then 8.
-fn pair_line(sheet: &[u8], at: usize, ports: usize, flows: usize) -> Reading
-    requires { (at < length sheet.now) × (flows ≤ 512) }
-    ensures { PairOf ports sheet.now at flows result }
+fn pair_line(bytes: &[u8], ports: usize, flows: usize) -> Result<Pair<'_>, Refusal>
+    requires some { 0 < length bytes.now }
+    requires few { flows ≤ 512 }
+    ensures { PairOf ports bytes.now flows result }
 {
     let line = flows + 3;
-    let read = pair_form(sheet, at);
-    let PairForm::Form {
-        input,
-        output,
-        cells,
-        next,
-    } = read
-    else {
-        return Reading::Refused(Refusal::LineForm { line });
-    };
+    let pair = pair_form(bytes).ok_or(Refusal::LineForm { line })?;
     if 512 <= flows {
-        return Reading::Refused(Refusal::TooManyFlows);
+        return Err(Refusal::TooManyFlows);
     }
-    if checks::outside(ports, input) {
-        return Reading::Refused(Refusal::LinePort { line });
+    if checks::outside(ports, pair.input) || checks::outside(ports, pair.output) {
+        return Err(Refusal::LinePort { line });
     }
-    if checks::outside(ports, output) {
-        return Reading::Refused(Refusal::LinePort { line });
-    }
-    Reading::Pair {
-        input,
-        output,
-        cells,
-        next,
-    }
+    Ok(pair)
 }
 
 // The pair lines in turn, each one flow more of the list, on link 1.
 fn read_pairs(
-    sheet: &[u8],
-    at: usize,
+    bytes: &[u8],
     ports: usize,
     slots: usize,
     list: &mut [u16; LIST_MOST],
-) -> Reading
-    requires { (at ≤ length sheet.now) × Fresh ports slots list.old }
-    ensures { SheetOf (read_pairs ports slots 3 [] (lines (drop at sheet.now))) list.new result }
+) -> Result<Loads, Refusal>
+    requires { Fresh ports slots list.old }
+    ensures { SheetOf (read_pairs ports slots 3 [] (lines bytes.now)) list.new result }
 {
-    let mut next = at;
+    let mut rest = bytes;
     let mut flows: usize = 0;
-    while next < sheet.len() {
-        let read = pair_line(sheet, next, ports, flows);
-        let Reading::Pair {
-            input,
-            output,
-            cells,
-            next: after,
-        } = read
+    // No iterator of the library has the lines: where one ends is known when it is read.
+    while !rest.is_empty() {
+        let line = pair_line(rest, ports, flows);
+        let Ok(
+            Pair {
+                input,
+                output,
+                cells,
+                rest: behind,
+            },
+        ) = line
         else {
-            return read;
+            return Err(line.unwrap_err());
         };
         put_flow(list, flows, input, output, cells);
-        next = after;
+        rest = behind;
         flows += 1;
     }
-    Reading::Loads {
+    Ok(Loads {
         ports,
         slots,
         flows,
-    }
+    })
 }
 
 // Reads the lines in turn; a line's refusal is the sheet's, and the list is written where there is none.
-pub fn read_lines(sheet: &[u8], list: &mut [u16; LIST_MOST]) -> Reading
-    ensures { SheetOf (read_ports (lines sheet.now)) list.new result
-        × (list.new ≡ list_left (read_ports (lines sheet.now)) list.old) }
+pub fn read_lines(sheet: &[u8], list: &mut [u16; LIST_MOST]) -> Result<Loads, Refusal>
+    ensures asked { SheetOf (read_ports (lines sheet.now)) list.new result }
+    ensures left { list.new ≡ list_left (read_ports (lines sheet.now)) list.old }
 {
+    // A project rule names the form for line readings: an enum that the sheet reader takes apart by `let .. else`, passing a refusal up.
     let first = ports_line(sheet);
-    let Reading::Ports { ports, next } = first else {
-        return first;
+    let Ok(NumberRead { value: ports, rest }) = first else {
+        return Err(first.unwrap_err());
     };
-    let second = slots_line(sheet, next, ports);
-    let Reading::Slots { slots, next: after } = second else {
-        return second;
+    let second = slots_line(rest, ports);
+    let Ok(NumberRead { value: slots, rest }) = second else {
+        return Err(second.unwrap_err());
     };
     let mut taken = [0u16; LIST_MOST];
-    let read = read_pairs(sheet, after, ports, slots, &mut taken);
-    let Reading::Loads {
-        ports,
-        slots,
-        flows,
-    } = read
-    else {
-        return read;
-    };
+    let loads = read_pairs(rest, ports, slots, &mut taken)?;
     *list = taken;
-    Reading::Loads {
-        ports,
-        slots,
-        flows,
-    }
+    Ok(loads)
 }

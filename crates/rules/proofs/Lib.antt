@@ -3,6 +3,7 @@ pub mod Cases
 pub mod Lists
 pub mod Sums
 pub mod Kept
+pub mod Ranges
 pub mod Searches
 pub mod Integers
 pub mod Levels

@@ -1,5 +1,5 @@
 -- The few words that the other pages share: choices, sums, searches, nearness.
-use Rattle.std.specs.Prelude.{ℕ, suc, zero, ◌+◌, ◌≤◌, List, [], ◌∷◌, Bool, true, false, leb}
+use Rattle.std.specs.Prelude.{ℕ, suc, zero, ◌+◌, ◌≤◌, List, [], ◌∷◌, Bool, true, false, leb, Option, Some, None}
 
 abbrev pub if : {A : Type 0} → Bool → A → A → A
 if true a b = a
@@ -41,6 +41,11 @@ keep t (x ∷ l) = if (t x) (x ∷ keep t l) (keep t l)
 abbrev pub first : (ℕ → Bool) → ℕ → ℕ → ℕ
 first t a zero = a
 first t a (suc n) = if (t a) a (first t (suc a) n)
+
+-- the first of the n numbers from a on that passes a test, where one does
+abbrev pub found : (ℕ → Bool) → ℕ → ℕ → Option ℕ
+found t a zero = None
+found t a (suc n) = if (t a) (Some a) (found t (suc a) n)
 
 -- f 0 + f 1 + .. + f (n - 1)
 unfoldable pub sum_to : ℕ → (ℕ → ℕ) → ℕ

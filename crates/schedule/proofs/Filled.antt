@@ -1,6 +1,11 @@
 -- The counts of a load that fits are those of a block, and what is made of them is made of the list.
 use Prim.Native.Nat.{ℕ, suc, ◌*◌, ◌^◌, ◌≤◌, ◌<◌}
-use mathlib.Core.Path.{◌≡◌, sym, ap, ap₂, ◌∙◌}
+use mathlib.Core.Path.{◌≡◌, refl, sym, ap, ap₂, ◌∙◌}
+use lib.Dec.{eqb}
+use borrow.Author.Tests.{ne_eqb}
+use Rattle.std.specs.declared.option.Option.{Option}
+use Rattle.std.specs.declared.option.Option.TheVariants.{None, Some}
+use Rattle.rules.specs.Words.{if}
 use mathlib.Core.List.{List}
 use native.Mathlib.Omega.{arith}
 use lib.ListN.{length, get_or, replicate}
@@ -26,6 +31,13 @@ module _ {ports slots : ℕ} {list buffer : List ℕ} (f : Fillable ports slots 
 
   pub levels_low : levels slots ≤ 10
   levels_low = omega (arith, level_low f.framed)
+
+  -- so it is a power of two whose exponent is told
+  pub levels_told : {o : Option ℕ} → o ≡ if (eqb (levels slots) 11) None (Some (levels slots)) → o ≡ Some (levels slots)
+  levels_told e = e ∙ rw (ne_eqb (levels slots) 11 (omega (arith, levels_low))) refl
+
+  pub levels_is : {o : Option ℕ} {k : ℕ} → o ≡ if (eqb (levels slots) 11) None (Some (levels slots)) → o ≡ Some k → k ≡ levels slots
+  levels_is e f = let told = levels_told e in cc
 
   pub cells_room : (q : ℕ) → q < flows list → number_of 2 list q < 2 ^ 11
   cells_room q h = omega (arith, flow_most list f.listed.ported f.fits q h, power, pow_less (levels slots) 11 (omega (arith, levels_low)))

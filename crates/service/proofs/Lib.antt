@@ -1,6 +1,5 @@
 -- What the functions of Service count rest on.
 pub mod Checks
-pub mod Ways
-pub mod Counting
+pub mod Counted
 pub mod Turns
 pub mod Signed

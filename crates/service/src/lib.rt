@@ -1,26 +1,15 @@
 //! Service count: the cells of a run of a frame that repeats, and how far ahead they are.
 #![tactic(auto)]
 
-ghost use Rattle.std.specs.Prelude.{◌≡◌, ◌+◌, ◌-◌, ◌*◌, ◌≤◌, min, ltb, pos, ◌-ℤ◌, length};
-ghost use Rattle.rules.specs.Words.{bit};
+ghost use Rattle.std.specs.Prelude.{◌≡◌, ◌+◌, ◌-◌, ◌*◌, ◌≤◌, ◌<◌, true, ltb, length, pos, ◌-ℤ◌};
 ghost use Rattle.rules.specs.Flows.{port_on};
 ghost use Rattle.rules.specs.Frames.{is_flow_of, cells_on, run_of, repeated};
 ghost use Rattle.calls.specs.Sides.{side_of};
-ghost use Rattle.calls.specs.Service.{class_of, lead_on, served, service};
-ghost use Rattle.checks.specs.Fits.{ListFits, FrameFits, WhoFits};
-ghost use Rattle.service.specs.Ways.{who_number, port_way, way_of, first_entry, next_entry, way_counts, WayFits};
-ghost use Rattle.service.specs.Asked.{CountAsked};
+ghost use Rattle.calls.specs.Service.{class_of, who_within, lead_on, served, service};
 
-use calls::{Answer, Count, Refusal, Service, Side, Who};
-use checks::place_of;
-use flows::{flows_of, number_of};
-
-// The lesser of two numbers.
-fn lesser(a: usize, b: usize) -> usize
-    ensures { result ≡ min a b }
-{
-    if a < b { a } else { b }
-}
+use calls::{Count, Refusal, Side, Who};
+use checks::frames::{Frame, check_frame};
+use checks::reservations::{Reservations, check_list};
 
 // Refusal 13.
 fn too_long(len: usize) -> bool
@@ -29,156 +18,123 @@ fn too_long(len: usize) -> bool
     1_000_000 < len
 }
 
-// 1 or 0.
-fn one_if(counts: bool) -> usize
-    ensures { result ≡ bit counts }
-{
-    if counts { 1 } else { 0 }
-}
-
-// How a count reads entries: those that are a number, wherever they stand; those at one place of each slot that are not 0; those that are
-// flows of an input, or of an output, wherever they stand. The last two are apart so that each loop knows where the port stands.
+// Consecutive slots; the first is numbered from 0.
 #[derive(Clone, Copy)]
-enum Way {
-    Number(usize),
-    Place(usize),
-    InputOf(usize),
-    OutputOf(usize),
+struct Run {
+    start: usize,
+    len: usize,
 }
 
-// How a count for a port reads a frame of a side.
-fn port_way(side: Side, of: Side, port: usize) -> Way
-    requires { 1 ≤ port }
-    ensures { result ≡ port_way side of port }
+// The entries of a run that stays inside the frame.
+fn entries_in<'a>(frame: &Frame<'a>, run: Run) -> &'a [u16]
+    requires { run.start + run.len ≤ frame.now.of.slots }
+    ensures entries { result.now ≡ run_of frame.now.of.ports run.start run.len frame.now.entries.now }
+    ensures few { length result.now ≤ 16384 }
 {
-    if place_of(side) == place_of(of) {
-        return Way::Place(port - 1);
-    }
-    match of {
-        Side::Input => Way::InputOf(port),
-        Side::Output => Way::OutputOf(port),
-    }
-}
-
-// How a count reads a frame of a side.
-fn way_of(side: Side, who: Who) -> Way
-    requires { 1 ≤ who_number who }
-    ensures { result ≡ way_of side who }
-{
-    match who {
-        Who::Flow(flow) => Way::Number(flow),
-        Who::Input(port) => port_way(side, Side::Input, port),
-        Who::Output(port) => port_way(side, Side::Output, port),
-    }
-}
-
-// Index of the first entry that is read.
-fn first_entry(way: Way) -> usize
-    ensures { result ≡ first_entry way }
-{
-    match way {
-        Way::Number(_) => 0,
-        Way::Place(at) => at,
-        Way::InputOf(_) => 0,
-        Way::OutputOf(_) => 0,
-    }
-}
-
-// How many entries later the next one stands.
-fn next_entry(ports: usize, way: Way) -> usize
-    ensures { result ≡ next_entry ports way }
-{
-    match way {
-        Way::Number(_) => 1,
-        Way::Place(_) => ports,
-        Way::InputOf(_) => 1,
-        Way::OutputOf(_) => 1,
-    }
+    let from = run.start * frame.of.ports;
+    let end = from + run.len * frame.of.ports;
+    &frame.entries[from..end]
 }
 
 // An entry is a flow of a port of a side.
-fn is_flow_of(list: &[u16], side: Side, port: usize, entry: usize) -> bool
-    requires { ListFits 16 list.now × (1 ≤ port) }
-    ensures { result ≡ is_flow_of (port_on (side_of side) (port - 1)) list.now entry }
+fn is_flow_of(of: &Reservations<'_>, side: Side, port: usize, entry: usize) -> bool
+    ensures { result ≡ is_flow_of (port_on (side_of side) port) of.now.list.now entry }
 {
-    if entry == 0 {
-        return false;
-    }
-    if flows_of(list) < entry {
-        return false;
-    }
-    number_of(list, entry - 1, place_of(side)) == port
+    (1..=of.flows()).contains(&entry) && of.flow(entry - 1).port(side) == port
 }
 
-// 1 where an entry that is read counts, else 0.
-fn counted(list: &[u16], way: Way, entry: usize) -> usize
-    requires { WayFits list.now way }
-    ensures { result ≡ bit (way_counts way list.now entry) }
+// The cells of a port, from 0, in a run inside a frame of a side. Those of the frame's own side stand at its place of each slot, those of the
+// other anywhere.
+fn port_cells(side: Side, frame: &Frame<'_>, run: Run, of: Side, port: usize) -> usize
+    requires { (run.start + run.len ≤ frame.now.of.slots) × (port < frame.now.of.ports) }
+    ensures { result ≡ cells_on (side_of side) frame.now.of.ports frame.now.of.list.now (port_on (side_of of) port)
+        (run_of frame.now.of.ports run.start run.len frame.now.entries.now) }
 {
-    match way {
-        Way::Number(number) => one_if(entry == number),
-        Way::Place(_) => one_if(entry != 0),
-        Way::InputOf(port) => one_if(is_flow_of(list, Side::Input, port, entry)),
-        Way::OutputOf(port) => one_if(is_flow_of(list, Side::Output, port, entry)),
+    if side == of {
+        let end = run.start + run.len;
+        return (run.start..end)
+            .map(|s| usize::from(frame.slot(s)[port] != 0))
+            .sum();
     }
+    let list = frame.of;
+    entries_in(frame, run)
+        .iter()
+        .map(|entry| usize::from(is_flow_of(&list, of, port, usize::from(*entry))))
+        .sum()
 }
 
-// The cells of whole slots.
-fn slot_cells(side: Side, ports: usize, list: &[u16], who: Who, entries: &[u16]) -> usize
-    requires { WhoFits ports list.now who × (length entries.now ≤ 16384) }
-    ensures { result ≡ cells_on (side_of side) ports list.now (class_of who) entries.now }
-{
-    let way = way_of(side, who);
-    let step = next_entry(ports, way);
-    let mut sum: usize = 0;
-    let mut q: usize = first_entry(way);
-    while q < entries.len() {
-        sum += counted(list, way, bits::number(entries[q]));
-        q += step;
-    }
-    sum
-}
-
-// The cells of a run that stays inside the frame.
-fn inside_cells(
+// Whom a count is for, in a frame of a side; refusal 12 does not turn it away.
+#[derive(Clone, Copy)]
+struct Asked<'a> {
     side: Side,
-    ports: usize,
-    slots: usize,
-    list: &[u16],
-    frame: &[u16],
+    frame: &'a Frame<'a>,
     who: Who,
-    start: usize,
-    len: usize,
-) -> usize
-    requires { FrameFits ports slots frame.now × WhoFits ports list.now who × (start + len ≤ slots) }
-    ensures { result ≡ cells_on (side_of side) ports list.now (class_of who) (run_of ports start len frame.now) }
-{
-    let from = start * ports;
-    let to = from + len * ports;
-    slot_cells(side, ports, list, who, &frame[from..to])
+    ghost within: { who_within frame.now.of.ports frame.now.of.list.now who ≡ true },
 }
 
-// The cells of a run of a frame that repeats for ever, from the slot after `start` others on, by what the whole frame holds.
-fn run_cells(
-    side: Side,
-    ports: usize,
-    slots: usize,
-    list: &[u16],
-    frame: &[u16],
-    who: Who,
-    start: usize,
-    len: usize,
-    whole: usize,
-) -> usize
-    requires { CountAsked ports slots list.now frame.now who start len × (whole ≡ cells_on (side_of side) ports list.now (class_of who) frame.now) }
-    ensures { result ≡ cells_on (side_of side) ports list.now (class_of who) (repeated ports slots frame.now start len) }
-{
-    let rest = len % slots;
-    let head = lesser(rest, slots - start);
-    let tail = rest - head;
-    let before = inside_cells(side, ports, slots, list, frame, who, start, head);
-    let after = inside_cells(side, ports, slots, list, frame, who, 0, tail);
-    len / slots * whole + (before + after)
+impl Asked<'_> {
+    // The cells of a run that stays inside the frame.
+    fn inside(&self, run: Run) -> usize
+        requires { run.start + run.len ≤ self.now.frame.now.of.slots }
+        ensures { let frame = self.now.frame.now in
+            result ≡ cells_on (side_of self.now.side) frame.of.ports frame.of.list.now (class_of self.now.who)
+            (run_of frame.of.ports run.start run.len frame.entries.now) }
+    {
+        match self.who {
+            Who::Flow(flow) => entries_in(self.frame, run)
+                .iter()
+                .map(|entry| usize::from(usize::from(*entry) == flow))
+                .sum(),
+            Who::Input(port) => port_cells(self.side, self.frame, run, Side::Input, port - 1),
+            Who::Output(port) => port_cells(self.side, self.frame, run, Side::Output, port - 1),
+        }
+    }
+
+    // The cells of a run of the frame that repeats for ever, by what the whole frame holds.
+    fn repeated(&self, run: Run, whole: usize) -> usize
+        requires { let frame = self.now.frame.now in
+            (run.start < frame.of.slots) × (run.len ≤ 1000000)
+            × (whole ≡ cells_on (side_of self.now.side) frame.of.ports frame.of.list.now (class_of self.now.who) frame.entries.now) }
+        ensures { let frame = self.now.frame.now in
+            result ≡ cells_on (side_of self.now.side) frame.of.ports frame.of.list.now (class_of self.now.who)
+            (repeated frame.of.ports frame.of.slots frame.entries.now run.start run.len) }
+    {
+        let slots = self.frame.of.slots;
+        let rest = run.len % slots;
+        let head = rest.min(slots - run.start);
+        let tail = rest - head;
+        let before = self.inside(Run {
+            start: run.start,
+            len: head,
+        });
+        let after = self.inside(Run {
+            start: 0,
+            len: tail,
+        });
+        run.len / slots * whole + (before + after)
+    }
+
+    // The count of a run and its lead; the whole frame is counted once, for both.
+    fn count(&self, run: Run) -> Count
+        requires { (run.start < self.now.frame.now.of.slots) × (run.len ≤ 1000000) }
+        ensures cells { let frame = self.now.frame.now in
+            result.cells ≡ cells_on (side_of self.now.side) frame.of.ports frame.of.list.now (class_of self.now.who)
+            (repeated frame.of.ports frame.of.slots frame.entries.now run.start run.len) }
+        ensures lead { let frame = self.now.frame.now in
+            result.lead ≡ lead_on (side_of self.now.side) (class_of self.now.who) frame.of.ports frame.of.slots frame.of.list.now
+            frame.entries.now run.start run.len }
+    {
+        let slots = self.frame.of.slots;
+        let whole = self.inside(Run {
+            start: 0,
+            len: slots,
+        });
+        let cells = self.repeated(run, whole);
+        Count {
+            cells,
+            lead: lead_of(slots, cells, run.len, whole),
+        }
+    }
 }
 
 // How far ahead a run is: two products, and their difference on either side of zero.
@@ -188,28 +144,8 @@ fn lead_of(slots: usize, cells: usize, len: usize, whole: usize) -> i64
 {
     let had = slots * cells;
     let share = len * whole;
+    // By `as`: `try_from` would have a case that does not come.
     had as i64 - share as i64
-}
-
-// The count of a run and its lead; the whole frame is counted once, for both.
-fn count_run(
-    side: Side,
-    ports: usize,
-    slots: usize,
-    list: &[u16],
-    frame: &[u16],
-    who: Who,
-    start: usize,
-    len: usize,
-) -> Count
-    requires { CountAsked ports slots list.now frame.now who start len }
-    ensures cells_value { result.cells ≡ cells_on (side_of side) ports list.now (class_of who) (repeated ports slots frame.now start len) }
-    ensures lead_value { result.lead ≡ lead_on (side_of side) (class_of who) ports slots list.now frame.now start len }
-{
-    let whole = slot_cells(side, ports, list, who, frame);
-    let cells = run_cells(side, ports, slots, list, frame, who, start, len, whole);
-    let lead = lead_of(slots, cells, len, whole);
-    Count { cells, lead }
 }
 
 // Service count: 1, 2, 3, 21, 22, 23, 4, 11, 12, 13.
@@ -222,23 +158,28 @@ pub fn service_count(
     who: Who,
     start: usize,
     len: usize,
-) -> Service
+) -> Result<Count, Refusal>
     ensures { served result ≡ service (side_of side) ports slots list.now frame.now who start len }
 {
-    if let Answer::Refused(refusal) = checks::check_list(ports, slots, list) {
-        return Service::Refused(refusal);
-    }
-    if checks::bad_length(frame.len(), slots, ports) {
-        return Service::Refused(Refusal::FrameLength);
-    }
+    let of = check_list(ports, slots, list)?;
+    let frame = check_frame(of, frame)?;
     if checks::outside(slots, start) {
-        return Service::Refused(Refusal::SlotNumber);
+        return Err(Refusal::SlotNumber);
     }
     if checks::bad_who(ports, list, who) {
-        return Service::Refused(Refusal::FlowOrPort);
+        return Err(Refusal::FlowOrPort);
     }
     if too_long(len) {
-        return Service::Refused(Refusal::RunLength);
+        return Err(Refusal::RunLength);
     }
-    Service::Counted(count_run(side, ports, slots, list, frame, who, start - 1, len))
+    let asked = Asked {
+        side,
+        frame: &frame,
+        who,
+    };
+    let run = Run {
+        start: start - 1,
+        len,
+    };
+    Ok(asked.count(run))
 }

@@ -1,41 +1,33 @@
 -- From what a sheet asks for to the bytes of its response.
 use Prim.Native.Nat.{ℕ, ◌+◌, ◌*◌, ◌≤◌, ◌<◌}
-use mathlib.Core.Path.{◌≡◌, refl, sym, ap, subst, ◌∙◌}
+use mathlib.Core.Path.{◌≡◌, refl, sym, ap, ◌∙◌}
 use mathlib.Core.List.{List, [], ◌∷◌, ◌++◌}
 use mathlib.Core.Bool.{true, false, not}
 use native.Mathlib.Omega.{arith}
 use native.Mathlib.Nat.{mul-le-mul}
+use Rattle.std.proofs.Common.{Ok, Err}
+use Rattle.std.specs.declared.result.Result.{Result}
 use lib.ListN.{length, get_or, take, drop, length-take, length-append}
 use lib.Seq.{sets, sets-eq, take_at}
-use mir.Syntax.{w64}
-use mir.Val.{Fits}
-use types.Run.{OneOf, miss}
-use denote.Enum.Declared.{tag_of}
 use borrow.Author.Tests.{lt-ltb, le-ltb}
 use Rattle.rules.specs.Words.{if, both, Every}
 use Rattle.rules.specs.Flows.{stride}
 use Rattle.calls.specs.Refusals.{report, none_holds, list_checks, bad_frame, refusal, port_overloads, link_overload, overloads, slots_each}
 use Rattle.calls.specs.Build.{build_checks, frame_for, outcome, acceptance, built, frame_after}
-use Rattle.sheets.specs.Sheet.{Asked, loads, refused, overloaded, read_ports, read_sheet, printed, print_frame, response}
+use Rattle.sheets.specs.Sheet.{loads, refused, overloaded, read_ports, read_sheet, printed, print_frame, response}
 use Rattle.sheets.specs.Text.{lines}
 use Rattle.calls.specs.declared.Refusal.{Refusal}
 use Rattle.calls.specs.declared.Refusal.TheVariants as variants
-use Rattle.calls.specs.declared.Built.{Built}
-use Rattle.calls.specs.declared.Built.TheVariants as builds
 use Rattle.rules.proofs.Levels.{power_most}
 use Rattle.calls.proofs.Overloads.{slots_report}
 use Rattle.calls.proofs.Reports.{Refuses, report_refused, refusal_number, clear_none, clear_some, clear_then, clear_parts, frame_tells}
 use Rattle.calls.specs.Demand2.{WellFormed}
 use Rattle.calls.proofs.Demand2.{clear_well, past_frame}
 use Rattle.sheets.proofs.Lengths.{response_most}
-use Rattle.reading.specs.contracts.Reading.{the_type}
-use Rattle.reading.specs.Reading.{LoadsRead, SheetOf}
+use Rattle.reading.specs.Reading.{LoadsRead}
+use Rattle.reading.specs.declared.Loads.{Loads}
 use Rattle.lines.specs.Lines.{Printed}
-use Rattle.printing.specs.Printing.{Sized, frame_bytes}
-use Rattle.printing.proofs.Prints.{frame_bytes_are}
-use Rattle.sheet.specs.Response.{ReadLines, bytes_of, Lies, Printable, Answered, Whole}
-use Rattle.reading.specs.declared.Reading.{Reading}
-use Rattle.reading.specs.declared.Reading.TheVariants.{Ports, Slots, Pair, Loads, Refused}
+use Rattle.sheet.specs.Response.{ReadLines, bytes_of, Answered, Whole}
 
 -- ---- building
 module _ (ports slots n : ℕ) (list frame : List ℕ) (x : ReadLines ports slots n list frame) where
@@ -84,14 +76,13 @@ module _ (ports slots n : ℕ) (list frame : List ℕ) (x : ReadLines ports slot
   refuse_three : Every Refuses (overloads ports slots part each)
   refuse_three = ((λ e. omega arith), ((λ e. omega arith), ((λ e. omega arith), tt)))
 
-  pub built_yes : (a : Built) (mid : List ℕ) (settled : ℕ) → outcome a ≡ built ports slots part each room → mid ≡ frame_after ports slots part each room
-      → a ≡ builds.Accepted settled → length mid ≡ length room
-      → Answered (overloaded (loads ports slots part)) (mid ++ drop (slots * ports) frame) (Loads ports slots n)
-  built_yes a mid settled e f g k =
+  pub built_yes : (mid : List ℕ) (settled : ℕ) → outcome (Ok settled) ≡ built ports slots part each room → mid ≡ frame_after ports slots part each room
+      → length mid ≡ length room → Answered (overloaded (loads ports slots part)) (mid ++ drop (slots * ports) frame) (Ok (record { ports = ports; slots = slots; flows = n }))
+  built_yes mid settled e f k =
       let two = port_overloads ports slots part in
       let three = overloads ports slots part each in
       let c : none_holds three ≡ true =
-      clear_none three (acceptance ports slots part each room) refuse_three (ap (λ l. get_or l 0 0) (sym report_three ∙ (sym e ∙ ap outcome g))) in
+      clear_none three (acceptance ports slots part each room) refuse_three (ap (λ l. get_or l 0 0) (sym report_three ∙ sym e)) in
       let d = (clear_parts two (link_overload ports part each ∷ []) c).0 in
       let h : take (slots * ports) (mid ++ drop (slots * ports) frame) ≡ mid = take_at mid (drop (slots * ports) frame) (slots * ports) (k ∙ sym room_size) in
       record {
@@ -101,21 +92,21 @@ module _ (ports slots n : ℕ) (list frame : List ℕ) (x : ReadLines ports slot
       }
 
   -- with these limits what Build refuses for is 5 or 6
-  pub built_no : (a : Built) (r : Refusal) (new : List ℕ) → outcome a ≡ built ports slots part each room → a ≡ builds.Refused r
-      → Answered (overloaded (loads ports slots part)) new (Refused r)
-  built_no a r new e g =
+  pub built_no : (r : Refusal) (new : List ℕ) (q : Result Loads Refusal) → outcome (Err r) ≡ built ports slots part each room → q ≡ Err r
+      → Answered (overloaded (loads ports slots part)) new q
+  built_no r new q e f =
       let two = port_overloads ports slots part in
       let taken = acceptance ports slots part each room in
-      let k : report two taken ≡ refusal r = sym (slots_report ports slots part ports_low taken) ∙ (sym report_three ∙ (sym e ∙ ap outcome g)) in
+      let k : report two taken ≡ refusal r = sym (slots_report ports slots part ports_low taken) ∙ (sym report_three ∙ sym e) in
       let c : none_holds two ≡ false = clear_some two taken refl (λ z. refusal_number r (ap (λ l. get_or l 0 0) (sym k) ∙ z)) in
-      record {
+      rw f (record {
         prints = ap printed (ap (λ b. if b (loads ports slots part) (refused (report two []))) c
             ∙ ap refused (report_refused two [] taken c ∙ k));
         printable = tt;
-      }
+      })
 
 -- ---- the whole sheet
-pub sheet_long : (s frame : List ℕ) → 32768 < length s → Answered (read_sheet s) frame (Refused variants.SheetLength)
+pub sheet_long : (s frame : List ℕ) → 32768 < length s → Answered (read_sheet s) frame (Err variants.SheetLength)
 unfolding read_sheet
 sheet_long s frame h = record { prints = ap (λ b. printed (if (both (not b) true) (overloaded (read_ports (lines s))) (refused (if b (10 ∷ []) [])))) (lt-ltb 32768 (length s) h); printable = tt }
 
@@ -123,72 +114,17 @@ sheet_short : (s : List ℕ) → length s ≤ 32768 → read_sheet s ≡ overloa
 unfolding read_sheet
 sheet_short s h = ap (λ b. if (both (not b) true) (overloaded (read_ports (lines s))) (refused (if b (10 ∷ []) []))) (le-ltb 32768 (length s) h)
 
-pub sheet_passed : (s list frame : List ℕ) (r : Reading) → length s ≤ 32768 → SheetOf (read_ports (lines s)) list r → OneOf (0 ∷ 1 ∷ 2 ∷ 4 ∷ []) (tag_of the_type r)
-    → Answered (read_sheet s) frame r
-sheet_passed s list frame (Ports n next) h x k = absurd x
-sheet_passed s list frame (Slots n next) h x k = absurd x
-sheet_passed s list frame (Pair i o m next) h x k = absurd x
-sheet_passed s list frame (Loads p slots n) h x k = absurd (miss (0 ∷ 1 ∷ 2 ∷ 4 ∷ []) 3 tt k)
-sheet_passed s list frame (Refused r) h x k = record { prints = ap printed (sheet_short s h ∙ ap overloaded x); printable = tt }
+pub sheet_refused : (s frame : List ℕ) (r : Refusal) (q : Result Loads Refusal) → length s ≤ 32768 → read_ports (lines s) ≡ refused (refusal r) → q ≡ Err r
+    → Answered (read_sheet s) frame q
+sheet_refused s frame r q h x f = rw f (record { prints = ap printed (sheet_short s h ∙ ap overloaded x); printable = tt })
 
--- The same where what was read is known to be no list of flows.
-pub sheet_refused : (s list frame : List ℕ) (r : Reading) → length s ≤ 32768 → SheetOf (read_ports (lines s)) list r → ((p k n : ℕ) → r ≡ Loads p k n → ⊥)
-    → Answered (read_sheet s) frame r
-sheet_refused s list frame (Ports n next) h x k = absurd x
-sheet_refused s list frame (Slots n next) h x k = absurd x
-sheet_refused s list frame (Pair i o m next) h x k = absurd x
-sheet_refused s list frame (Loads p slots n) h x k = absurd (k p slots n refl)
-sheet_refused s list frame (Refused r) h x k = record { prints = ap printed (sheet_short s h ∙ ap overloaded x); printable = tt }
-
-pub loads_known : (asked : Asked) (list : List ℕ) (r : Reading) (ports slots n : ℕ) → SheetOf asked list r → r ≡ Loads ports slots n → LoadsRead asked list ports slots n
-loads_known asked list r ports slots n x e = rw e at x
-
-pub loads_readable : (asked : Asked) (list : List ℕ) (r : Reading) (ports slots n : ℕ) (frame : List ℕ) → SheetOf asked list r → r ≡ Loads ports slots n
-    → length frame ≡ 16384 → ReadLines ports slots n list frame
-loads_readable asked list r ports slots n frame x e h =
-    let y = loads_known asked list r ports slots n x e in
-    record { fine = y.fine; few = y.few; size = y.size; room = h }
-
-pub sheet_built : (s list frame : List ℕ) (first : Reading) (ports slots n : ℕ) (r : Reading) → length s ≤ 32768 → SheetOf (read_ports (lines s)) list first
-    → first ≡ Loads ports slots n → Answered (overloaded (loads ports slots (take (n * stride) list))) frame r → Answered (read_sheet s) frame r
-sheet_built s list frame first ports slots n r h x e y =
-    let z = loads_known (read_ports (lines s)) list first ports slots n x e in
-    record { prints = ap printed (sheet_short s h ∙ ap overloaded z.asks) ∙ y.prints; printable = y.printable }
-
--- ---- printing
-pub lies_known : (r : Reading) (ports slots n : ℕ) (frame : List ℕ) → Printable r frame → r ≡ Loads ports slots n → Lies ports slots frame
-lies_known r ports slots n frame x e = rw e at x
-
-pub lies_sized : (r : Reading) (ports slots n : ℕ) (frame : List ℕ) → Printable r frame → r ≡ Loads ports slots n → Sized ports slots (take (slots * ports) frame)
-lies_sized r ports slots n frame x e =
-    let y = lies_known r ports slots n frame x e in
-    record { most_ports = y.most_ports; most_slots = y.most_slots; size = (let z = y.inside in omega (arith, length-take (slots * ports) frame)) }
-
-pub lies_low : (r : Reading) (ports slots n : ℕ) (frame : List ℕ) → Printable r frame → r ≡ Loads ports slots n → Fits w64 (slots * ports)
-lies_low r ports slots n frame x e =
-    let y = lies_known r ports slots n frame x e in
-    let z : slots * ports ≤ 1024 * 16 = mul-le-mul y.most_slots y.most_ports in
-    record { fits = omega arith }
-
-pub answer_as : (out : List ℕ) (r r' : Reading) (frame new : List ℕ) (next : ℕ) → r ≡ r' → Printed out 0 (bytes_of r' frame) new next → Printed out 0 (bytes_of r frame) new next
-answer_as out r r' frame new next e x = rw e x
-
-pub answer_frame : (out : List ℕ) (r : Reading) (ports slots n : ℕ) (frame new : List ℕ) (next : ℕ) → Printable r frame → r ≡ Loads ports slots n
-    → Printed out 0 (frame_bytes ports slots (take (slots * ports) frame)) new next → Printed out 0 (bytes_of r frame) new next
-answer_frame out r ports slots n frame new next x e y =
-    answer_as out r (Loads ports slots n) frame new next e
-    (subst (λ b. Printed out 0 b new next) (frame_bytes_are ports slots (take (slots * ports) frame) (lies_sized r ports slots n frame x e)) y)
-
-pub answer_none : (out : List ℕ) (r : Reading) (frame : List ℕ) → OneOf (0 ∷ 1 ∷ 2 ∷ 4 ∷ []) (tag_of the_type r) → OneOf (0 ∷ 1 ∷ 2 ∷ 3 ∷ []) (tag_of the_type r)
-    → Printed out 0 (bytes_of r frame) out 0
-answer_none out (Ports n next) frame k l = record { is = refl; place = refl }
-answer_none out (Slots n next) frame k l = record { is = refl; place = refl }
-answer_none out (Pair i o m next) frame k l = record { is = refl; place = refl }
-answer_none out (Loads p slots n) frame k l = absurd (miss (0 ∷ 1 ∷ 2 ∷ 4 ∷ []) 3 tt k)
-answer_none out (Refused r) frame k l = absurd (miss (0 ∷ 1 ∷ 2 ∷ 3 ∷ []) 4 tt l)
+pub sheet_built : (s list frame : List ℕ) (ports slots n : ℕ) (r : Result Loads Refusal) → length s ≤ 32768 → LoadsRead (read_ports (lines s)) list ports slots n
+    → Answered (overloaded (loads ports slots (take (n * stride) list))) frame r → Answered (read_sheet s) frame r
+sheet_built s list frame ports slots n r h x y =
+    record { prints = ap printed (sheet_short s h ∙ ap overloaded x.asks) ∙ y.prints; printable = y.printable }
 
 -- ---- the response
-module _ (s frame : List ℕ) (r : Reading) (x : Answered (read_sheet s) frame r) (one new : List ℕ) (n : ℕ) (y : Printed one 0 (bytes_of r frame) new n) where
+module _ (s frame : List ℕ) (r : Result Loads Refusal) (x : Answered (read_sheet s) frame r) (one new : List ℕ) (n : ℕ) (y : Printed one 0 (bytes_of r frame) new n) where
   response_is : response s ≡ bytes_of r frame
   unfolding response
   response_is = x.prints
@@ -208,10 +144,3 @@ module _ (s frame : List ℕ) (r : Reading) (x : Answered (read_sheet s) frame r
       let l = response_most s in
       let stands = response_in one new n (omega arith) y ∙ ap (λ k. response s ++ drop k one) (sym c) in
       record { size = c; most = omega arith; is = search stands }
-
--- the whole response lies in its buffer
-pub whole_inside : {bytes out new : List ℕ} {r : ℕ} → Whole bytes out new r → r ≤ length new
-whole_inside {bytes} {out} {new} {r} x =
-    let a = x.size in
-    let e = ap length x.is ∙ length-append bytes (drop r out) in
-    omega arith

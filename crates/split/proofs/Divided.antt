@@ -16,7 +16,7 @@ use Rattle.rules.proofs.Cases.{by_bool, by_eq, is_yes, is_no}
 use Rattle.rules.proofs.Lists.{every_map, rising_apart}
 use Rattle.rules.proofs.Partners.{odd_lt}
 use Rattle.rules.proofs.Singles.{mate}
-use Rattle.rules.proofs.Kept.{keep_every, keep_rising, keep_most}
+use Rattle.rules.proofs.Kept.{keep_every, keep_rising}
 use Rattle.rules.proofs.Settled.{favours_law}
 use Rattle.rules.proofs.Splits.{half_at, half_length}
 use Rattle.planes.specs.Planes.{digit_at, count_at, counts_in, odd_at, odds_in}
@@ -37,11 +37,9 @@ module _ {n k : ℕ} {planes old odds : List ℕ} (g : Gathered n planes old odd
   listed_every P f =
       every_map (λ p. (odd_at planes p ≡ true) × (p < n)) P (λ p a. f p a.1 a.0) (odds_in n planes) (keep_every (odd_at planes) n 0 n (omega arith))
 
-  pub odds_listed : n ≤ 528 → Odds odds k
+  pub odds_listed : n ≤ 528 → Odds (take k odds)
   odds_listed few =
       record {
-        len = g.len;
-        most = omega (arith, g.number, keep_most (odd_at planes) 0 n);
         below = rw g.same (listed_every (λ p. p < 528) (λ p h o. omega arith));
         apart = rw g.same (rising_apart 0 (odds_in n planes) (keep_rising (odd_at planes) 0 n));
       }
@@ -66,7 +64,7 @@ either f m n planes ends p h e =
 
 -- ---- what a split leaves
 module _ {n k multi : ℕ} {planes ends listed odds before mates : List ℕ} (g : Gathered n planes listed odds k)
-    (b : MatedBy multi ends odds k before mates) (t : Sides n multi ends) (few : n ≤ 528) where
+    (b : MatedBy multi ends (take k odds) before mates) (t : Sides n multi ends) (few : n ≤ 528) where
   abbrev counts : ℕ → List ℕ
   counts m = counts_in (suc m) planes n
 
@@ -76,11 +74,11 @@ module _ {n k multi : ℕ} {planes ends listed odds before mates : List ℕ} (g 
   sides_of : (m : ℕ) → Sides (length (counts m)) multi ends
   sides_of m = rw (size m) t
 
-  odds_of : (m : ℕ) → OddsOf odds k (counts m)
+  odds_of : (m : ℕ) → OddsOf (take k odds) (counts m)
   odds_of m = g.same ∙ odds_are m n planes ∙ ap (λ (j : ℕ). keep (odd (counts m)) (up_from 0 j)) (sym (size m))
 
-  pub reaches : ReachesAll mates odds k
-  reaches = record { len = g.len; most = (odds_listed g few).most; each = reaches_all (counts 0) (odds_of 0) (sides_of 0) b (omega (arith, size 0)) }
+  pub reaches : ReachesAll mates (take k odds)
+  reaches = reaches_all (counts 0) (odds_of 0) (sides_of 0) b (omega (arith, size 0))
 
   all_mated : (m : ℕ) (s : End) → Every (λ p. tabled mates s p ≡ mate (tabled ends) (counts m) s p) (odds_in n planes)
   all_mated m s =
@@ -96,7 +94,7 @@ module _ {n k multi : ℕ} {planes ends listed odds before mates : List ℕ} (g 
       absurd (every_kept (λ q. q ≢ p) (odd_at planes) 0 n al p (omega arith) (omega arith) (odd_is 0 planes n p h ∙ o) refl))
       (λ e. e)
 
-  module _ {c old mask : List ℕ} (st : SettledBy (tabled mates inputs) (tabled mates links) odds k (replicate 528 0) c) (mk : Marked n planes c old mask) where
+  module _ {c old mask : List ℕ} (st : SettledBy (tabled mates inputs) (tabled mates links) (take k odds) (replicate 528 0) c) (mk : Marked n planes c old mask) where
     favoured_at : (m p : ℕ) → p < n → get_or c p 0 ≡ get_or (favours (tabled ends) (counts m)) p 0
     favoured_at m p h =
         sym (get_or-take (length (counts m)) c p 0 (omega (arith, size m)))

@@ -177,7 +177,7 @@ take_zeros (suc n) (suc k) h = ap (λ (l : List ℕ). 0 ∷ l) (take_zeros n k (
 
 -- ---- partners
 -- the mates of odd counts are their partners, and odd too
-module _ {multi : ℕ} {ends odds before mates : List ℕ} {k : ℕ} (m : List ℕ) (is : OddsOf odds k m) (sides : Sides (length m) multi ends) (b : MatedBy multi ends odds k before mates) where
+module _ {multi : ℕ} {ends odds before mates : List ℕ} (m : List ℕ) (is : OddsOf odds m) (sides : Sides (length m) multi ends) (b : MatedBy multi ends odds before mates) where
   does : (s : End) → Does (length m) (odd m) (odd_lt m) (tabled mates s) (mate (tabled ends) m s)
   does inputs p o = (b.same m is sides inputs p o, (partner_at (tabled ends inputs) m p o).0)
   does links p o = (b.same m is sides links p o, output_odd (tabled ends links) m p o)
@@ -192,7 +192,7 @@ module _ {multi : ℕ} {ends odds before mates : List ℕ} {k : ℕ} (m : List �
       next : (s : End) (q : ℕ) → odd m q ≡ true → odd m (tabled mates s q) ≡ true
       next s q e = rw (does s q e).0 (does s q e).1
 
-  pub reaches_all : length m ≤ 528 → Every (ReachesBoth mates) (take k odds)
+  pub reaches_all : length m ≤ 528 → Every (ReachesBoth mates) odds
   reaches_all few =
       rw is (every_map (λ p. (odd m p ≡ true) × (p < length m)) (ReachesBoth mates) (λ p a. reaches_both_ways p a.0)
       (keep (odd m) (up_from 0 (length m))) (keep_every (odd m) (length m) 0 (length m) (omega arith)))
@@ -205,7 +205,7 @@ module _ {multi : ℕ} {ends odds before mates : List ℕ} {k : ℕ} (m : List �
           }
 
   -- the steps over a list of the odd counts of m settle what the definitions settle
-  pub favoured_is : {c : List ℕ} → length m ≤ 528 → SettledBy (tabled mates inputs) (tabled mates links) odds k (replicate 528 0) c
+  pub favoured_is : {c : List ℕ} → length m ≤ 528 → SettledBy (tabled mates inputs) (tabled mates links) odds (replicate 528 0) c
       → take (length m) c ≡ favours (tabled ends) m
   unfolding favours
   favoured_is {c} few s =

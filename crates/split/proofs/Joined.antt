@@ -1,28 +1,30 @@
 -- One more single one of an output: it is the partner of the one that waits there, or waits itself; and so the partners at all outputs.
-use Prim.Native.Nat.{ℕ, suc, zero, ◌+◌, ◌*◌, ◌^◌, ◌≤◌, ◌<◌}
+use Prim.Native.Nat.{ℕ, suc, zero, ◌+◌, ◌-◌, ◌*◌, ◌≤◌, ◌<◌}
 use mathlib.Core.Path.{◌≡◌, refl, sym, ap, ◌∙◌, subst}
 use mathlib.Core.Logic.{◌≢◌, ◌⊎◌, inl, inr, ⊎_elim}
 use mathlib.Core.List.{List, [], ◌∷◌, ◌++◌, append-nil, append_assoc}
-use mathlib.Core.Bool.{Bool, true, false, not, true≢false}
+use mathlib.Core.Bool.{Bool, true, false, true≢false}
 use native.Mathlib.Omega.{arith}
 use native.Mathlib.Numerals.{add-one}
+use Rattle.std.specs.declared.option.Option.{Option}
+use Rattle.std.specs.declared.option.Option.TheVariants.{None, Some}
+use Rattle.std.specs.Option.{unwrap_or}
 use lib.Dec.{eqb}
-use lib.Count.{count_trailing_zeros}
-use lib.ListN.{length, get_or, take}
+use lib.ListN.{length, get_or}
 use Rattle.rules.specs.Words.{if, up_from, keep, Every}
 use Rattle.rules.specs.Flows.{End, inputs, links, output_of}
 use Rattle.rules.specs.Rules.{odd, odds_at, single, singles_of}
 use Rattle.rules.specs.Schedule.{partner_in, partner, output_partner}
-use Rattle.rules.proofs.Cases.{by_bool, by_eq}
+use Rattle.rules.proofs.Cases.{by_eq}
 use Rattle.rules.proofs.Kept.{keep_keep, keep_every}
 use Rattle.rules.proofs.Lists.{every_map}
 use Rattle.rules.proofs.Partners.{in_none, odd_lt}
 use Rattle.rules.proofs.Singles.{every_both, Single, singles_every, singles_apart, output_linked, output_single, one_link, mate}
-use Rattle.bits.specs.Digits.{digit}
-use Rattle.bits.proofs.Digits.{digit_most, digit_none, if_same, if_other}
-use Rattle.bits.proofs.Lowest.{rest, next_zeros, next_digit, next_fits}
+use Rattle.bits.specs.Digits.{digit, places}
+use Rattle.bits.proofs.Digits.{digit_most, if_same, if_other}
+use Rattle.bits.proofs.Lowest.{turn_below, turn_digit, end_digit}
 use Rattle.planes.specs.Tables.{WideEnds, tabled}
-use Rattle.split.specs.Steps.{Outputs, Sides, Odds, those_at, mate_among, MatedIn, Pends, pends_at, Latest, PendingBy, paired, AllMated, pending_at, pending_from, Joins, OddsOf, MatedBy}
+use Rattle.split.specs.Steps.{Outputs, Sides, Odds, those_at, mate_among, MatedIn, Pends, pends_at, PendingBy, paired, AllMated, pending_at, pending_from, Joins, OddsOf, MatedBy}
 use Rattle.split.proofs.Lists.{every_kept, apart_last}
 use Rattle.split.proofs.Mated.{paired_length, paired_here, paired_aside, mated_next, pends_next, choice_low}
 
@@ -52,62 +54,86 @@ pending_last latest pending x (suc n) =
     ap (λ (l : List ℕ). pending_at latest pending x ++ l) (pending_last latest pending (suc x) n ∙ ap (λ (y : ℕ). pending_from latest pending (suc x) n ++ pending_at latest pending y) e)
     ∙ sym (append_assoc (pending_at latest pending x) (pending_from latest pending (suc x) n) (pending_at latest pending (x + suc n)))
 
--- so many links of an output have been looked at, and one waits or none does
-pub record Joining (latest : List ℕ) (pending x l : ℕ) (before mates : List ℕ) (alone : Bool) (one : ℕ) : Type 0 where
-  pub joins : Joins (pending_from latest pending x l) before mates
-  pub pends : Pends alone one (pending_from latest pending x l)
-  pub one_low : one < 528
+-- the one of a list that waits, where one does
+abbrev pub Waits : Option ℕ → List ℕ → Type 0
+Waits (Some h) l = (single l ≡ h ∷ []) × (h < 528)
+Waits None l = single l ≡ []
 
-pub joining_start : {latest : List ℕ} {pending x : ℕ} {mates : List ℕ} → WideEnds mates → Joining latest pending x 0 mates mates false 0
+-- so many links of an output have been looked at, and one waits or none does
+pub record Joining (latest : List ℕ) (pending x l : ℕ) (before mates : List ℕ) (alone : Option ℕ) : Type 0 where
+  pub joins : Joins (pending_from latest pending x l) before mates
+  pub waits : Waits alone (pending_from latest pending x l)
+
+pub joining_start : {latest : List ℕ} {pending x : ℕ} {mates : List ℕ} → WideEnds mates → Joining latest pending x 0 mates mates None
 joining_start m =
     record {
       joins = record { len = m; at_links = λ a. record { same = tt; kept = λ r h al. refl }; at_inputs = λ r h. refl };
-      pends = refl;
-      one_low = omega arith;
+      waits = refl;
     }
 
-pub comes_low : {latest : List ℕ} {o l p : ℕ} → Latest latest → o < 16 → l < 4 → p ≡ get_or latest (o * 4 + l) 0 → p < 528
-comes_low {o = o} {l} w a b e = let h : o * 4 + l < 64 = omega arith in omega (arith, w.low (o * 4 + l) h)
+pub partner_low : (l : List ℕ) (alone : Option ℕ) {p : ℕ} → Waits alone l → p < 528 → unwrap_or alone p < 528
+partner_low l (Some h) w a = w.1
+partner_low l None w a = a
 
-pub partner_low : {latest : List ℕ} {pending x l : ℕ} {before mates : List ℕ} {alone : Bool} {one p q : ℕ}
-    → Joining latest pending x l before mates alone one → p < 528 → q ≡ if alone one p → q < 528
-partner_low {alone = b} {one} {p} j h f = rw f (choice_low b one p j.one_low h)
+-- the one that waits after p came
+abbrev pub after_one : Option ℕ → ℕ → Option ℕ
+after_one (Some h) p = None
+after_one None p = Some p
 
-pub joining_on : {latest : List ℕ} {pending o l : ℕ} {before mates : List ℕ} {alone : Bool} {one p q : ℕ} {comes : Bool} {new : List ℕ} {next : ℕ} {after : Bool}
-    → Joining latest pending (o * 4) l before mates alone one → Latest latest → o < 16 → l < 4 → p ≡ get_or latest (o * 4 + l) 0 → comes ≡ pends_at pending (o * 4 + l)
-    → q ≡ if alone one p → new ≡ if comes (paired 528 p q mates) mates → next ≡ if comes p one → after ≡ if comes (not alone) alone
-    → Joining latest pending (o * 4) (l + 1) before new after next
-joining_on {latest} {pending} {o} {l} {before} {mates} {alone} {one} {p} {q} {comes} {new} {next} {after} j w o_lt l_lt ep ec eq en ex ea =
-    by_bool comes (λ c. come c) (λ c. stay c)
-  where
-    last : pending_from latest pending (o * 4) (l + 1) ≡ pending_from latest pending (o * 4) l ++ pending_at latest pending (o * 4 + l)
-    last = rw add-one (pending_last latest pending (o * 4) l)
+module _ (latest : List ℕ) (pending x l : ℕ) (before mates : List ℕ) where
+  last : pending_from latest pending x (l + 1) ≡ pending_from latest pending x l ++ pending_at latest pending (x + l)
+  last = rw add-one (pending_last latest pending x l)
 
-    come : comes ≡ true → Joining latest pending (o * 4) (l + 1) before new after next
-    come c =
-        let at : pending_at latest pending (o * 4 + l) ≡ p ∷ [] = rw (sym ec ∙ c, sym ep) in
-        let e : pending_from latest pending (o * 4) (l + 1) ≡ pending_from latest pending (o * 4) l ++ (p ∷ []) = last ∙ ap (λ (r : List ℕ). pending_from latest pending (o * 4) l ++ r) at in
-        record {
-          joins = rw (e, en, c) (join_on (pending_from latest pending (o * 4) l) before mates p j.joins (comes_low w o_lt l_lt ep) alone one q j.one_low j.pends eq);
-          pends = rw (e, ex, ea, c) (pends_next alone one (pending_from latest pending (o * 4) l) p j.pends);
-          one_low = rw (ex, c) (comes_low w o_lt l_lt ep);
-        }
+  -- one waits at the next link
+  joining_pair : (alone : Option ℕ) (p : ℕ) → Joining latest pending x l before mates alone → p < 528 → pending_at latest pending (x + l) ≡ p ∷ []
+      → Joining latest pending x (l + 1) before (paired 528 p (unwrap_or alone p) mates) (after_one alone p)
+  joining_pair (Some h) p j p_lt at =
+      let e : pending_from latest pending x (l + 1) ≡ pending_from latest pending x l ++ (p ∷ []) = last ∙ ap (λ (r : List ℕ). pending_from latest pending x l ++ r) at in
+      let w = j.waits in
+      record {
+        joins = rw e (join_on (pending_from latest pending x l) before mates p j.joins p_lt true h h w.1 w.0 refl);
+        waits = rw e (pends_next true h (pending_from latest pending x l) p w.0);
+      }
+  joining_pair None p j p_lt at =
+      let e : pending_from latest pending x (l + 1) ≡ pending_from latest pending x l ++ (p ∷ []) = last ∙ ap (λ (r : List ℕ). pending_from latest pending x l ++ r) at in
+      record {
+        joins = rw e (join_on (pending_from latest pending x l) before mates p j.joins p_lt false 0 p (omega arith) j.waits refl);
+        waits = rw e (pends_next false 0 (pending_from latest pending x l) p j.waits, p_lt);
+      }
 
-    stay : comes ≡ false → Joining latest pending (o * 4) (l + 1) before new after next
-    stay c =
-        let at : pending_at latest pending (o * 4 + l) ≡ [] = rw (sym ec ∙ c) in
-        let e : pending_from latest pending (o * 4) (l + 1) ≡ pending_from latest pending (o * 4) l =
-        last ∙ ap (λ (r : List ℕ). pending_from latest pending (o * 4) l ++ r) at ∙ append-nil (pending_from latest pending (o * 4) l) in
-        record { joins = rw (e, en, c) j.joins; pends = rw (e, ex, ea, c) j.pends; one_low = rw (ex, c) j.one_low }
+  -- or none does
+  joining_none : (alone : Option ℕ) → Joining latest pending x l before mates alone → pending_at latest pending (x + l) ≡ [] → Joining latest pending x (l + 1) before mates alone
+  joining_none alone j at =
+      let e : pending_from latest pending x (l + 1) ≡ pending_from latest pending x l =
+      last ∙ ap (λ (r : List ℕ). pending_from latest pending x l ++ r) at ∙ append-nil (pending_from latest pending x l) in
+      record { joins = rw e j.joins; waits = rw e j.waits }
 
-pub joining_end : {latest : List ℕ} {pending x l : ℕ} {before mates : List ℕ} {alone : Bool} {one : ℕ}
-    → Joining latest pending x l before mates alone one → l ≤ 4 → 4 ≤ l → Joins (pending_from latest pending x 4) before mates
-joining_end {latest} {pending} {x} {l} {before} {mates} j a b =
-    let e : l ≡ 4 = omega arith in subst (λ (n : ℕ). Joins (pending_from latest pending x n) before mates) e j.joins
+module _ {latest : List ℕ} {pending x link : ℕ} {before mates : List ℕ} {alone : Option ℕ} (j : Joining latest pending x (link - x) before mates alone) (low : x ≤ link)
+    {has : Bool} (e : has ≡ pends_at pending link) where
+  here : x + (link - x) ≡ link
+  here = omega arith
+
+  next : link + 1 - x ≡ link - x + 1
+  next = omega arith
+
+  pub joining_come : has ≡ true → get_or latest link 0 < 528 → {q : ℕ} {new : List ℕ} {after : Option ℕ} → q ≡ unwrap_or alone (get_or latest link 0)
+      → new ≡ paired 528 (get_or latest link 0) q mates → after ≡ after_one alone (get_or latest link 0) → Joining latest pending x (link + 1 - x) before new after
+  joining_come t p_lt eq en ea =
+      let at : pending_at latest pending (x + (link - x)) ≡ get_or latest link 0 ∷ [] = rw (here, sym e ∙ t) refl in
+      rw (next, en, eq, ea) (joining_pair latest pending x (link - x) before mates alone (get_or latest link 0) j p_lt at)
+
+  pub joining_stay : has ≡ false → {new : List ℕ} {after : Option ℕ} → new ≡ mates → after ≡ alone → Joining latest pending x (link + 1 - x) before new after
+  joining_stay t en ea =
+      let at : pending_at latest pending (x + (link - x)) ≡ [] = rw (here, sym e ∙ t) refl in
+      rw (next, en, ea) (joining_none latest pending x (link - x) before mates alone j at)
+
+pub joining_end : {latest : List ℕ} {pending x l : ℕ} {before mates : List ℕ} {alone : Option ℕ}
+    → Joining latest pending x l before mates alone → l ≡ 4 → Joins (pending_from latest pending x 4) before mates
+joining_end {latest} {pending} {x} {l} {before} {mates} j e = subst (λ (n : ℕ). Joins (pending_from latest pending x n) before mates) e j.joins
 
 -- ---- the odd counts of a list of counts
 -- one that is odd is in the list of odd ones, and so a position
-odd_low : {odds : List ℕ} {k : ℕ} (m : List ℕ) → Odds odds k → OddsOf odds k m → (p : ℕ) → odd m p ≡ true → p < 528
+odd_low : {odds : List ℕ} (m : List ℕ) → Odds odds → OddsOf odds m → (p : ℕ) → odd m p ≡ true → p < 528
 odd_low m o e p od = every_kept (λ r. r < 528) (odd m) 0 (length m) (rw e at o.below) p (omega arith) (omega (arith, odd_lt m p od)) od
 
 -- and one that is even is none of them
@@ -123,10 +149,10 @@ even_out m r ev =
 those_are : (port : ℕ → ℕ) (m : List ℕ) (x : ℕ) → those_at port x (keep (odd m) (up_from 0 (length m))) ≡ odds_at port m x
 those_are port m x = keep_keep (odd m) (λ p. eqb (port p) x) (up_from 0 (length m))
 
-module _ (port : ℕ → ℕ) (odds latest : List ℕ) (k pending : ℕ) (h : PendingBy port (take k odds) latest pending) (m : List ℕ) (e : OddsOf odds k m) where
+module _ (port : ℕ → ℕ) (odds latest : List ℕ) (pending : ℕ) (h : PendingBy port odds latest pending) (m : List ℕ) (e : OddsOf odds m) where
   pending_single : (x : ℕ) → x < 64 → pending_at latest pending x ≡ single (odds_at port m x)
   pending_single x l =
-      listed (pends_at pending x) (get_or latest x 0) (those_at port x (take k odds)) (h.ports x l)
+      listed (pends_at pending x) (get_or latest x 0) (those_at port x odds) (h.ports x l)
       ∙ ap single (ap (those_at port x) e ∙ those_are port m x)
     where
       listed : (b : Bool) (one : ℕ) (r : List ℕ) → Pends b one r → if b (one ∷ []) [] ≡ single r
@@ -143,22 +169,20 @@ abbrev singles_at : List ℕ → List ℕ → ℕ → List ℕ
 singles_at ends m o = singles_of (tabled ends links) m (o * 4) 4
 
 -- those of the outputs of a word have been mated, but for those that are left
-pub record MatingRest (ends odds : List ℕ) (k multi left : ℕ) (before mates : List ℕ) : Type 0 where
+pub record MatingRest (ends odds : List ℕ) (multi left : ℕ) (before mates : List ℕ) : Type 0 where
   pub len : WideEnds mates
-  pub fits : left < 2 ^ 64
-  pub within : (x : ℕ) → digit left x ≤ digit multi x
-  pub all_mated : (m : List ℕ) → OddsOf odds k m → (x : ℕ) → digit multi x ≡ 1 → digit left x ≡ 0
+  pub within : (x : ℕ) → x < 64 → digit left x ≤ digit multi x
+  pub all_mated : (m : List ℕ) → OddsOf odds m → (x : ℕ) → digit multi x ≡ 1 → digit left x ≡ 0
       → Every (λ r. tabled mates links r ≡ partner_in (singles_at ends m x) r) (singles_at ends m x)
-  pub kept : (m : List ℕ) → OddsOf odds k m → (r : ℕ) → r < 528 → ((x : ℕ) → digit multi x ≡ 1 → Every (λ p. p ≢ r) (singles_at ends m x))
+  pub kept : (m : List ℕ) → OddsOf odds m → (r : ℕ) → r < 528 → ((x : ℕ) → digit multi x ≡ 1 → Every (λ p. p ≢ r) (singles_at ends m x))
       → tabled mates links r ≡ tabled before links r
   pub at_inputs : (r : ℕ) → r < 528 → tabled mates inputs r ≡ tabled before inputs r
 
-pub rest_start : {ends odds : List ℕ} {k multi : ℕ} {mates : List ℕ} → multi < 2 ^ 64 → WideEnds mates → MatingRest ends odds k multi multi mates mates
-rest_start f l =
+pub rest_start : {ends odds : List ℕ} {multi : ℕ} {mates : List ℕ} → WideEnds mates → MatingRest ends odds multi multi mates mates
+rest_start l =
     record {
       len = l;
-      fits = f;
-      within = λ x. omega arith;
+      within = λ x h. omega arith;
       all_mated = λ m e x a b. absurd (omega arith);
       kept = λ m e r h al. refl;
       at_inputs = λ r h. refl;
@@ -170,54 +194,55 @@ elsewhere ends m x r n =
     every_map (Single (tabled ends links) m (x * 4) 4) (λ p. p ≢ r)
     (λ p s d. let at = ap (tabled ends links) d in absurd (n (omega (arith, s.low, s.high)))) (singles_at ends m x) (singles_every (tabled ends links) m (x * 4) 4)
 
-module _ {ends odds : List ℕ} {k multi left : ℕ} {before mates : List ℕ} (s : MatingRest ends odds k multi left before mates) (some : left ≢ 0) where
-  abbrev next : ℕ
-  next = count_trailing_zeros 64 left
+module _ {ends odds : List ℕ} {multi left : ℕ} {before mates : List ℕ} (s : MatingRest ends odds multi left before mates) {next : ℕ} (after : ℕ)
+    (t : places 0 64 left ≡ next ∷ places 0 64 after) where
+  next_lt : next < 64
+  next_lt = turn_below left after t
+
+  gone : (x : ℕ) → x < 64 → digit after x + if (eqb x next) 1 0 ≡ digit left x
+  gone = turn_digit left after t
 
   next_multi : digit multi next ≡ 1
-  next_multi = omega (arith, next_digit s.fits some next, if_same next next 1 refl, s.within next, digit_most multi next)
-
-  pub rest_zeros : next < 64
-  rest_zeros = next_zeros s.fits some
+  next_multi = omega (arith, gone next next_lt, if_same next next 1 refl, s.within next next_lt, digit_most multi next)
 
   pub rest_low : Outputs multi → next < 16
   rest_low few = few next next_multi
 
-  pub rest_on : {begun latest : List ℕ} {pending : ℕ} {new : List ℕ} → Odds odds k → AllMated ends (take k odds) begun before latest pending → Outputs multi
-      → Joins (pending_from latest pending (next * 4) 4) mates new → MatingRest ends odds k multi (rest left) before new
-  rest_on {latest = latest} {pending} {new} o a few j =
+  pub rest_on : {begun latest : List ℕ} {pending : ℕ} → Odds odds → AllMated ends odds begun before latest pending → Outputs multi → {new : List ℕ}
+      → Joins (pending_from latest pending (next * 4) 4) mates new → MatingRest ends odds multi after before new
+  rest_on {latest = latest} {pending} o a few {new} j =
       record {
         len = j.len;
-        fits = next_fits s.fits some;
-        within = λ x. omega (arith, next_digit s.fits some x, s.within x);
+        within = λ x h. omega (arith, gone x h, s.within x h);
         all_mated = all_mated;
         kept = λ m e r r_lt al. (joins m e).kept r r_lt (al next next_multi) ∙ s.kept m e r r_lt al;
         at_inputs = λ r r_lt. j.at_inputs r r_lt ∙ s.at_inputs r r_lt;
       }
     where
-      joins : (m : List ℕ) → OddsOf odds k m → MatedIn (λ p. 0) (singles_at ends m next) (tabled mates links) (tabled new links)
+      joins : (m : List ℕ) → OddsOf odds m → MatedIn (λ p. 0) (singles_at ends m next) (tabled mates links) (tabled new links)
       joins m e =
-          let same = pending_singles (tabled ends links) odds latest k pending a.pends m e (next * 4) 4 (omega (arith, rest_low few)) in
+          let same = pending_singles (tabled ends links) odds latest pending a.pends m e (next * 4) 4 (omega (arith, rest_low few)) in
           (rw same at j).at_links (singles_apart (tabled ends links) m (next * 4) 4)
 
-      here : (m : List ℕ) → OddsOf odds k m → Every (λ r. tabled new links r ≡ partner_in (singles_at ends m next) r) (singles_at ends m next)
+      here : (m : List ℕ) → OddsOf odds m → Every (λ r. tabled new links r ≡ partner_in (singles_at ends m next) r) (singles_at ends m next)
       here m e = subst (λ (l : List ℕ). Every (λ r. tabled new links r ≡ partner_in l r) (singles_at ends m next)) (all_here (singles_at ends m next)) (joins m e).same
 
-      all_mated : (m : List ℕ) → OddsOf odds k m → (x : ℕ) → digit multi x ≡ 1 → digit (rest left) x ≡ 0
+      all_mated : (m : List ℕ) → OddsOf odds m → (x : ℕ) → digit multi x ≡ 1 → digit after x ≡ 0
           → Every (λ r. tabled new links r ≡ partner_in (singles_at ends m x) r) (singles_at ends m x)
       all_mated m e x a b =
           by_eq x next (λ d. rw d (here m e))
           (λ n. every_both (Single (tabled ends links) m (x * 4) 4) (λ r. tabled mates links r ≡ partner_in (singles_at ends m x) r) (λ r. tabled new links r ≡ partner_in (singles_at ends m x) r)
           (λ r c d. (joins m e).kept r (odd_low m o e r c.odd_count) (elsewhere ends m next r (omega (arith, c.low, c.high))) ∙ d)
-          (singles_at ends m x) (singles_every (tabled ends links) m (x * 4) 4) (s.all_mated m e x a (omega (arith, next_digit s.fits some x, if_other x next 1 n))))
+          (singles_at ends m x) (singles_every (tabled ends links) m (x * 4) 4) (s.all_mated m e x a (let h : x < 64 = omega (arith, few x a) in omega (arith, gone x h, if_other x next 1 n))))
 
 -- a number is one of a list of which P holds, or none of it
 every_or : (P : ℕ → Type 0) (l : List ℕ) (r : ℕ) → Every P l → P r ⊎ Every (λ p. p ≢ r) l
 every_or P [] r al = inr tt
 every_or P (x ∷ l) r al = by_eq x r (λ e. inl (subst P e al.0)) (λ n. ⊎_elim (λ a. inl a) (λ a. inr (n, a)) (every_or P l r al.1))
 
-module _ (ends odds : List ℕ) (k multi : ℕ) (begun before mates latest : List ℕ) (pending : ℕ) (o : Odds odds k)
-    (a : AllMated ends (take k odds) begun before latest pending) (s : MatingRest ends odds k multi 0 before mates) (m : List ℕ) (e : OddsOf odds k m) where
+module _ (ends odds : List ℕ) (multi left : ℕ) (begun before mates latest : List ℕ) (pending : ℕ) (o : Odds odds)
+    (a : AllMated ends odds begun before latest pending) (s : MatingRest ends odds multi left before mates) (over : (x : ℕ) → digit multi x ≡ 1 → digit left x ≡ 0)
+    (m : List ℕ) (e : OddsOf odds m) where
   -- the partner at the port
   at_port : (side : End) (p : ℕ) → odd m p ≡ true → tabled before side p ≡ partner (tabled ends side) m p
   at_port side p od =
@@ -246,7 +271,7 @@ module _ (ends odds : List ℕ) (k multi : ℕ) (begun before mates latest : Lis
         (every_or (λ r. (tabled mates links r ≡ partner_in (singles_at ends m own) r) × (partner port m r ≡ r)) (singles_at ends m own) p
         (every_both (Single port m (own * 4) 4) (λ r. tabled mates links r ≡ partner_in (singles_at ends m own) r)
         (λ r. (tabled mates links r ≡ partner_in (singles_at ends m own) r) × (partner port m r ≡ r)) (λ r b c. (c, b.alone))
-        (singles_at ends m own) (singles_every port m (own * 4) 4) (s.all_mated m e own h (digit_none own))))
+        (singles_at ends m own) (singles_every port m (own * 4) 4) (s.all_mated m e own h (over own h))))
       where
         none : Every (λ q. q ≢ p) (singles_at ends m own) → tabled mates links p ≡ output_partner port m p
         none al =
@@ -272,12 +297,12 @@ module _ (ends odds : List ℕ) (k multi : ℕ) (begun before mates latest : Lis
       (singles_at ends m x) (singles_every (tabled ends links) m (x * 4) 4))
       ∙ (a.at links).kept r r_lt (rw e (even_out m r ev))
 
-pub rest_end : {ends odds : List ℕ} {k multi left : ℕ} {begun before mates latest : List ℕ} {pending : ℕ} → Odds odds k
-    → AllMated ends (take k odds) begun before latest pending → MatingRest ends odds k multi left before mates → left ≡ 0 → MatedBy multi ends odds k begun mates
-rest_end {ends} {odds} {k} {multi} {left} {begun} {before} {mates} {latest} {pending} o a s e =
-    let t = subst (λ (n : ℕ). MatingRest ends odds k multi n before mates) e s in
+pub rest_end : {ends odds : List ℕ} {multi left : ℕ} {begun before mates latest : List ℕ} {pending : ℕ} → Odds odds
+    → AllMated ends odds begun before latest pending → MatingRest ends odds multi left before mates → Outputs multi → places 0 64 left ≡ [] → MatedBy multi ends odds begun mates
+rest_end {ends} {odds} {multi} {left} {begun} {before} {mates} {latest} {pending} o a s few e =
+    let over : (x : ℕ) → digit multi x ≡ 1 → digit left x ≡ 0 = λ x h. end_digit left e x (omega (arith, few x h)) in
     record {
       len = s.len;
-      same = λ m is sides side p od. odd_mated ends odds k multi begun before mates latest pending o a t m is p od sides side;
-      kept = λ m is side p p_lt ev. even_kept ends odds k multi begun before mates latest pending o a t m is side p p_lt ev;
+      same = λ m is sides side p od. odd_mated ends odds multi left begun before mates latest pending o a s over m is p od sides side;
+      kept = λ m is side p p_lt ev. even_kept ends odds multi left begun before mates latest pending o a s over m is side p p_lt ev;
     }

@@ -5,7 +5,7 @@ use mathlib.Core.Logic.{◌≢◌}
 use mathlib.Core.List.{List, [], ◌∷◌, ◌++◌}
 use mathlib.Core.Bool.{Bool, true}
 use native.Mathlib.Omega.{arith}
-use lib.ListN.{take}
+use lib.ListN.{length, get_or, take}
 use Rattle.rules.specs.Words.{if, up_from, keep, Every}
 use Rattle.rules.proofs.Cases.{by_bool, by_eq}
 use Rattle.rules.proofs.Lists.{every_map, Apart}
@@ -24,11 +24,15 @@ every_last P [] p al = (tt, al.0)
 every_last P (y ∷ l) p al = let r = every_last P l p al.1 in ((al.0, r.0), r.1)
 
 -- ---- what holds of each
-pub every_take : (P : ℕ → Type 0) (j k : ℕ) (l : List ℕ) → j ≤ k → Every P (take k l) → Every P (take j l)
-every_take P zero k l h a = tt
-every_take P (suc j) zero l h a = absurd (omega arith)
-every_take P (suc j) (suc k) [] h a = tt
-every_take P (suc j) (suc k) (x ∷ l) h a = (a.0, every_take P j k l (omega arith) a.1)
+pub every_take : (P : ℕ → Type 0) (j : ℕ) (l : List ℕ) → Every P l → Every P (take j l)
+every_take P zero l a = tt
+every_take P (suc j) [] a = tt
+every_take P (suc j) (x ∷ l) a = (a.0, every_take P j l a.1)
+
+pub every_at : (P : ℕ → Type 0) (j : ℕ) (l : List ℕ) → Every P l → j < length l → P (get_or l j 0)
+every_at P j [] a h = absurd (omega arith)
+every_at P zero (x ∷ l) a h = a.0
+every_at P (suc j) (x ∷ l) a h = every_at P j l a.1 (omega arith)
 
 pub every_keep : (P : ℕ → Type 0) (t : ℕ → Bool) (l : List ℕ) → Every P l → Every (λ r. P r × (t r ≡ true)) (keep t l)
 every_keep P t [] a = tt
@@ -49,11 +53,10 @@ apart_last (x ∷ l) p a =
     let e = every_last (λ y. y ≢ x) l p a.0 in
     ((e.0, r.0), ((λ d. e.1 (sym d)), r.1))
 
-pub apart_take : (j k : ℕ) (l : List ℕ) → j ≤ k → Apart (take k l) → Apart (take j l)
-apart_take zero k l h a = tt
-apart_take (suc j) zero l h a = absurd (omega arith)
-apart_take (suc j) (suc k) [] h a = tt
-apart_take (suc j) (suc k) (x ∷ l) h a = (every_take (λ y. y ≢ x) j k l (omega arith) a.0, apart_take j k l (omega arith) a.1)
+pub apart_take : (j : ℕ) (l : List ℕ) → Apart l → Apart (take j l)
+apart_take zero l a = tt
+apart_take (suc j) [] a = tt
+apart_take (suc j) (x ∷ l) a = (every_take (λ y. y ≢ x) j l a.0, apart_take j l a.1)
 
 pub apart_keep : (t : ℕ → Bool) (l : List ℕ) → Apart l → Apart (keep t l)
 apart_keep t [] a = tt

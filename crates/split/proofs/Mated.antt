@@ -1,6 +1,6 @@
 -- One more position mated: at its port it is the partner of the one that waits there, or waits itself.
 use Prim.Native.Nat.{ℕ, ◌+◌, ◌≤◌, ◌<◌}
-use mathlib.Core.Path.{◌≡◌, refl, sym, ap, ◌∙◌}
+use mathlib.Core.Path.{◌≡◌, refl, sym, ap, ◌∙◌, subst}
 use mathlib.Core.Logic.{◌≢◌}
 use mathlib.Core.List.{List, [], ◌∷◌, ◌++◌, append-nil}
 use mathlib.Core.Bool.{Bool, true, false, not}
@@ -8,7 +8,7 @@ use native.Mathlib.Omega.{arith}
 use native.Mathlib.Numerals.{add-one}
 use lib.Dec.{eqb}
 use lib.ListN.{length, get_or, set, take, replicate, length-set, length-replicate, get_or-replicate}
-use lib.Seq.{take-suc, get_or-set_same, get_or-set_other}
+use lib.Seq.{take-suc, take-length, get_or-set_same, get_or-set_other}
 use borrow.Author.Tests.{eqb-true, eq-eqb, ne_eqb}
 use Rattle.rules.specs.Words.{if, Every}
 use Rattle.rules.specs.Flows.{End, inputs, links}
@@ -20,10 +20,9 @@ use Rattle.rules.proofs.Partners.{in_none, in_first, in_second, in_rest}
 use Rattle.rules.proofs.Singles.{single_every, every_both}
 use Rattle.bits.specs.Digits.{digit, FlippedAt}
 use Rattle.bits.proofs.Digits.{digit_most, digit_none}
-use Rattle.planes.proofs.Lists.{at_end, every_get}
 use Rattle.planes.specs.Tables.{WideEnds, lookup, tabled}
 use Rattle.split.specs.Steps.{Odds, LowEnds, those_at, mate_among, MatedIn, Pends, pends_at, Latest, PendingBy, paired, MatedAt, AllMated}
-use Rattle.split.proofs.Lists.{keep_snoc, every_snoc, every_last, every_take, every_keep, apart_last, apart_take, apart_keep}
+use Rattle.split.proofs.Lists.{keep_snoc, every_snoc, every_last, every_take, every_at, every_keep, apart_last, apart_take, apart_keep}
 
 -- ---- one more, by whether one is left single
 no_cons : (a : ℕ) (l : List ℕ) → a ∷ l ≡ [] → ⊥
@@ -265,15 +264,12 @@ mating_start {ends} {odds} {mates} {latest} l w =
     }
 
 -- one more of the odd counts
-module _ {ends odds : List ℕ} {i k p : ℕ} (o : Odds odds k) (low : LowEnds ends (take k odds)) (h : i < k) (e : p ≡ get_or odds i 0) where
-  i_in : i < length odds
-  i_in = omega (arith, o.len, o.most)
-
+module _ {ends odds : List ℕ} {i p : ℕ} (o : Odds odds) (low : LowEnds ends odds) (i_in : i < length odds) (e : p ≡ get_or odds i 0) where
   pub next_low : p < 528
-  next_low = rw e (every_get (λ r. r < 528) i k odds o.below h i_in)
+  next_low = rw e (every_at (λ r. r < 528) i odds o.below i_in)
 
   next_port : (s : End) → tabled ends s p < 64
-  next_port = rw e (every_get (λ r. (s : End) → tabled ends s r < 64) i k odds low.each h i_in)
+  next_port = rw e (every_at (λ r. (s : End) → tabled ends s r < 64) i odds low.each i_in)
 
   pub next_at_inputs : tabled ends inputs p < 64
   next_at_inputs = next_port inputs
@@ -285,10 +281,10 @@ module _ {ends odds : List ℕ} {i k p : ℕ} (o : Odds odds k) (low : LowEnds e
   more = rw (add-one, e) (take-suc odds i 0 i_in)
 
   apart_more : Apart (take i odds ++ (p ∷ []))
-  apart_more = rw more at (apart_take (i + 1) k odds (omega arith) o.apart)
+  apart_more = rw more at (apart_take (i + 1) odds o.apart)
 
   below_more : Every (λ r. r < 528) (take i odds ++ (p ∷ []))
-  below_more = rw more at (every_take (λ r. r < 528) (i + 1) k odds (omega arith) o.below)
+  below_more = rw more at (every_take (λ r. r < 528) (i + 1) odds o.below)
 
   module _ {before mates at_inputs latest : List ℕ} {pending_at_inputs pending : ℕ} (w : Mating ends odds i before mates at_inputs pending_at_inputs latest pending) where
     pub mating_on : {a b : ℕ} {half all at_inputs_after latest_after : List ℕ}
@@ -316,6 +312,8 @@ module _ {ends odds : List ℕ} {i k p : ℕ} (o : Odds odds k) (low : LowEnds e
             second.mated (tabled before links)
             (first.aside 528 (λ x y g k. omega arith) (tabled ends links) (take i odds) (tabled before links) (every_last (λ r. r < 528) (take i odds) p below_more).0 (w.all.at links))
 
-pub mating_end : {ends odds : List ℕ} {i k : ℕ} {before mates at_inputs latest : List ℕ} {pending_at_inputs pending : ℕ}
-    → Mating ends odds i before mates at_inputs pending_at_inputs latest pending → i ≤ k → k ≤ i → AllMated ends (take k odds) before mates latest pending
-mating_end {ends} {odds} {before = before} {mates} {latest = latest} {pending = pending} w a b = at_end (λ k. AllMated ends (take k odds) before mates latest pending) w.all a b
+pub mating_end : {ends odds : List ℕ} {i : ℕ} {before mates at_inputs latest : List ℕ} {pending_at_inputs pending : ℕ}
+    → Mating ends odds i before mates at_inputs pending_at_inputs latest pending → i ≡ length odds → AllMated ends odds before mates latest pending
+mating_end {ends} {odds} {i} {before} {mates} {latest = latest} {pending = pending} w e =
+    let all : take i odds ≡ odds = ap (λ (n : ℕ). take n odds) e ∙ take-length odds in
+    subst (λ (l : List ℕ). AllMated ends l before mates latest pending) all w.all

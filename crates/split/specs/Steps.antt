@@ -1,5 +1,5 @@
 -- The steps of a split, as functions of the lists that they are lent.
-use Rattle.std.specs.Prelude.{ℕ, suc, zero, ◌+◌, ◌%◌, ◌≤◌, ◌<◌, ◌≡◌, ◌≢◌, List, [], ◌∷◌, ◌++◌, Bool, true, false, eqb, length, get_or, set, take}
+use Rattle.std.specs.Prelude.{ℕ, suc, zero, ◌+◌, ◌%◌, ◌≤◌, ◌<◌, ◌≡◌, ◌≢◌, List, [], ◌∷◌, ◌++◌, Bool, true, false, eqb, length, get_or, set}
 use Rattle.rules.specs.Words.{if, bit, up_from, keep, Every}
 use Rattle.rules.specs.Flows.{End, inputs, links, output_of}
 use Rattle.rules.specs.Rules.{odd, single}
@@ -9,7 +9,7 @@ use Rattle.rules.proofs.Singles.{mate}
 use Rattle.bits.specs.Digits.{digit, FlippedAt}
 use Rattle.planes.specs.Planes.{digit_at, counts_in, odds_in, words_of, Mask}
 use Rattle.planes.specs.Steps.{Gathered}
-use Rattle.planes.specs.Tables.{Wide, WideEnds, tabled}
+use Rattle.planes.specs.Tables.{WideEnds, tabled}
 
 -- ---- the ends of positions
 -- The digits of a word that are 1 are those of outputs, of which there are 16.
@@ -23,12 +23,10 @@ pub record Sides (n multi : ℕ) (ends : List ℕ) : Type 0 where
   pub few : Outputs multi
   pub others : (p : ℕ) → p < n → digit multi (output_of (tabled ends links p)) ≡ 0 → tabled ends links p % 4 ≡ 0
 
--- The first k of a list are positions, none of them twice; and a table has inputs and links below 64 for them.
-pub record Odds (odds : List ℕ) (k : ℕ) : Type 0 where
-  pub len : Wide odds
-  pub most : k ≤ 528
-  pub below : Every (λ p. p < 528) (take k odds)
-  pub apart : Apart (take k odds)
+-- A list has positions, none of them twice; and a table has inputs and links below 64 for them.
+pub record Odds (odds : List ℕ) : Type 0 where
+  pub below : Every (λ p. p < 528) odds
+  pub apart : Apart odds
 
 pub record LowEnds (ends l : List ℕ) : Type 0 where
   pub each : Every (λ p. (s : End) → tabled ends s p < 64) l
@@ -95,16 +93,16 @@ pub record Joins (l before mates : List ℕ) : Type 0 where
   pub at_links : Apart l → MatedIn (λ p. 0) l (tabled before links) (tabled mates links)
   pub at_inputs : (r : ℕ) → r < 528 → tabled mates inputs r ≡ tabled before inputs r
 
--- The first k of a list are the odd counts of m, by rising position.
-abbrev pub OddsOf : List ℕ → ℕ → List ℕ → Type 0
-OddsOf odds k m = take k odds ≡ keep (odd m) (up_from 0 (length m))
+-- A list has the odd counts of m, by rising position.
+abbrev pub OddsOf : List ℕ → List ℕ → Type 0
+OddsOf odds m = odds ≡ keep (odd m) (up_from 0 (length m))
 
 -- Each odd count has its partner at its input and at its output, and every other count what it had.
-pub record MatedBy (multi : ℕ) (ends odds : List ℕ) (k : ℕ) (before mates : List ℕ) : Type 0 where
+pub record MatedBy (multi : ℕ) (ends odds before mates : List ℕ) : Type 0 where
   pub len : WideEnds mates
-  pub same : (m : List ℕ) → OddsOf odds k m → Sides (length m) multi ends → (s : End) (p : ℕ) → odd m p ≡ true
+  pub same : (m : List ℕ) → OddsOf odds m → Sides (length m) multi ends → (s : End) (p : ℕ) → odd m p ≡ true
       → tabled mates s p ≡ mate (tabled ends) m s p
-  pub kept : (m : List ℕ) → OddsOf odds k m → (s : End) (p : ℕ) → p < 528 → odd m p ≡ false → tabled mates s p ≡ tabled before s p
+  pub kept : (m : List ℕ) → OddsOf odds m → (s : End) (p : ℕ) → p < 528 → odd m p ≡ false → tabled mates s p ≡ tabled before s p
 
 -- ---- the split
 -- A mask has the odd counts that favour half h by the rules, over the ends that a table has, however many planes are read.

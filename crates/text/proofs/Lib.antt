@@ -1,2 +1,2 @@
--- Laws of words and numbers at a place.
-pub mod Places
+-- Laws of the words and numbers of a line.
+pub mod Numbers

@@ -1,2 +1,2 @@
--- What the readings of words and numbers promise.
-pub mod Places
+-- What the functions of a line's words and numbers promise.
+pub mod Numbers

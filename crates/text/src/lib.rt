@@ -1,101 +1,66 @@
 //! Words and numbers of a line.
 #![tactic(auto)]
 
-ghost use Rattle.std.specs.Prelude.{◌≡◌, [], ◌≤◌, ◌<◌, length, drop};
-ghost use Rattle.text.specs.Places.{starts, DigitAt, Limit, NumberOf, LineOf};
+ghost use Rattle.std.specs.Prelude.{[]};
+ghost use Rattle.text.specs.Numbers.{DigitOf, Limit, NumberOf, LineOf};
 
-// A number at a place of the bytes, and the place behind it.
-#[derive(Drop)]
-pub enum NumberRead {
-    Number { value: usize, next: usize },
-    NoNumber,
+// A number that was read, and the bytes behind it.
+#[derive(Clone, Copy)]
+pub struct NumberRead<'a> {
+    pub value: usize,
+    pub rest: &'a [u8],
 }
 
-// A word stands at a place.
-pub fn word(bytes: &[u8], at: usize, w: &[u8]) -> bool
-    requires { at ≤ length bytes.now }
-    ensures { result ≡ starts w.now (drop at bytes.now) }
+// Reads a digit.
+#[inline]
+fn digit(bytes: &[u8]) -> Option<NumberRead<'_>>
+    ensures { DigitOf bytes.now result }
 {
-    if bytes.len() - at < w.len() {
-        return false;
+    let (first, rest) = bytes.split_first()?;
+    if first.is_ascii_digit() {
+        return Some(NumberRead {
+            value: usize::from(*first - b'0'),
+            rest,
+        });
     }
-    let mut i: usize = 0;
-    while i < w.len() {
-        if bytes[at + i] != w[i] {
-            return false;
-        }
-        i += 1;
-    }
-    true
-}
-
-// The digit at a place; 10 where none stands there.
-fn digit(bytes: &[u8], at: usize) -> usize
-    ensures { DigitAt bytes.now at result }
-{
-    if bytes.len() <= at {
-        return 10;
-    }
-    let byte = bits::byte(bytes[at]);
-    if byte < 48 {
-        return 10;
-    }
-    if 57 < byte {
-        return 10;
-    }
-    byte - 48
+    None
 }
 
 // Reads a number, 0 to most without leading zeros: a 0 ends it.
-fn number(bytes: &[u8], at: usize, most: usize) -> NumberRead
+fn number(bytes: &[u8], most: usize) -> Option<NumberRead<'_>>
     requires { Limit most }
-    ensures { NumberOf most [] bytes.now at result }
+    ensures { NumberOf most [] bytes.now result }
 {
-    let mut value = digit(bytes, at);
-    if 9 < value {
-        return NumberRead::NoNumber;
+    let mut read = digit(bytes)?;
+    let leading_zero = read.value == 0;
+    if leading_zero {
+        return Some(read);
     }
-    let mut next = at + 1;
-    if value == 0 {
-        return NumberRead::Number { value, next };
-    }
-    let mut d = digit(bytes, next);
-    while d < 10 {
-        value = 10 * value + d;
+    // No range counts the digits: the first byte that is none ends them.
+    while let Some(NumberRead { value: d, rest }) = digit(read.rest) {
+        let value = 10 * read.value + d;
         if most < value {
-            return NumberRead::NoNumber;
+            return None;
         }
-        next += 1;
-        d = digit(bytes, next);
+        read = NumberRead { value, rest };
     }
-    NumberRead::Number { value, next }
+    Some(read)
 }
 
 // Reads a word and the number behind it.
-pub fn number_after(bytes: &[u8], at: usize, before: &[u8], most: usize) -> NumberRead
-    requires { (at ≤ length bytes.now) × Limit most }
-    ensures { NumberOf most before.now bytes.now at result }
+pub fn number_after<'a>(bytes: &'a [u8], before: &[u8], most: usize) -> Option<NumberRead<'a>>
+    requires { Limit most }
+    ensures { NumberOf most before.now bytes.now result }
 {
-    if word(bytes, at, before) {
-        return number(bytes, at + before.len(), most);
-    }
-    NumberRead::NoNumber
+    number(bytes.strip_prefix(before)?, most)
 }
 
 // Reads a line of a word and one number.
-pub fn one_number(bytes: &[u8], at: usize, before: &[u8], most: usize) -> NumberRead
-    requires { (at ≤ length bytes.now) × Limit most }
-    ensures { LineOf most before.now bytes.now at result }
+pub fn one_number<'a>(bytes: &'a [u8], before: &[u8], most: usize) -> Option<NumberRead<'a>>
+    requires { Limit most }
+    ensures { LineOf most before.now bytes.now result }
 {
-    let read = number_after(bytes, at, before, most);
-    let NumberRead::Number { value, next } = read else {
-        return NumberRead::NoNumber;
-    };
-    if word(bytes, next, b")\n") {
-        return NumberRead::Number {
-            value,
-            next: next + 2,
-        };
-    }
-    NumberRead::NoNumber
+    let NumberRead { value, rest } = number_after(bytes, before, most)?;
+    let rest = rest.strip_prefix(b")\n")?;
+    Some(NumberRead { value, rest })
 }

@@ -1,109 +1,127 @@
 -- What Turn answers and leaves, refusal by refusal.
-use Prim.Native.Nat.{ℕ, ◌*◌, ◌≤◌, ◌<◌}
+use Prim.Native.Nat.{ℕ, ◌*◌}
 use mathlib.Core.Path.{◌≡◌, refl, sym, ap, ◌∙◌}
 use mathlib.Core.Logic.{◌≢◌}
 use mathlib.Core.List.{List, [], ◌∷◌}
-use mathlib.Core.Bool.{Bool, true, false, not}
+use mathlib.Core.Bool.{Bool, true, false, not, true≢false}
 use native.Mathlib.Omega.{arith}
-use lib.Dec.{eqb}
+use lib.Dec.{ltb}
 use lib.ListN.{length, get_or}
 use borrow.Author.Tests.{lt-ltb, le-ltb, eq-eqb, ne_eqb}
-use Rattle.rules.specs.Words.{first}
+use Rattle.std.specs.Prelude.{Option, Some, None, is_some}
+use Rattle.rules.specs.Words.{first, found}
 use Rattle.rules.specs.Flows.{Side, other}
-use Rattle.calls.specs.Refusals.{Check, refusal, accepted, answered, bad_frame}
+use Rattle.rules.proofs.Ranges.{first_of}
+use Rattle.calls.specs.Refusals.{Check, report, refusal, accepted, list_checks, bad_frame}
 use Rattle.calls.specs.Inspect.{is_wrong, used_twice, wrong_entry, bad_entries}
 use Rattle.calls.specs.declared.Refusal.{Refusal}
-use Rattle.calls.specs.declared.Refusal.TheVariants.{FrameLength, SecondLength, Entries}
-use Rattle.calls.specs.declared.Answer.{Answer}
-use Rattle.calls.specs.declared.Answer.TheVariants.{Accepted, Refused}
-use Rattle.calls.proofs.Reports.{report_clear, first_reported, clear_some, refusal_number}
-use Rattle.calls.specs.Demand2.{WellFormed}
-use Rattle.calls.proofs.Demand2.{past_load}
+use Rattle.calls.specs.declared.Refusal.TheVariants.{SecondLength, Entries}
+use Rattle.calls.proofs.Reports.{Passes, report_clear, report_on, first_reported, clear_some, refusal_number}
 use Rattle.calls.proofs.Faults.{entries_search, twice_search}
-use Rattle.checks.specs.Lists.{ListAnswer}
-use Rattle.checks.specs.Fits.{FrameFits}
-use Rattle.checks.proofs.Listed.{list_refused, list_well, frame_fits}
+use Rattle.checks.specs.Fits.{Clear, EachFlow}
+use Rattle.checks.proofs.Listed.{list_refused, list_well}
+use Rattle.checks.proofs.Framed.{frame_refused, after_list}
+use Rattle.entries.proofs.Found.{right_flows}
 use Rattle.sides.specs.Turn.{by_side, Turnable, bad_second, turn_checks, turn_answer, second_after}
 use Rattle.sides.proofs.Agreed.{turnable_accepts}
 
 -- the answer is Turn's, and so are the entries of the second buffer
-pub record Done (side : Side) (ports slots : ℕ) (list frame second answer entries : List ℕ) : Type 0 where
-  pub answers : answer ≡ turn_answer side ports slots list frame second
-  pub leaves : entries ≡ second_after side ports slots list frame second
+abbrev pub Done : Side → ℕ → ℕ → List ℕ → List ℕ → List ℕ → List ℕ → List ℕ → Type 0
+Done side ports slots list frame second answer entries =
+    (answer ≡ turn_answer side ports slots list frame second) × (entries ≡ second_after side ports slots list frame second)
 
-pub done : (side : Side) (ports slots : ℕ) (list frame second answer entries : List ℕ) → Done side ports slots list frame second answer entries
-    → (answer ≡ turn_answer side ports slots list frame second) × (entries ≡ second_after side ports slots list frame second)
-done side ports slots list frame second answer entries d = (d.answers, d.leaves)
+-- a search that finds one, and one that finds none
+some_low : (t : ℕ → Bool) (n : ℕ) (r : Option ℕ) → r ≡ found t 0 n → is_some r ≡ true → ltb (first t 0 n) n ≡ true
+some_low t n (Some x) e d = let f = first_of t n 0 (Some x) e in lt-ltb (first t 0 n) n (omega (arith, f.0, f.1))
+some_low t n None e d = absurd (true≢false (sym d))
 
--- what holds where no entry is found to be wrong and no port to be used twice
-pub turnable : (side : Side) {ports slots : ℕ} {list frame : List ℕ} → WellFormed ports slots list → FrameFits ports slots frame
-    → {q : ℕ} → q ≡ first (is_wrong side ports list frame) 0 (slots * ports) → length frame ≤ q
-    → {p : ℕ} → p ≡ first (used_twice side ports list frame) 0 (slots * ports) → length frame ≤ p → Turnable side ports slots list frame
-turnable side {ports} {slots} {list} {frame} well framed {q} found none {p} twice once =
-    record {
-      well = well;
-      size = framed.size;
-      each_right = (entries_search side ports slots list frame).tells.known (le-ltb _ (slots * ports) (omega (arith, found, framed.size)));
-      each_once = (twice_search side ports slots list frame).tells.known (le-ltb _ (slots * ports) (omega (arith, twice, framed.size)));
-    }
+none_high : (t : ℕ → Bool) (n : ℕ) (r : Option ℕ) → r ≡ found t 0 n → is_some r ≡ false → ltb (first t 0 n) n ≡ false
+none_high t n (Some x) e d = absurd (true≢false d)
+none_high t n None e d = le-ltb (first t 0 n) n (omega (arith, first_of t n 0 None e))
 
--- the tests after those of the list
-abbrev rest : Side → ℕ → ℕ → List ℕ → List ℕ → List ℕ → List Check
-rest side ports slots list frame second = bad_frame ports slots frame ∷ bad_second frame second ∷ bad_entries 14 side ports slots list frame
+no_some : (r : Option ℕ) → is_some r ≡ false → None ≡ r
+no_some (Some x) d = absurd (true≢false d)
+no_some None d = refl
 
-module _ (side : Side) {ports slots : ℕ} {list : List ℕ} (frame second : List ℕ) where
+-- the entries of a frame in which no wrong entry is found
+pub flows_alone : (side : Side) (ports slots : ℕ) (list frame : List ℕ) → length frame ≡ slots * ports → (r : Option ℕ)
+    → r ≡ found (is_wrong side ports list frame) 0 (slots * ports) → is_some r ≡ false → EachFlow list frame
+flows_alone side ports slots list frame size r wrong right = right_flows side ports slots list frame size (no_some r right ∙ wrong)
+
+module _ (side : Side) (ports slots : ℕ) (list frame second : List ℕ) where
+  -- the tests after those of the list, and after that of the frame
+  abbrev rest : List Check
+  rest = bad_second frame second ∷ bad_entries 14 side ports slots list frame
+
   -- a refusal leaves the second buffer
   refused : (x : Refusal) → refusal x ≡ turn_answer side ports slots list frame second → Done side ports slots list frame second (refusal x) second
   refused x e =
       let some : get_or (turn_answer side ports slots list frame second) 0 0 ≢ 0 = rw e at (refusal_number x) in
-      record { answers = e; leaves = rw (clear_some (turn_checks side ports slots list frame second) accepted refl some) }
+      (e, rw (clear_some (turn_checks side ports slots list frame second) accepted refl some))
 
-  module _ {a : Answer} (is : ListAnswer ports slots list (answered a)) where
-    pub list_done : {x : Refusal} → a ≡ Refused x → Done side ports slots list frame second (refusal x) second
+  pub list_done : (x : Refusal) → refusal x ≡ report (list_checks ports slots list) accepted → Done side ports slots list frame second (refusal x) second
+  unfolding turn_checks
+  list_done x e = refused x (list_refused ports slots list x e (bad_frame ports slots frame ∷ rest) accepted)
+
+  module _ {p s : ℕ} {l : List ℕ} (passed : Clear p s l) (told : (p ≡ ports) × (s ≡ slots) × (l ≡ list)) where
+    clear : Clear ports slots list
+    clear = rw (told.0, told.1, told.2) at passed
+
+    pub frame_done : (x : Refusal) → refusal x ≡ report (bad_frame p s frame ∷ []) accepted → Done side ports slots list frame second (refusal x) second
     unfolding turn_checks
-    list_done {x} e = refused x (list_refused is e (rest side ports slots list frame second) accepted)
+    frame_done x e = refused x (frame_refused frame clear x (rw (told.0, told.1) at e) rest accepted)
 
-    module _ (well : a ≡ Accepted) {t : Bool} (t_is : t ≡ not (eqb (length frame) (slots * ports))) where
-      pub frame_done : t ≡ true → Done side ports slots list frame second (4 ∷ []) second
+    module _ {q t : ℕ} {m e : List ℕ} (size : length e ≡ t * q) (kept : (q ≡ p) × (t ≡ s) × (m ≡ l) × (e ≡ frame)) where
+      frame_size : length frame ≡ slots * ports
+      frame_size = rw (kept.0, kept.1, kept.3, told.0, told.1) at size
+
+      refused_by : (x : Refusal) → refusal x ≡ report rest accepted → Done side ports slots list frame second (refusal x) second
       unfolding turn_checks
-      frame_done h = refused FrameLength (first_reported 0 (rest side ports slots list frame second) accepted tt (sym t_is ∙ h) ∙ sym (past_load ports slots list (list_well is well) (rest side ports slots list frame second) accepted))
+      refused_by x h =
+          refused x (h ∙ sym (after_list clear (bad_frame ports slots frame ∷ rest) accepted
+          ∙ report_on (bad_frame ports slots frame) rest accepted (ap not (eq-eqb (length frame) (slots * ports) frame_size))))
 
-      module _ (no : t ≡ false) where
-        framed : FrameFits ports slots frame
-        framed = frame_fits is well t_is no
+      pub second_done : length second ≢ length e → Done side ports slots list frame second (15 ∷ []) second
+      second_done n =
+          refused_by SecondLength (first_reported 0 rest accepted tt (ap not (ne_eqb (length second) (length frame) (λ d. n (d ∙ sym (ap length kept.3))))))
 
-        passed_frame : (bad_frame ports slots frame).0 ≡ false
-        passed_frame = sym t_is ∙ no
+      module _ (same : length second ≡ length e) (r : Option ℕ) (wrong : r ≡ found (is_wrong side q m e) 0 (t * q)) where
+        passed_second : Passes (bad_second frame second)
+        passed_second = ap not (eq-eqb (length second) (length frame) (same ∙ ap length kept.3))
 
-        pub second_done : (length second ≡ length frame → ⊥) → Done side ports slots list frame second (15 ∷ []) second
-        unfolding turn_checks
-        second_done n =
-            refused SecondLength (first_reported 1 (rest side ports slots list frame second) accepted (passed_frame, tt) (ap not (ne_eqb (length second) (length frame) n))
-            ∙ sym (past_load ports slots list (list_well is well) (rest side ports slots list frame second) accepted))
+        wrong_is : r ≡ found (is_wrong side ports list frame) 0 (slots * ports)
+        wrong_is = rw (kept.0, kept.1, kept.2, kept.3, told.0, told.1, told.2) at wrong
 
-        module _ (same : length second ≡ length frame) (q : ℕ) (found : q ≡ first (is_wrong side ports list frame) 0 (slots * ports)) where
-          passed_second : (bad_second frame second).0 ≡ false
-          passed_second = ap not (eq-eqb (length second) (length frame) same)
+        pub wrong_done : is_some r ≡ true → Done side ports slots list frame second (14 ∷ []) second
+        wrong_done d = refused_by Entries (first_reported 1 rest accepted (passed_second, tt) (some_low (is_wrong side ports list frame) (slots * ports) r wrong_is d))
 
-          pub wrong_done : q < length frame → Done side ports slots list frame second (14 ∷ []) second
-          unfolding turn_checks
-          wrong_done h =
-              refused Entries (first_reported 2 (rest side ports slots list frame second) accepted (passed_frame, (passed_second, tt)) (lt-ltb _ (slots * ports) (omega (arith, found, framed.size)))
-              ∙ sym (past_load ports slots list (list_well is well) (rest side ports slots list frame second) accepted))
+        module _ (right : is_some r ≡ false) (u : Option ℕ) (twice : u ≡ found (used_twice side q m e) 0 (t * q)) where
+          passed_wrong : Passes (wrong_entry side ports slots list frame)
+          passed_wrong = none_high (is_wrong side ports list frame) (slots * ports) r wrong_is right
 
-          module _ (none : length frame ≤ q) where
-            passed_wrong : (wrong_entry side ports slots list frame).0 ≡ false
-            passed_wrong = le-ltb _ (slots * ports) (omega (arith, found, framed.size))
+          twice_is : u ≡ found (used_twice side ports list frame) 0 (slots * ports)
+          twice_is = rw (kept.0, kept.1, kept.2, kept.3, told.0, told.1, told.2) at twice
 
-            module _ (p : ℕ) (twice : p ≡ first (used_twice side ports list frame) 0 (slots * ports)) where
-              pub twice_done : p < length frame → Done side ports slots list frame second (14 ∷ []) second
-              unfolding turn_checks
-              twice_done h =
-                  refused Entries (first_reported 3 (rest side ports slots list frame second) accepted (passed_frame, (passed_second, (passed_wrong, tt))) (lt-ltb _ (slots * ports) (omega (arith, twice, framed.size)))
-                  ∙ sym (past_load ports slots list (list_well is well) (rest side ports slots list frame second) accepted))
+          pub twice_done : is_some u ≡ true → Done side ports slots list frame second (14 ∷ []) second
+          twice_done d =
+              refused_by Entries (first_reported 2 rest accepted (passed_second, (passed_wrong, tt)) (some_low (used_twice side ports list frame) (slots * ports) u twice_is d))
 
-              module _ (once : length frame ≤ p) where
-                pub turns : {entries : List ℕ} → entries ≡ by_side (other side) ports list frame → Done side ports slots list frame second (0 ∷ []) entries
-                turns e =
-                    let yes = turnable_accepts side ports slots list frame second (turnable side (list_well is well) framed found none twice once) same in
-                    record { answers = sym (report_clear (turn_checks side ports slots list frame second) accepted yes); leaves = e ∙ rw yes }
+          module _ (once : is_some u ≡ false) where
+            here : Turnable side ports slots list frame
+            here =
+                record {
+                  well = list_well clear;
+                  size = frame_size;
+                  each_right = (entries_search side ports slots list frame).tells.known passed_wrong;
+                  each_once = (twice_search side ports slots list frame).tells.known (none_high (used_twice side ports list frame) (slots * ports) u twice_is once);
+                }
+
+            -- as the code names them
+            pub turnable : Turnable side q t m e
+            turnable = rw (kept.0, kept.1, kept.2, kept.3, told.0, told.1, told.2) here
+
+            pub turns : {new : List ℕ} → new ≡ by_side (other side) q m e → Done side ports slots list frame second (0 ∷ []) new
+            turns {new} n =
+                let yes = turnable_accepts side ports slots list frame second here (same ∙ ap length kept.3) in
+                let by : new ≡ by_side (other side) ports list frame = rw (kept.0, kept.2, kept.3, told.0, told.2) at n in
+                (sym (report_clear (turn_checks side ports slots list frame second) accepted yes), by ∙ rw yes)

@@ -7,13 +7,10 @@ use native.Mathlib.Omega.{arith}
 use lib.ListN.{length, get_or, set, replicate, length-set, length-replicate}
 use lib.Seq.{get_or-set_same, get_or-set_other}
 use borrow.Author.Tests.{ne_eqb}
-use Rattle.rules.specs.Flows.{flows, number_of, Side, other, on_side, port_of}
+use Rattle.rules.specs.Flows.{flows, Side, other, on_side, port_of}
 use Rattle.rules.proofs.Cases.{by_eq}
 use Rattle.rules.proofs.Lists.{zero_at}
 use Rattle.rules.proofs.Flows.{by_entry}
-use Rattle.checks.specs.Fits.{ListFits}
-use Rattle.checks.specs.Places.{place_on}
-use Rattle.checks.proofs.Fits.{well_fits, side_number, side_is}
 use Rattle.sides.specs.Turn.{by_side, Turnable}
 use Rattle.sides.proofs.Slots.{flow_of, one_goes, at_most}
 use Rattle.sides.proofs.Turned.{one_sound, only_turned}
@@ -22,26 +19,6 @@ use Rattle.turning.specs.Put.{put}
 -- ---- one entry
 pub put_none : (to : Side) (list new : List ℕ) (e : ℕ) → e ≡ 0 → new ≡ put to list e new
 put_none to list new e z = sym (rw z)
-
-module _ (to : Side) (list new : List ℕ) (e n place : ℕ) (fits : ListFits (length new) list) (low : e ≤ flows list) (some : e ≡ 0 → ⊥) (wide : n ≡ e)
-    (placed : place ≡ place_on to) where
-  pub flow_low : n - 1 < flows list
-  flow_low = omega arith
-
-  module _ (x : ℕ) (is : x ≡ number_of place list (n - 1)) where
-    x_is : x ≡ number_of (place_on to) list (e - 1)
-    x_is = is ∙ ap (λ p. number_of p list (n - 1)) placed ∙ ap (λ f. number_of (place_on to) list (f - 1)) wide
-
-    pub port_least : 1 ≤ x
-    port_least = let w = side_number fits (e - 1) (omega arith) to in omega (arith, w.0, x_is)
-
-    pub port_low : x - 1 < length new
-    port_low = let w = side_number fits (e - 1) (omega arith) to in omega (arith, w.0, w.1, x_is)
-
-    pub put_some : set new (x - 1) e ≡ put to list e new
-    put_some =
-        let at : x - 1 ≡ on_side to (port_of list) (e - 1) = ap (λ z. z - 1) x_is ∙ sym (side_is fits (e - 1) (omega arith) to) in
-        rw (at, ne_eqb e 0 some)
 
 -- ---- a slot
 -- The first i entries of a slot put at their flows' ports of a side, and nothing else.
@@ -67,9 +44,6 @@ module _ (side : Side) (ports : ℕ) (list slot : List ℕ) (t : Turnable side p
 
   pub in_the_slot : (i : ℕ) → i < length slot → i < ports
   in_the_slot i h = omega (arith, t.size)
-
-  pub list_fits : (i : ℕ) (new : List ℕ) → Filled to ports list slot i new → ListFits (length new) list
-  list_fits i new g = rw g.size (well_fits t.well)
 
   pub entry_most : (i : ℕ) {e : ℕ} → i < length slot → e ≡ get_or slot i 0 → e ≤ flows list
   entry_most i h is = omega (arith, at_most (one_sound t) i (in_the_slot i h), is)

@@ -3,16 +3,13 @@ use Prim.Native.Nat.{ℕ, suc, ◌+◌, ◌-◌, ◌*◌, ◌≤◌, ◌<◌}
 use mathlib.Core.Path.{◌≡◌, sym, ap, ◌∙◌}
 use mathlib.Core.List.{List, ◌++◌}
 use native.Mathlib.Omega.{arith}
-use native.Mathlib.Nat.{mul-le-mul, mul-le-mul_right}
-use mir.Syntax.{w64}
-use mir.Val.{Fits}
+use native.Mathlib.Nat.{mul-le-mul_right}
 use lib.ListN.{length, get_or, take, drop, length-take, get_or-append}
 use lib.Seq.{get_or-take, get_or-append-add, ext_get_or}
 use borrow.Rule.Slice.PartMut.{put_mid, post_of, same_len_mid, mid_len}
 use Rattle.rules.specs.Flows.{Side, other}
 use Rattle.rules.specs.Frames.{run_of}
 use Rattle.rules.proofs.Cases.{by_lt}
-use Rattle.rules.proofs.Levels.{power_most}
 use Rattle.sides.specs.Turn.{by_side, Turnable}
 use Rattle.sides.proofs.Turned.{by_size, new_size, slot_turnable, slot_turned}
 
@@ -26,9 +23,6 @@ module _ (side : Side) (ports slots : ℕ) (list frame : List ℕ) (t : Turnable
   pub turned_start : (second : List ℕ) → length second ≡ length frame → Turned side ports slots list frame 0 second
   turned_start second e = record { most = omega arith; size = e ∙ t.size; done = λ q h. absurd (omega arith) }
 
-  room : slots * ports ≤ 16384
-  room = omega (arith, mul-le-mul (power_most t.well.power) t.well.rack.1)
-
   pub turned_end : (s : ℕ) (second : List ℕ) → Turned side ports slots list frame s second → slots ≤ s → second ≡ by_side (other side) ports list frame
   turned_end s second g h =
       let e : s ≡ slots = omega (arith, g.most) in
@@ -36,74 +30,55 @@ module _ (side : Side) (ports slots : ℕ) (list frame : List ℕ) (t : Turnable
       (λ q l. g.done q (omega (arith, g.size, ap (λ z. z * ports) e)))
 
   module _ (s : ℕ) (h : s < slots) where
-    pub part_ends : s * ports + ports ≤ slots * ports
+    part_ends : s * ports + ports ≤ slots * ports
     part_ends = let m = mul-le-mul_right {m = suc s} {n = slots} ports h in omega arith
 
-    pub frame_ends : s * ports + ports ≤ length frame
-    frame_ends = omega (arith, part_ends, t.size)
+    module _ {slot : List ℕ} (same : slot ≡ run_of ports s 1 frame) where
+      pub part_turnable : Turnable side ports 1 list slot
+      part_turnable = rw same (slot_turnable t s h)
 
-    pub from_fits : Fits w64 (s * ports)
-    from_fits = record { fits = omega (arith, part_ends, room) }
+      module _ (second : List ℕ) (g : Turned side ports slots list frame s second) where
+        second_ends : s * ports + ports ≤ length second
+        second_ends = omega (arith, part_ends, g.size)
 
-    pub end_fits : Fits w64 (s * ports + ports)
-    end_fits = record { fits = omega (arith, part_ends, room) }
+        pub part_length : length (take (s * ports + ports - s * ports) (drop (s * ports) second)) ≡ ports
+        part_length = mid_len (s * ports) (s * ports + ports) second second_ends ∙ omega arith
 
-    pub offset_fits : Fits w64 (s * ports * 2)
-    offset_fits = record { fits = omega (arith, part_ends, room) }
+        module _ (new : List ℕ) (is : new ≡ by_side (other side) ports list slot) where
+          new_length : length new ≡ ports
+          new_length = ap length is ∙ by_size (other side) ports 1 list slot part_turnable.size ∙ part_turnable.size ∙ omega arith
 
-    -- the part of the frame that the code lends
-    abbrev pub part : List ℕ
-    part = take (s * ports + ports - s * ports) (drop (s * ports) frame)
+          abbrev put : List ℕ
+          put = put_mid (s * ports) (s * ports + ports - s * ports) second new
 
-    part_is : part ≡ run_of ports s 1 frame
-    unfolding run_of
-    part_is = let e : s * ports + ports - s * ports ≡ 1 * ports = omega arith in rw e
+          front : length (take (s * ports) second) ≡ s * ports
+          front = simp length-take (omega (arith, second_ends))
 
-    pub part_turnable : Turnable side ports 1 list part
-    part_turnable = rw part_is (slot_turnable t s h)
+          put_before : (q : ℕ) → q < s * ports → get_or put q 0 ≡ get_or second q 0
+          put_before q l =
+              get_or-append (take (s * ports) second) (new ++ post_of (s * ports) (s * ports + ports - s * ports) second) 0 q (omega (arith, front))
+              ∙ get_or-take (s * ports) second q 0 l
 
-    module _ (second : List ℕ) (g : Turned side ports slots list frame s second) where
-      pub second_ends : s * ports + ports ≤ length second
-      second_ends = omega (arith, part_ends, g.size)
+          put_there : (x : ℕ) → x < ports → get_or put (s * ports + x) 0 ≡ get_or new x 0
+          put_there x l =
+              let rest = new ++ post_of (s * ports) (s * ports + ports - s * ports) second in
+              ap (λ z. get_or put (z + x) 0) (sym front)
+              ∙ get_or-append-add (take (s * ports) second) rest x 0
+              ∙ get_or-append new (post_of (s * ports) (s * ports + ports - s * ports) second) 0 x (omega (arith, new_length))
 
-      pub part_length : length (take (s * ports + ports - s * ports) (drop (s * ports) second)) ≡ ports
-      part_length = mid_len (s * ports) (s * ports + ports) second second_ends ∙ omega arith
-
-      module _ (new : List ℕ) (is : new ≡ by_side (other side) ports list part) where
-        new_length : length new ≡ ports
-        new_length = ap length is ∙ by_size (other side) ports 1 list part part_turnable.size ∙ part_turnable.size ∙ omega arith
-
-        abbrev put : List ℕ
-        put = put_mid (s * ports) (s * ports + ports - s * ports) second new
-
-        front : length (take (s * ports) second) ≡ s * ports
-        front = simp length-take (omega (arith, second_ends))
-
-        put_before : (q : ℕ) → q < s * ports → get_or put q 0 ≡ get_or second q 0
-        put_before q l =
-            get_or-append (take (s * ports) second) (new ++ post_of (s * ports) (s * ports + ports - s * ports) second) 0 q (omega (arith, front))
-            ∙ get_or-take (s * ports) second q 0 l
-
-        put_there : (x : ℕ) → x < ports → get_or put (s * ports + x) 0 ≡ get_or new x 0
-        put_there x l =
-            let rest = new ++ post_of (s * ports) (s * ports + ports - s * ports) second in
-            ap (λ z. get_or put (z + x) 0) (sym front)
-            ∙ get_or-append-add (take (s * ports) second) rest x 0
-            ∙ get_or-append new (post_of (s * ports) (s * ports + ports - s * ports) second) 0 x (omega (arith, new_length))
-
-        pub turned_on : Turned side ports slots list frame (s + 1) put
-        turned_on =
-            record {
-              most = omega arith;
-              size = same_len_mid (s * ports) (s * ports + ports - s * ports) second new (new_length ∙ sym part_length) ∙ g.size;
-              done = λ q l. by_lt q (s * ports)
-                  (λ k. put_before q k ∙ g.done q k)
-                  (λ k.
-                  let x = q - s * ports in
-                  let d : q ≡ s * ports + x = omega arith in
-                  let low : x < ports = omega arith in
-                  rw d (put_there x low ∙ ap (λ z. get_or z x 0) is ∙ slot x low));
-            }
-          where
-            slot : (x : ℕ) → x < ports → get_or (by_side (other side) ports list part) x 0 ≡ get_or (by_side (other side) ports list frame) (s * ports + x) 0
-            slot x low = ap (λ z. get_or (by_side (other side) ports list z) x 0) part_is ∙ slot_turned t s h x low
+          pub turned_on : Turned side ports slots list frame (s + 1) put
+          turned_on =
+              record {
+                most = omega arith;
+                size = same_len_mid (s * ports) (s * ports + ports - s * ports) second new (new_length ∙ sym part_length) ∙ g.size;
+                done = λ q l. by_lt q (s * ports)
+                    (λ k. put_before q k ∙ g.done q k)
+                    (λ k.
+                    let x = q - s * ports in
+                    let d : q ≡ s * ports + x = omega arith in
+                    let low : x < ports = omega arith in
+                    rw d (put_there x low ∙ ap (λ z. get_or z x 0) is ∙ there x low));
+              }
+            where
+              there : (x : ℕ) → x < ports → get_or (by_side (other side) ports list slot) x 0 ≡ get_or (by_side (other side) ports list frame) (s * ports + x) 0
+              there x low = ap (λ z. get_or (by_side (other side) ports list z) x 0) same ∙ slot_turned t s h x low

@@ -8,20 +8,18 @@ use native.Mathlib.Nat.{mul-le-mul_right}
 use mir.Syntax.{w64}
 use mir.Val.{Fits}
 use lib.Dec.{eqb}
-use lib.ListN.{length, get_or, take, drop}
+use lib.ListN.{length, get_or}
 use borrow.Author.Tests.{eqb-false}
 use Rattle.rules.specs.Words.{within, Within}
 use Rattle.rules.specs.Frames.{levels}
-use Rattle.calls.specs.Refusals.{none_holds, accepted, answered, refusal}
-use Rattle.calls.specs.Service.{view_checks, view_number, view_start, view_size, viewed}
-use Rattle.calls.specs.declared.Answer.{Answer}
-use Rattle.calls.specs.declared.Answer.TheVariants.{Accepted, Refused}
+use Rattle.calls.specs.Refusals.{none_holds, accepted, refusal}
+use Rattle.calls.specs.Service.{view_checks, view_number, view_start, view_size}
 use Rattle.calls.specs.declared.Refusal.{Refusal}
 use Rattle.rules.proofs.Cases.{by_bool}
 use Rattle.calls.proofs.Reports.{clear_none, clear_some, clear_passes, first_reported, other_reported, ports_tells, slots_tells, frame_tells, slot_tells, refusal_number}
 use Rattle.checks.specs.Fits.{FrameFits}
 use Rattle.checks.proofs.Fits.{entries_most}
-use Rattle.view.specs.Asked.{checked, onward}
+use Rattle.view.specs.Asked.{checked}
 
 -- ---- the answers in their order
 module _ (ports slots : ℕ) (entries : List ℕ) (slot : ℕ) where
@@ -80,28 +78,28 @@ record Upto (end size : ℕ) : Type 0 where
   pub inside : end ≤ size
   pub low : end ≤ 16384
 
-module _ (ports slots : ℕ) (entries : List ℕ) (slot : ℕ) {answer : Answer} (is : answered answer ≡ checked ports slots entries slot) where
+module _ (ports slots : ℕ) (entries : List ℕ) (slot : ℕ) where
   -- a question that is refused, and how
-  pub number_shut : {r : Refusal} → answer ≡ Refused r → get_or (refusal r) 0 0 ≡ view_number ports slots entries slot
-  unfolding checked
-  number_shut e = ap (λ l. get_or l 0 0) (sym (ap answered e) ∙ is)
+  module _ (r : Refusal) (is : refusal r ≡ checked ports slots entries slot) where
+    pub number_shut : get_or (refusal r) 0 0 ≡ view_number ports slots entries slot
+    unfolding checked
+    number_shut = ap (λ l. get_or l 0 0) is
 
-  some_hold : {r : Refusal} → answer ≡ Refused r → none_holds (view_checks ports slots entries slot) ≡ false
-  unfolding checked
-  some_hold {r} e =
-      clear_some (view_checks ports slots entries slot) accepted refl (λ n. refusal_number r (number_shut e ∙ n))
+    some_hold : none_holds (view_checks ports slots entries slot) ≡ false
+    unfolding checked
+    some_hold = clear_some (view_checks ports slots entries slot) accepted refl (λ n. refusal_number r (number_shut ∙ n))
 
-  pub start_shut : {r : Refusal} → answer ≡ Refused r → 0 ≡ view_start ports slots entries slot
-  start_shut e = rw (some_hold e)
+    pub start_shut : 0 ≡ view_start ports slots entries slot
+    start_shut = rw some_hold
 
-  pub size_shut : {r : Refusal} → answer ≡ Refused r → 0 ≡ view_size ports slots entries slot
-  size_shut e = rw (some_hold e)
+    pub size_shut : 0 ≡ view_size ports slots entries slot
+    size_shut = rw some_hold
 
   -- one that is not
-  module _ (e : answer ≡ Accepted) where
+  module _ (is : accepted ≡ checked ports slots entries slot) where
     pub number_open : 0 ≡ view_number ports slots entries slot
     unfolding checked
-    number_open = ap (λ l. get_or l 0 0) (sym (ap answered e) ∙ is)
+    number_open = ap (λ l. get_or l 0 0) is
 
     none_hold : none_holds (view_checks ports slots entries slot) ≡ true
     unfolding view_checks
@@ -130,7 +128,7 @@ part_inside ports slots entries slot =
     (λ e. rw e (record { inside = open_inside ports slots entries slot e; low = omega (arith, open_inside ports slots entries slot e, entries_most (open_frame ports slots entries slot e)) }))
     (λ e. rw e (record { inside = omega arith; low = omega arith }))
 
-module _ (ports slots : ℕ) (entries : List ℕ) (slot start size : ℕ) (s : start ≡ view_start ports slots entries slot) (z : size ≡ view_size ports slots entries slot) where
+module _ (ports slots : ℕ) (entries : List ℕ) (slot : ℕ) {start size : ℕ} (s : start ≡ view_start ports slots entries slot) (z : size ≡ view_size ports slots entries slot) where
   pub end_inside : start + size ≤ length entries
   end_inside = omega (arith, s, z, (part_inside ports slots entries slot).inside)
 
@@ -139,9 +137,3 @@ module _ (ports slots : ℕ) (entries : List ℕ) (slot start size : ℕ) (s : s
 
   pub offset_fits : Fits w64 (start * 2)
   offset_fits = record { fits = omega (arith, s, z, (part_inside ports slots entries slot).low) }
-
-  pub part_viewed : take (start + size - start) (drop start entries) ≡ viewed ports slots entries slot
-  part_viewed = let e : start + size - start ≡ size = omega arith in rw (e, s, z)
-
-pub begins : (place : ℕ × ℕ) {a b : ℕ} → a ≡ b → (place.0, a * 2 + place.1) ≡ onward place b
-begins place {a} {b} e = let s : a * 2 + place.1 ≡ (onward place b).1 = omega arith in ap (λ z. (place.0, z)) s

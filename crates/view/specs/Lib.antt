@@ -1,2 +1,3 @@
 -- What the functions of Slot view promise.
 pub mod Asked
+pub mod Parts

@@ -5,58 +5,53 @@ ghost use Rattle.std.specs.Prelude.{◌≡◌};
 ghost use Rattle.calls.specs.Refusals.{answered};
 ghost use Rattle.calls.specs.Service.{view_number, view_start, view_size, viewed};
 ghost use Rattle.view.specs.Asked.{checked, onward};
+ghost use Rattle.view.specs.Parts.{part_number, part_start, part_size};
 
-use calls::{Answer, Refusal};
+use calls::Refusal;
+use checks::{bad_length, bad_slots, outside};
+use numbers::Numbers;
 
 // Slot view's checks: 1, 2, 4, 11.
-fn check_frame(ports: usize, slots: usize, frame: &[u16], slot: usize) -> Answer
+fn check_slot(ports: usize, slots: usize, frame: &[u16], slot: usize) -> Result<(), Refusal>
     ensures { answered result ≡ checked ports slots frame.now slot }
 {
-    if checks::outside(16, ports) {
-        return Answer::Refused(Refusal::Ports);
+    if outside(16, ports) {
+        return Err(Refusal::Ports);
     }
-    if checks::bad_slots(slots) {
-        return Answer::Refused(Refusal::Slots);
+    if bad_slots(slots) {
+        return Err(Refusal::Slots);
     }
-    if checks::bad_length(frame.len(), slots, ports) {
-        return Answer::Refused(Refusal::FrameLength);
+    if bad_length(frame.len(), slots, ports) {
+        return Err(Refusal::FrameLength);
     }
-    if checks::outside(slots, slot) {
-        return Answer::Refused(Refusal::SlotNumber);
+    if outside(slots, slot) {
+        return Err(Refusal::SlotNumber);
     }
-    Answer::Accepted
+    Ok(())
 }
 
-// Where a slot's part of a frame begins and how many entries it has, and the refusal's number, 0 for none.
-#[derive(Drop)]
+// Where a slot's part of a frame begins and how many entries it has.
+#[derive(Clone, Copy, Debug, PartialEq, Eq)]
 pub struct Part {
-    pub number: usize,
     pub start: usize,
     pub size: usize,
 }
 
-// The part of a slot; a refused one is empty.
-pub fn part_of(ports: usize, slots: usize, frame: &[u16], slot: usize) -> Part
-    ensures { (result.number ≡ view_number ports slots frame.now slot)
-        × (result.start ≡ view_start ports slots frame.now slot)
-        × (result.size ≡ view_size ports slots frame.now slot) }
+// The part of a slot.
+pub fn part_of(ports: usize, slots: usize, frame: &[u16], slot: usize) -> Result<Part, Refusal>
+    ensures number { part_number result ≡ view_number ports slots frame.now slot }
+    ensures start { part_start result ≡ view_start ports slots frame.now slot }
+    ensures size { part_size result ≡ view_size ports slots frame.now slot }
 {
-    if let Answer::Refused(refusal) = check_frame(ports, slots, frame, slot) {
-        let number = numbers::of_refusal(refusal).number;
-        return Part {
-            number,
-            start: 0,
-            size: 0,
-        };
-    }
-    Part {
-        number: 0,
+    check_slot(ports, slots, frame, slot)?;
+    Ok(Part {
         start: (slot - 1) * ports,
         size: ports,
-    }
+    })
 }
 
-// Slot view: the slot's part of the caller's frame itself, and an empty part on refusal.
+// Slot view: the slot's part of the caller's frame itself, and an empty part on refusal. The refusal's number is lent, and no `Result`, since a
+// refused view has a part too.
 pub fn slot_view<'a>(
     ports: usize,
     slots: usize,
@@ -68,9 +63,15 @@ pub fn slot_view<'a>(
     ensures ref_ptr_value { result.ref_ptr ≡ onward frame.entry.ref_ptr (view_start ports slots frame.now slot) }
     ensures refused_after { refused.new ≡ view_number ports slots frame.now slot }
 {
-    let part = part_of(ports, slots, frame, slot);
-    *refused = part.number;
-    let start = part.start;
-    let end = start + part.size;
-    &frame[start..end]
+    match part_of(ports, slots, frame, slot) {
+        Ok(part) => {
+            *refused = 0;
+            let end = part.start + part.size;
+            &frame[part.start..end]
+        }
+        Err(refusal) => {
+            *refused = Numbers::from(refusal).number;
+            &frame[0..0]
+        }
+    }
 }

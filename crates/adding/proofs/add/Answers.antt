@@ -1,26 +1,38 @@
 use Rattle.std.proofs.Common.{rules}
-use Rattle.checks.proofs.Listed.{list_well, list_fits, frame_fits}
-use Rattle.entries.proofs.Told.{bad_usable}
-use Rattle.adding.proofs.Answered.{done, list_done, frame_done, flow_done, entries_done, flow_within, place_done}
+use Rattle.adding.proofs.Answered.{list_done, frame_done, flow_done, entries_done, usable, flow_within, place_done}
 use Rattle.adding.proofs.add.Goals as goal
 
-pub returns-in-Refused : goal.returns-in-Refused
-returns-in-Refused c = done _ _ _ _ _ _ _ (search (rules, list_done))
+pub returns-in_err-of : goal.returns-in_err-of
+returns-in_err-of c =
+    let a = c.args in
+    let done = list_done a.ports a.slots a.list.now a.frame.now a.flow c.in_err-of.field-0.0 c.in_err-of.ensures.refused in
+    search rules
 
-pub returns-then-bad_length : goal.returns-then-bad_length
-returns-then-bad_length c = done _ _ _ _ _ _ _ (search (rules, frame_done))
+pub returns-in_err-lent : goal.returns-in_err-lent
+returns-in_err-lent c =
+    let a = c.args in
+    let done = frame_done a.ports a.slots a.list.now a.frame.now a.flow c.in_ok-of.ensures.clear c.in_ok-of.ensures.passed c.in_err-lent.field-0.0 c.in_err-lent.ensures.refused in
+    search rules
 
 pub returns-then-outside : goal.returns-then-outside
-returns-then-outside c = done _ _ _ _ _ _ _ (flow_done _ _ _ _ _ c.check_list.ensures c.in_default.is c.bad_length.ensures c.if-bad_length.false c.flows_of.ensures c.outside.ensures c.if-outside.true)
-
-pub bad_entries-requires : goal.bad_entries-requires
-bad_entries-requires c = (list_fits c.check_list.ensures c.in_default.is, frame_fits c.check_list.ensures c.in_default.is c.bad_length.ensures c.if-bad_length.false)
+returns-then-outside c =
+    let a = c.args in
+    let done = flow_done a.ports a.slots a.list.now a.frame.now a.flow c.in_ok-of.ensures.clear c.in_ok-of.ensures.passed c.in_ok-lent.lent.size c.in_ok-lent.ensures.passed c.flows.ensures c.outside.ensures c.if-outside.true in
+    search rules
 
 pub returns-then-bad_entries : goal.returns-then-bad_entries
-returns-then-bad_entries c = done _ _ _ _ _ _ _ (entries_done _ _ _ _ _ c.check_list.ensures c.in_default.is c.bad_length.ensures c.if-bad_length.false c.flows_of.ensures c.outside.ensures c.if-outside.false c.bad_entries.ensures c.if-bad_entries.true)
+returns-then-bad_entries c =
+    let a = c.args in
+    let done = entries_done a.ports a.slots a.list.now a.frame.now a.flow c.in_ok-of.ensures.clear c.in_ok-of.ensures.passed c.in_ok-lent.lent.size c.in_ok-lent.ensures.passed c.flows.ensures c.outside.ensures c.if-outside.false c.bad_entries.ensures c.if-bad_entries.true in
+    search rules
 
 pub place-requires : goal.place-requires
-place-requires c = let list = c.check_list.ensures in let accepted = c.in_default.is in (bad_usable _ (list_well list accepted) (frame_fits list accepted c.bad_length.ensures c.if-bad_length.false) c.bad_entries.ensures c.if-bad_entries.false, search (rules, flow_within))
+place-requires c =
+    let a = c.args in
+    (usable a.ports a.slots a.list.now a.frame.now a.flow c.in_ok-of.ensures.clear c.in_ok-of.ensures.passed c.in_ok-lent.lent.size c.in_ok-lent.ensures.passed c.flows.ensures c.outside.ensures c.if-outside.false c.bad_entries.ensures c.if-bad_entries.false, flow_within a.ports a.slots a.list.now a.frame.now a.flow c.in_ok-of.ensures.clear c.in_ok-of.ensures.passed c.in_ok-lent.lent.size c.in_ok-lent.ensures.passed c.flows.ensures c.outside.ensures c.if-outside.false c.bad_entries.ensures c.if-bad_entries.false)
 
 pub returns : goal.returns
-returns c = done _ _ _ _ _ _ _ (place_done _ _ _ _ _ c.check_list.ensures c.in_default.is c.bad_length.ensures c.if-bad_length.false c.flows_of.ensures c.outside.ensures c.if-outside.false c.bad_entries.ensures c.if-bad_entries.false c.place.ensures)
+returns c =
+    let a = c.args in
+    let done = place_done a.ports a.slots a.list.now a.frame.now a.flow c.in_ok-of.ensures.clear c.in_ok-of.ensures.passed c.in_ok-lent.lent.size c.in_ok-lent.ensures.passed c.flows.ensures c.outside.ensures c.if-outside.false c.bad_entries.ensures c.if-bad_entries.false c.place.ensures.placed in
+    record { answer = done.0; entries = done.1; other = search rules }

@@ -1,16 +1,12 @@
-use Rattle.std.proofs.Common.{rules}
-use Rattle.checks.proofs.Searching.{passing_start, passing_on, passing_none}
-use Rattle.admission.proofs.Deciding.{above_lowest}
+use Rattle.std.proofs.Common.{rules, ltb}
+use borrow.Author.Tests.{tests}
+use Rattle.rules.proofs.Ranges.{found_below}
+use Rattle.admission.specs.Overloads.{value_at}
+use Rattle.admission.proofs.Deciding.{found_low}
 use Rattle.admission.proofs.lowest_above.Goals as goal
 
-pub loop-untried-init : goal.loop-untried-init
-loop-untried-init c = passing_start
+pub returns-clause-first : goal.returns-clause-first
+returns-clause-first c = found_below (λ port. ltb c.args.slots (value_at c.args.loads.now port)) _ _ _ _ c.find.ensures.ran (λ x b q k. search (rules, tests)) 16 (cc)
 
-pub returns-then-slots-loads : goal.returns-then-slots-loads
-returns-then-slots-loads c = search (rules, above_lowest)
-
-pub loop-untried-preserved : goal.loop-untried-preserved
-loop-untried-preserved c = search (rules, passing_on)
-
-pub returns : goal.returns
-returns c = passing_none c.loop-untried.invariant c.loop-untried-test.false
+pub returns-clause-low : goal.returns-clause-low
+returns-clause-low c = found_low (λ port. ltb c.args.slots (value_at c.args.loads.now port)) 16 _ (returns-clause-first c)

@@ -1,47 +1,66 @@
-use Rattle.tally.proofs.Tallies.{tally_size}
-use Rattle.balance.proofs.Blocks.{count_most, links_most, links_fit, links_end, flow_far, input_far, output_far, link_far, total_far, none_far}
-use Rattle.std.proofs.Common.{rules}
-use native.Mathlib.Omega.{arith}
+use Rattle.std.proofs.Common.{rules, ◌≡◌, ◌+◌, ◌*◌}
+use mathlib.Core.Path.{sym, ◌∙◌}
+use mathlib.Core.Bool.{◌||◌}
+use lib.ListN.{take}
+use Rattle.rules.specs.Frames.{run_of}
+use Rattle.tally.specs.Tally.{tally_of}
+use Rattle.balance.specs.Balance.{any_far}
+use Rattle.balance.proofs.Far.{or_then, or_else, some_tell, last_tell}
 use Rattle.balance.proofs.unbalanced_at.Goals as goal
+use Rattle.balance.proofs.unbalanced_at.Goals.{then-any_apart, else-any_apart, then-any_apart-2, else-any_apart-2, then-any_apart-3, else-any_apart-3}
 
-pub first_far-requires : goal.first_far-requires
-first_far-requires c = (search (rules, count_most), search (rules, tally_size), search (rules, tally_size))
+pub returns-then-any_apart-4 : goal.returns-then-any_apart-4
+returns-then-any_apart-4 c =
+    let front = c.tally_run.new.tally in
+    let back = c.tally_run-2.new.tally in
+    let ports = c.args.frame.now.frame.of.ports in
+    let n = c.flows-flows.result in
+    let list = c.args.frame.now.frame.of.list.now in
+    let entries = c.args.frame.now.frame.entries.now in
+    let front_is : front ≡ tally_of list (run_of ports c.args.start c.args.half entries) = search rules in
+    let back_is : back ≡ tally_of list (run_of ports (c.args.start + c.args.half) c.args.half entries) = search rules in
+    let first : c.any_apart.result ≡ any_far (take n front.flows) (take n back.flows) = search rules in
+    let two : c.if-any_apart.value ≡ (any_far (take n front.flows) (take n back.flows) || any_far (take ports front.inputs) (take ports back.inputs)) =
+    elim c.if-any_apart.branch [
+      | then-any_apart w ↦ or_then _ (w.value-is ∙ w.if-any_apart.true) (sym first ∙ w.if-any_apart.true)
+      | else-any_apart w ↦ or_else w.value-is (sym first ∙ w.if-any_apart.false) (search rules)
+    ] in
+    let three : c.if-any_apart-2.value ≡ (c.if-any_apart.value || any_far (take ports front.outputs) (take ports back.outputs)) =
+    elim c.if-any_apart-2.branch [
+      | then-any_apart-2 w ↦ or_then _ (w.value-is ∙ w.if-any_apart-2.true) w.if-any_apart-2.true
+      | else-any_apart-2 w ↦ or_else w.value-is w.if-any_apart-2.false (search rules)
+    ] in
+    let four : c.if-any_apart-3.value ≡ (c.if-any_apart-2.value || any_far (take (ports * 4) front.links) (take (ports * 4) back.links)) =
+    elim c.if-any_apart-3.branch [
+      | then-any_apart-3 w ↦ or_then _ (w.value-is ∙ w.if-any_apart-3.true) w.if-any_apart-3.true
+      | else-any_apart-3 w ↦ or_else w.value-is w.if-any_apart-3.false (search rules)
+    ] in
+    some_tell ports c.args.start c.args.half entries c.args.frame.now.frame.of.fits front_is back_is n c.flows-flows.ensures two three four c.if-any_apart-4.true
 
-pub returns-then-first_far-count : goal.returns-then-first_far-count
-returns-then-first_far-count c = search (rules, flow_far)
-
-pub first_far-requires-2 : goal.first_far-requires-2
-first_far-requires-2 c = (search rules, search (rules, tally_size), search (rules, tally_size))
-
-pub returns-then-first_far-ports : goal.returns-then-first_far-ports
-returns-then-first_far-ports c = search (rules, input_far)
-
-pub first_far-requires-3 : goal.first_far-requires-3
-first_far-requires-3 c = (search rules, search (rules, tally_size), search (rules, tally_size))
-
-pub returns-then-first_far-ports-2 : goal.returns-then-first_far-ports-2
-returns-then-first_far-ports-2 c = search (rules, output_far)
-
-pub overflow_mul-ports : goal.overflow_mul-ports
-overflow_mul-ports c = links_fit c.requires.0
-
-pub first_far-requires-4 : goal.first_far-requires-4
-first_far-requires-4 c = (search (rules, links_most), search (rules, tally_size), search (rules, tally_size))
-
-pub overflow_mul-ports-2 : goal.overflow_mul-ports-2
-overflow_mul-ports-2 c = search (rules, links_fit)
-
-pub overflow_add-ports-3 : goal.overflow_add-ports-3
-overflow_add-ports-3 c = search (rules, links_end)
-
-pub returns-then-first_far-ports-3 : goal.returns-then-first_far-ports-3
-returns-then-first_far-ports-3 c = search (rules, link_far)
-
-pub first_far-requires-5 : goal.first_far-requires-5
-first_far-requires-5 c = (search rules, search (rules, tally_size), search (rules, tally_size))
-
-pub returns-then-first_far-lt-TALLY_PLACES : goal.returns-then-first_far-lt-TALLY_PLACES
-returns-then-first_far-lt-TALLY_PLACES c = total_far _ _ _ _ _ _ _ _ c.requires.0 c.tally_run.ensures c.tally_run-2.ensures _ c.first_far-5.ensures (omega (arith, c.if-first_far-lt-TALLY_PLACES.true))
-
-pub returns : goal.returns
-returns c = none_far _ _ _ _ _ _ _ _ c.requires.0 c.tally_run.ensures c.tally_run-2.ensures _ _ _ _ _ _ c.flows_of-count.ensures c.first_far.ensures c.first_far-2.ensures c.first_far-3.ensures c.first_far-4.ensures c.first_far-5.ensures c.if-first_far-count.false c.if-first_far-ports.false c.if-first_far-ports-2.false c.if-first_far-ports-3.false (search rules)
+pub returns-else-any_apart-4 : goal.returns-else-any_apart-4
+returns-else-any_apart-4 c =
+    let front = c.tally_run.new.tally in
+    let back = c.tally_run-2.new.tally in
+    let ports = c.args.frame.now.frame.of.ports in
+    let n = c.flows-flows.result in
+    let list = c.args.frame.now.frame.of.list.now in
+    let entries = c.args.frame.now.frame.entries.now in
+    let front_is : front ≡ tally_of list (run_of ports c.args.start c.args.half entries) = search rules in
+    let back_is : back ≡ tally_of list (run_of ports (c.args.start + c.args.half) c.args.half entries) = search rules in
+    let first : c.any_apart.result ≡ any_far (take n front.flows) (take n back.flows) = search rules in
+    let two : c.if-any_apart.value ≡ (any_far (take n front.flows) (take n back.flows) || any_far (take ports front.inputs) (take ports back.inputs)) =
+    elim c.if-any_apart.branch [
+      | then-any_apart w ↦ or_then _ (w.value-is ∙ w.if-any_apart.true) (sym first ∙ w.if-any_apart.true)
+      | else-any_apart w ↦ or_else w.value-is (sym first ∙ w.if-any_apart.false) (search rules)
+    ] in
+    let three : c.if-any_apart-2.value ≡ (c.if-any_apart.value || any_far (take ports front.outputs) (take ports back.outputs)) =
+    elim c.if-any_apart-2.branch [
+      | then-any_apart-2 w ↦ or_then _ (w.value-is ∙ w.if-any_apart-2.true) w.if-any_apart-2.true
+      | else-any_apart-2 w ↦ or_else w.value-is w.if-any_apart-2.false (search rules)
+    ] in
+    let four : c.if-any_apart-3.value ≡ (c.if-any_apart-2.value || any_far (take (ports * 4) front.links) (take (ports * 4) back.links)) =
+    elim c.if-any_apart-3.branch [
+      | then-any_apart-3 w ↦ or_then _ (w.value-is ∙ w.if-any_apart-3.true) w.if-any_apart-3.true
+      | else-any_apart-3 w ↦ or_else w.value-is w.if-any_apart-3.false (search rules)
+    ] in
+    last_tell ports c.args.start c.args.half entries c.args.frame.now.frame.of.fits front_is back_is n c.flows-flows.ensures two three four c.if-any_apart-4.false (search rules)

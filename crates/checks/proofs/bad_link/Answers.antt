@@ -1,18 +1,8 @@
-use Rattle.std.proofs.Common.{rules}
-use Rattle.checks.proofs.Ports.{trying_start, trying_in, trying_found, trying_on, trying_end, link_outside}
+use Rattle.std.proofs.Common.{rules, not}
+use borrow.Author.Tests.{tests}
+use Rattle.calls.specs.Refusals.{link_within}
+use Rattle.rules.proofs.Ranges.{any_below}
 use Rattle.checks.proofs.bad_link.Goals as goal
 
-pub loop-f-init : goal.loop-f-init
-loop-f-init c = search (rules, trying_start)
-
-pub number_of-requires : goal.number_of-requires
-number_of-requires c = (search (rules, trying_in), search rules)
-
-pub returns-then-outside : goal.returns-then-outside
-returns-then-outside c = search (rules, trying_found, link_outside)
-
-pub loop-f-preserved : goal.loop-f-preserved
-loop-f-preserved c = search (rules, trying_on, link_outside)
-
 pub returns : goal.returns
-returns c = search (rules, trying_end)
+returns c = any_below (λ f. not (link_within c.args.list.now f)) _ _ _ _ c.any.ensures.ran (λ x b q k. search (rules, tests)) _ (cc)

@@ -1,18 +1,8 @@
-use Rattle.std.proofs.Common.{rules}
-use Rattle.checks.proofs.Ports.{trying_start, trying_in, trying_found, trying_on, trying_end}
+use Rattle.std.proofs.Common.{rules, not}
+use borrow.Author.Tests.{tests}
+use Rattle.calls.specs.Refusals.{ports_within}
+use Rattle.rules.proofs.Ranges.{any_below}
 use Rattle.checks.proofs.bad_port.Goals as goal
 
-pub loop-f-init : goal.loop-f-init
-loop-f-init c = search (rules, trying_start)
-
-pub port_outside-requires : goal.port_outside-requires
-port_outside-requires c = search (rules, trying_in)
-
-pub returns-then-port_outside : goal.returns-then-port_outside
-returns-then-port_outside c = search (rules, trying_found)
-
-pub loop-f-preserved : goal.loop-f-preserved
-loop-f-preserved c = search (rules, trying_on)
-
 pub returns : goal.returns
-returns c = search (rules, trying_end)
+returns c = any_below (λ f. not (ports_within c.args.ports c.args.list.now f)) _ _ _ _ c.any.ensures.ran (λ x b q k. search (rules, tests)) _ (cc)

@@ -1,25 +1,14 @@
-use Rattle.std.proofs.Common.{rules}
-use native.Mathlib.Omega.{arith}
-use Rattle.entries.proofs.Found.{slots_start, ports_on, ports_found, ports_row, ports_fits, slots_end, whole_fits}
+use Rattle.std.proofs.Common.{rules, ◌*◌}
+use borrow.Author.Tests.{tests}
+use Rattle.rules.specs.Words.{found}
+use Rattle.calls.specs.Sides.{side_of}
+use Rattle.calls.specs.Inspect.{used_twice}
+use Rattle.rules.proofs.Ranges.{mapped_below, rows_found}
 use Rattle.entries.proofs.first_twice.Goals as goal
 
-pub loop-s-init : goal.loop-s-init
-loop-s-init c = (omega arith, slots_start _ _ _)
-
-pub overflow_mul-result : goal.overflow_mul-result
-overflow_mul-result c = search (rules, ports_row)
-
-pub overflow_add-result : goal.overflow_add-result
-overflow_add-result c = search (rules, ports_fits)
-
-pub returns-then-x-ports : goal.returns-then-x-ports
-returns-then-x-ports c = search (rules, ports_found)
-
-pub loop-s-preserved : goal.loop-s-preserved
-loop-s-preserved c = (omega arith, search (rules, ports_on))
-
-pub overflow_mul-result-2 : goal.overflow_mul-result-2
-overflow_mul-result-2 c = search (rules, whole_fits)
-
 pub returns : goal.returns
-returns c = search (rules, slots_end)
+returns c =
+    let ports = c.args.frame.now.frame.of.ports in
+    let test = used_twice (side_of c.args.side) ports c.args.frame.now.frame.of.list.now c.args.frame.now.frame.entries.now in
+    rows_found test ports c.args.frame.now.frame.of.slots _
+    (mapped_below (λ s. found test (s * ports) ports) _ _ _ c.find_map.ensures.runs (λ x b q k. search (rules, tests)) _ (cc))

@@ -1,25 +1,14 @@
-use Rattle.std.proofs.Common.{rules}
-use native.Mathlib.Omega.{arith}
-use Rattle.entries.proofs.Found.{slots_start, entries_on, entries_found, entries_row, entries_fits, slots_end, whole_fits}
+use Rattle.std.proofs.Common.{rules, ◌*◌}
+use borrow.Author.Tests.{tests}
+use Rattle.rules.specs.Words.{found}
+use Rattle.calls.specs.Sides.{side_of}
+use Rattle.calls.specs.Inspect.{is_wrong}
+use Rattle.rules.proofs.Ranges.{mapped_below, rows_found}
 use Rattle.entries.proofs.first_wrong.Goals as goal
 
-pub loop-s-init : goal.loop-s-init
-loop-s-init c = (omega arith, slots_start _ _ _)
-
-pub overflow_mul-result : goal.overflow_mul-result
-overflow_mul-result c = search (rules, entries_row)
-
-pub overflow_add-result : goal.overflow_add-result
-overflow_add-result c = search (rules, entries_fits)
-
-pub returns-then-x-ports : goal.returns-then-x-ports
-returns-then-x-ports c = search (rules, entries_found)
-
-pub loop-s-preserved : goal.loop-s-preserved
-loop-s-preserved c = (omega arith, search (rules, entries_on))
-
-pub overflow_mul-result-2 : goal.overflow_mul-result-2
-overflow_mul-result-2 c = search (rules, whole_fits)
-
 pub returns : goal.returns
-returns c = search (rules, slots_end)
+returns c =
+    let ports = c.args.frame.now.of.ports in
+    let test = is_wrong (side_of c.args.side) ports c.args.frame.now.of.list.now c.args.frame.now.entries.now in
+    rows_found test ports c.args.frame.now.of.slots _
+    (mapped_below (λ s. found test (s * ports) ports) _ _ _ c.find_map.ensures.runs (λ x b q k. search (rules, tests)) _ (cc))

@@ -1,10 +1,9 @@
 use Rattle.std.proofs.Common.{rules}
-use Rattle.frame.proofs.Moves.{appends_more, front_more}
+use Rattle.std.proofs.lemmas.List.{take_rest}
+use Rattle.frame.proofs.Moves.{appends_more, rest_more}
 use Rattle.frame.proofs.write_whole.Goals as goal
 
-pub loop-at-preserved : goal.loop-at-preserved
-loop-at-preserved g c = record {
-  within = search rules;
-  put = appends_more _ _ _ _ _ _ c.loop-at.invariant.put c.in_ok-n.ensures.bytes
-      (front_more c.loop-at.at c.in_ok-n.n c.args.bytes.now c.in_ok-n.ensures.bound);
-}
+pub loop-rest-preserved : goal.loop-rest-preserved
+loop-rest-preserved g c =
+    let x = rest_more _ _ c.in_ok-n.n _ c.loop-rest.invariant.of (search rules) (take_rest c.loop-rest.rest.now c.in_ok-n.n) in
+    record { of = x.0; put = appends_more _ _ _ _ _ _ c.loop-rest.invariant.put c.in_ok-n.ensures.bytes x.1 }

@@ -1,43 +1,44 @@
 use Rattle.std.proofs.Common.{rules}
+use mathlib.Core.Path.{◌∙◌, ap}
 use native.Mathlib.Omega.{arith}
-use Rattle.groups.proofs.Walked.{walking_start, walking_at, walking_stop, walking_room, walking_at_2, walking_stop_2, walking_room_2, walking_on, walking_less}
+use Rattle.planes.specs.Tables.{first_place}
+use Rattle.planes.proofs.Halves.{numbers_length}
+use Rattle.groups.proofs.Walked.{walking_start, walking_at, walking_at_2_told, walking_stop_told, walking_stop_2_told, walking_on_told, walking_less_told, reaches_told, walks_told}
 use Rattle.groups.proofs.walk.Goals as goal
 
-pub loop-favoured-init : goal.loop-favoured-init
-loop-favoured-init c = walking_start _ _ c.requires.2 c.requires.3
+pub loop-start-init : goal.loop-start-init
+loop-start-init c =
+    walking_start _ _ (reaches_told c.args.mates.now c.first-near.ensures.0 (c.first-far.ensures.0 ∙ ap first_place c.other.ensures) c.requires)
+    (numbers_length c.args.favoured.now ∙ c.told-favoured)
 
 pub bounds-favoured-q : goal.bounds-favoured-q
-bounds-favoured-q c = walking_at c.loop-favoured.invariant c.requires.2 c.requires.3 c.number-q.ensures.0
+bounds-favoured-q c = walking_at c.loop-start.invariant c.from-q.ensures
 
-pub returns-then-favoured-q-ne0 : goal.returns-then-favoured-q-ne0
-returns-then-favoured-q-ne0 c = search (rules, walking_stop)
+pub returns-then-is_settled : goal.returns-then-is_settled
+returns-then-is_settled c =
+    walks_told c.args.mates.now c.first-near.ensures.0 (c.first-far.ensures.0 ∙ ap first_place c.other.ensures)
+    (walking_stop_told c.loop-start.favoured c.loop-start.invariant c.from-q.ensures _ c.is_settled.ensures c.if-is_settled.true)
 
-pub bounds-favoured-q-in-loop-favoured : goal.bounds-favoured-q-in-loop-favoured
-bounds-favoured-q-in-loop-favoured c = walking_at c.loop-favoured.invariant c.requires.2 c.requires.3 c.number-q.ensures.0
-
-pub overflow_add-steps : goal.overflow_add-steps
-overflow_add-steps c = search (rules, walking_room)
-
-pub offset_bounds-mates-far : goal.offset_bounds-mates-far
-offset_bounds-mates-far c = search (rules, walking_at)
+pub bounds-favoured-q-in-loop-start : goal.bounds-favoured-q-in-loop-start
+bounds-favoured-q-in-loop-start c = walking_at c.loop-start.invariant c.from-q.ensures
 
 pub bounds-mates-far : goal.bounds-mates-far
-bounds-mates-far c = omega (arith, walking_at c.loop-favoured.invariant c.requires.2 c.requires.3 c.number-q.ensures.0)
+bounds-mates-far c = omega (arith, walking_at c.loop-start.invariant c.from-q.ensures, c.first-far.ensures.1)
 
 pub bounds-favoured-p : goal.bounds-favoured-p
-bounds-favoured-p c = walking_at_2 c.loop-favoured.invariant c.requires.2 c.requires.3 c.number-q.ensures.0 c.if-favoured-q-ne0.false c.number-p.ensures.0
+bounds-favoured-p c = walking_at_2_told c.loop-start.favoured c.loop-start.invariant c.from-q.ensures _ c.is_settled.ensures c.if-is_settled.false c.from-p.ensures
 
-pub returns-then-favoured-p-ne0 : goal.returns-then-favoured-p-ne0
-returns-then-favoured-p-ne0 c = search (rules, walking_stop_2)
+pub returns-then-is_settled-2 : goal.returns-then-is_settled-2
+returns-then-is_settled-2 c =
+    walks_told c.args.mates.now c.first-near.ensures.0 (c.first-far.ensures.0 ∙ ap first_place c.other.ensures)
+    (search (rules, walking_stop_2_told c.loop-start.favoured c.loop-start.invariant c.from-q.ensures _ c.is_settled.ensures c.if-is_settled.false c.from-p.ensures _ c.is_settled-in-loop-start.ensures))
 
-pub bounds-favoured-p-in-loop-favoured : goal.bounds-favoured-p-in-loop-favoured
-bounds-favoured-p-in-loop-favoured c = search (rules, walking_at_2)
+pub bounds-favoured-p-in-loop-start : goal.bounds-favoured-p-in-loop-start
+bounds-favoured-p-in-loop-start c = walking_at_2_told c.loop-start.favoured c.loop-start.invariant c.from-q.ensures _ c.is_settled.ensures c.if-is_settled.false c.from-p.ensures
 
-pub overflow_add-steps-in-loop-favoured : goal.overflow_add-steps-in-loop-favoured
-overflow_add-steps-in-loop-favoured c = search (rules, walking_room_2)
+pub loop-start-smaller : goal.loop-start-smaller
+loop-start-smaller c =
+    walking_less_told c.loop-start.favoured c.loop-start.invariant c.from-q.ensures _ c.is_settled.ensures c.if-is_settled.false c.from-p.ensures _ c.is_settled-in-loop-start.ensures c.if-is_settled-2.false
 
-pub loop-favoured-smaller : goal.loop-favoured-smaller
-loop-favoured-smaller c = search (rules, walking_less)
-
-pub loop-favoured-preserved : goal.loop-favoured-preserved
-loop-favoured-preserved c = search (rules, walking_on)
+pub loop-start-preserved : goal.loop-start-preserved
+loop-start-preserved c = search (rules, walking_on_told c.loop-start.favoured c.loop-start.invariant c.from-q.ensures _ c.is_settled.ensures c.if-is_settled.false c.from-p.ensures)

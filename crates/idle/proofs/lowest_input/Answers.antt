@@ -1,32 +1,14 @@
-use Rattle.std.proofs.Common.{rules}
-use Rattle.rules.proofs.Searches.{passed_start, passed_done}
-use Rattle.entries.proofs.Found.{from_fits, place_low, place_fits, offset_fits}
-use Rattle.idle.proofs.Found.{input_least, input_below, input_on, input_found}
+use Rattle.std.proofs.Common.{rules, ℕ, Bool, eqb, get_or}
+use borrow.Author.Tests.{tests}
+use Rattle.rules.specs.Frames.{run_of}
+use Rattle.rules.proofs.Ranges.{found_below}
+use Rattle.checks.proofs.Framed.{flow_frame}
+use Rattle.idle.proofs.Found.{input_found}
 use Rattle.idle.proofs.lowest_input.Goals as goal
 
-pub overflow_sub-i : goal.overflow_sub-i
-overflow_sub-i c = search (rules, input_least)
-
-pub loop-s-init : goal.loop-s-init
-loop-s-init c = passed_start _ _ _
-
-pub overflow_mul-s : goal.overflow_mul-s
-overflow_mul-s c = search (rules, from_fits)
-
-pub overflow_add-s : goal.overflow_add-s
-overflow_add-s c = search (rules, place_fits, input_below)
-
-pub offset_bounds-frame-s : goal.offset_bounds-frame-s
-offset_bounds-frame-s c = search (rules, offset_fits, input_below)
-
-pub bounds-frame-s : goal.bounds-frame-s
-bounds-frame-s c = search (rules, place_low, input_below)
-
-pub returns-then-frame-s-eq0 : goal.returns-then-frame-s-eq0
-returns-then-frame-s-eq0 c = search (rules, input_found)
-
-pub loop-s-preserved : goal.loop-s-preserved
-loop-s-preserved c = search (rules, input_on)
-
 pub returns : goal.returns
-returns c = search (rules, passed_done)
+returns c =
+    let frame = c.args.frame.now in
+    let test : ℕ → Bool = λ s. eqb (get_or (run_of frame.frame.of.ports s 1 frame.frame.entries.now) c.flow-i.result.input 0) 0 in
+    input_found (flow_frame frame.frame.of.fits frame.frame.power frame.frame.size frame.each_flow) c.requires c.flow-i.ensures.input
+    (found_below test _ _ _ _ c.find.ensures.ran (λ x b q k. search (rules, tests)) _ (cc))

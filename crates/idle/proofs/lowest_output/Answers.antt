@@ -1,16 +1,16 @@
-use Rattle.std.proofs.Common.{rules}
-use Rattle.rules.proofs.Searches.{passed_start, passed_done}
-use Rattle.idle.proofs.Found.{output_on, output_found}
+use Rattle.std.proofs.Common.{rules, ℕ, ◌+◌, Bool, is_none}
+use borrow.Author.Tests.{tests}
+use Rattle.rules.specs.Words.{found}
+use Rattle.rules.proofs.Ranges.{found_below}
+use Rattle.checks.proofs.Framed.{flow_frame}
+use Rattle.exchange.specs.Swaps.{goes_to}
+use Rattle.idle.proofs.Found.{output_found}
 use Rattle.idle.proofs.lowest_output.Goals as goal
 
-pub loop-s-init : goal.loop-s-init
-loop-s-init c = passed_start _ _ _
-
-pub returns-then-lowest_to-ports : goal.returns-then-lowest_to-ports
-returns-then-lowest_to-ports c = let asked = c.requires in output_found asked.0 asked.1 c.loop-s-test.true c.loop-s.invariant c.number_of-o.ensures.0 c.lowest_to.ensures c.if-lowest_to-ports.true
-
-pub loop-s-preserved : goal.loop-s-preserved
-loop-s-preserved c = let asked = c.requires in output_on asked.0 asked.1 c.loop-s-test.true c.loop-s.invariant c.number_of-o.ensures.0 c.lowest_to.ensures c.if-lowest_to-ports.false
-
 pub returns : goal.returns
-returns c = search (rules, passed_done)
+returns c =
+    let frame = c.args.frame.now in
+    let ports = frame.frame.of.ports in
+    let test : ℕ → Bool = λ s. is_none (found (goes_to ports frame.frame.of.list.now frame.frame.entries.now s (c.flow.result.output + 1) ports) 0 ports) in
+    output_found (flow_frame frame.frame.of.fits frame.frame.power frame.frame.size frame.each_flow) c.requires c.flow.ensures.output
+    (found_below test _ _ _ _ c.find.ensures.ran (λ x b q k. search (rules, tests)) _ (cc))

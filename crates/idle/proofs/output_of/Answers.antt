@@ -6,4 +6,4 @@ pub returns-then-entry-eq0 : goal.returns-then-entry-eq0
 returns-then-entry-eq0 c = search (rules, none_number)
 
 pub returns : goal.returns
-returns c = search (rules, some_number)
+returns c = some_number _ c.if-entry-eq0.false c.from.ensures c.flow.ensures.output

@@ -1,40 +1,42 @@
-use Rattle.std.proofs.Common.{rules}
-use Rattle.entries.proofs.Found.{flow_frame}
-use Rattle.inspection.proofs.Faults.{row_fits, column_fits, flow_fits, wrong_entry_found, twice, wrong_count_found, last_fault}
+use mathlib.Core.Path.{sym, ap, ◌∙◌}
+use Rattle.calls.specs.Sides.{side_of}
+use Rattle.checks.proofs.Framed.{frame_fits}
+use Rattle.balance.specs.Balance.{block_numbers}
+use Rattle.entries.proofs.Found.{right_flows}
+use Rattle.inspection.proofs.Faults.{row_fits, flow_fits, wrong_entry_found, twice, wrong_count_found, last_fault}
 use Rattle.inspection.proofs.first_fault.Goals as goal
 
 pub overflow_add-result : goal.overflow_add-result
-overflow_add-result c = search (rules, row_fits)
+overflow_add-result c = let frame = c.args.frame.now in row_fits (frame_fits frame.of.fits frame.power frame.size) _ (sym c.in-Some.is ∙ c.first_wrong.ensures)
 
-pub overflow_add-result-then-q-frame : goal.overflow_add-result-then-q-frame
-overflow_add-result-then-q-frame c = search (rules, column_fits)
+pub returns-in-Some : goal.returns-in-Some
+returns-in-Some c = wrong_entry_found (side_of c.args.side) _ _ _ _ c.args.frame.now.size (sym c.in-Some.is ∙ c.first_wrong.ensures)
 
-pub returns-then-q-frame : goal.returns-then-q-frame
-returns-then-q-frame c = search (rules, wrong_entry_found)
+pub invariant_of-frame : goal.invariant_of-frame
+invariant_of-frame c = record { each_flow = right_flows (side_of c.args.side) _ _ _ _ c.args.frame.now.size (sym c.in_default.is ∙ c.first_wrong.ensures) }
 
-pub first_twice-q-requires : goal.first_twice-q-requires
-first_twice-q-requires c = search (rules, flow_frame)
+pub overflow_add-result-in-Some-first_twice : goal.overflow_add-result-in-Some-first_twice
+overflow_add-result-in-Some-first_twice c =
+    let frame = c.args.frame.now in row_fits (frame_fits frame.of.fits frame.power frame.size) _ (sym c.in-Some-first_twice.is ∙ c.first_twice.ensures)
 
-pub overflow_add-result-then-q-frame-2 : goal.overflow_add-result-then-q-frame-2
-overflow_add-result-then-q-frame-2 c = search (rules, row_fits)
+pub returns-in-Some-first_twice : goal.returns-in-Some-first_twice
+returns-in-Some-first_twice c =
+    twice (side_of c.args.side) _ _ _ _ c.args.frame.now.size (sym c.in_default.is ∙ c.first_wrong.ensures) (sym c.in-Some-first_twice.is ∙ c.first_twice.ensures)
 
-pub overflow_add-result-then-q-frame-2-2 : goal.overflow_add-result-then-q-frame-2-2
-overflow_add-result-then-q-frame-2-2 c = search (rules, column_fits)
+pub overflow_add-result-in-Some-first_wrong_count : goal.overflow_add-result-in-Some-first_wrong_count
+overflow_add-result-in-Some-first_wrong_count c = flow_fits c.args.frame.now.of.fits _ (sym c.in-Some-first_wrong_count.is ∙ c.first_wrong_count.ensures)
 
-pub returns-then-q-frame-2 : goal.returns-then-q-frame-2
-returns-then-q-frame-2 c = twice _ _ _ _ _ c.requires.0 c.requires.1 _ c.first_wrong-q.ensures c.if-q-frame.false _ c.first_twice-q.ensures c.if-q-frame-2.true
+pub returns-in-Some-first_wrong_count : goal.returns-in-Some-first_wrong_count
+returns-in-Some-first_wrong_count c =
+    wrong_count_found (side_of c.args.side) _ _ _ _ c.args.frame.now.size (sym c.in_default.is ∙ c.first_wrong.ensures) (sym c.in_default-first_twice.is ∙ c.first_twice.ensures)
+    (sym c.in-Some-first_wrong_count.is ∙ c.first_wrong_count.ensures)
 
-pub first_wrong_count-f-requires : goal.first_wrong_count-f-requires
-first_wrong_count-f-requires c = flow_frame _ c.requires.0 c.requires.1 c.first_wrong-q.ensures c.if-q-frame.false
+pub returns-in-Some-unbalanced_block : goal.returns-in-Some-unbalanced_block
+returns-in-Some-unbalanced_block c =
+    last_fault (side_of c.args.side) _ _ _ _ c.args.frame.now.size (sym c.in_default.is ∙ c.first_wrong.ensures) (sym c.in_default-first_twice.is ∙ c.first_twice.ensures)
+    (sym c.in_default-first_wrong_count.is ∙ c.first_wrong_count.ensures) (sym (ap block_numbers c.in-Some-unbalanced_block.is) ∙ c.unbalanced_block.ensures)
 
-pub overflow_add-result-then-f-flows_of : goal.overflow_add-result-then-f-flows_of
-overflow_add-result-then-f-flows_of c = search (rules, flow_fits)
-
-pub returns-then-f-flows_of : goal.returns-then-f-flows_of
-returns-then-f-flows_of c = wrong_count_found _ _ _ _ _ c.requires.0 c.requires.1 _ c.first_wrong-q.ensures c.if-q-frame.false _ c.first_twice-q.ensures c.if-q-frame-2.false _ _ c.first_wrong_count-f.ensures c.flows_of.ensures c.if-f-flows_of.true
-
-pub unbalanced_block-requires : goal.unbalanced_block-requires
-unbalanced_block-requires c = (flow_frame _ c.requires.0 c.requires.1 c.first_wrong-q.ensures c.if-q-frame.false, search rules)
-
-pub returns : goal.returns
-returns c = last_fault _ _ _ _ _ c.requires.0 c.requires.1 _ c.first_wrong-q.ensures c.if-q-frame.false _ c.first_twice-q.ensures c.if-q-frame-2.false _ _ c.first_wrong_count-f.ensures c.flows_of.ensures c.if-f-flows_of.false _ c.unbalanced_block.ensures
+pub returns-in-None : goal.returns-in-None
+returns-in-None c =
+    last_fault (side_of c.args.side) _ _ _ _ c.args.frame.now.size (sym c.in_default.is ∙ c.first_wrong.ensures) (sym c.in_default-first_twice.is ∙ c.first_twice.ensures)
+    (sym c.in_default-first_wrong_count.is ∙ c.first_wrong_count.ensures) (sym (ap block_numbers c.in-None.is) ∙ c.unbalanced_block.ensures)

@@ -1,21 +1,14 @@
-use Rattle.std.proofs.Common.{rules}
-use Rattle.inspection.proofs.Counted.{counting_start, counting_in, counting_low, counting_on, counting_found, counting_end}
+use Rattle.std.proofs.Common.{rules, not, nat_eq, slice_index}
+use borrow.Author.Tests.{tests}
+use Rattle.rules.specs.Flows.{number_of}
+use Rattle.rules.proofs.Ranges.{found_below}
+use Rattle.checks.proofs.Framed.{of_flows}
+use Rattle.inspection.proofs.Counted.{counts_told}
 use Rattle.inspection.proofs.first_wrong_count.Goals as goal
 
-pub loop-f-init : goal.loop-f-init
-loop-f-init c = search (rules, counting_start)
-
-pub bounds-tally-f : goal.bounds-tally-f
-bounds-tally-f c = search (rules, counting_low)
-
-pub number_of-requires : goal.number_of-requires
-number_of-requires c = (search (rules, counting_in), search rules)
-
-pub returns-then-number-number_of : goal.returns-then-number-number_of
-returns-then-number-number_of c = search (rules, counting_found)
-
-pub loop-f-preserved : goal.loop-f-preserved
-loop-f-preserved c = counting_on c.requires c.loop-f.invariant c.loop-f-test.true c.number.ensures.0 c.number_of.ensures.0 c.if-number-number_of.false
-
 pub returns : goal.returns
-returns c = search (rules, counting_end)
+returns c =
+    let frame = c.args.frame.now in
+    let tally = c.tally_run.new.tally in
+    counts_told {ports = frame.frame.of.ports} {slots = frame.frame.of.slots} {tally = tally} (of_flows frame) (search rules) c.flows.ensures
+    (found_below (λ f. not (nat_eq (slice_index tally.flows f) (number_of 2 frame.frame.of.list.now f))) _ _ _ _ c.find.ensures.ran (λ x b q k. search (rules, tests)) _ (cc))

@@ -1,16 +1,17 @@
 use Rattle.std.proofs.Common.{rules}
-use Rattle.checks.proofs.Listed.{list_fits, frame_fits}
+use Rattle.calls.specs.Sides.{side_of}
 use Rattle.inspection.proofs.Faults.{inspect_refused, inspect_frame, inspect_faults}
 use Rattle.inspection.proofs.inspect.Goals as goal
 
-pub returns-in-Refused : goal.returns-in-Refused
-returns-in-Refused c = search (rules, inspect_refused)
+pub returns-in_err-of : goal.returns-in_err-of
+returns-in_err-of c = search (rules, inspect_refused)
 
-pub returns-then-bad_length : goal.returns-then-bad_length
-returns-then-bad_length c = search (rules, inspect_frame)
-
-pub first_fault-requires : goal.first_fault-requires
-first_fault-requires c = (search (rules, list_fits), search (rules, frame_fits))
+pub returns-in_err-frame : goal.returns-in_err-frame
+returns-in_err-frame c =
+    let refused = inspect_frame (side_of c.args.side) c.args.ports c.args.slots c.args.list.now c.args.frame.now c.in_ok-of.ensures.passed c.in_ok-of.ensures.clear in
+    search (rules, refused)
 
 pub returns : goal.returns
-returns c = search (rules, inspect_faults)
+returns c =
+    inspect_faults (side_of c.args.side) c.args.ports c.args.slots c.args.list.now c.args.frame.now c.in_ok-of.ensures.passed c.in_ok-of.ensures.clear
+    c.in_ok-frame.ensures.passed c.in_ok-frame.frame.size _ c.first_fault.ensures

@@ -1,12 +1,11 @@
-use Rattle.printing.proofs.Prints.{size_known, frame_printed, frame_none}
 use Rattle.std.proofs.Common.{rules}
+use Rattle.lines.proofs.Pieces.{printed_left}
+use Rattle.printing.proofs.Prints.{frame_printed}
 use Rattle.printing.proofs.put_frame.Goals as goal
 
-pub put_sized-requires : goal.put_sized-requires
-put_sized-requires c = search (rules, size_known)
-
-pub returns-then-of_size : goal.returns-then-of_size
-returns-then-of_size c = search (rules, frame_printed)
-
 pub returns : goal.returns
-returns c = search (rules, frame_none)
+returns c =
+    printed_left _ _
+    (frame_printed _ _ _ _ _ _ _ _ _ _ _ _ _ _ _ c.in-Some.ensures.same c.in-Some.frame.sized (search rules) c.put_both-2.ensures.printed c.put_word.ensures.printed
+    c.put_slots.ensures.printed)
+    (search rules) (search rules)

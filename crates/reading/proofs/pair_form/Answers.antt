@@ -1,27 +1,26 @@
-use Rattle.reading.proofs.Pairs.{form_first, form_second, form_third, form_yes, form_end}
-use Rattle.std.proofs.Common.{refl}
+use Rattle.std.proofs.Common.{rules}
+use Rattle.sheets.specs.Text.{text}
+use Rattle.text.proofs.Numbers.{begins, begins_not}
+use Rattle.reading.proofs.Pairs.{form_none, form_first, form_second, form_third, form_end, form_yes}
 use Rattle.reading.proofs.pair_form.Goals as goal
 
-pub returns-in_default : goal.returns-in_default
-returns-in_default c = form_first _ _ _ c.in_default.ensures refl
+pub returns-in_err-input : goal.returns-in_err-input
+returns-in_err-input c = form_none _ _ (search rules) (form_first _ (search rules))
 
-pub returns-in_default-second : goal.returns-in_default-second
-returns-in_default-second c = form_second _ _ _ _ _ c.in-Number.ensures refl _ c.in_default-second.ensures refl
+pub returns-in_err-output : goal.returns-in_err-output
+returns-in_err-output c = form_none _ _ (search rules) (form_second _ _ _ c.in_ok-input.ensures (search rules))
 
-pub returns-in_default-third : goal.returns-in_default-third
-returns-in_default-third c =
-    form_third _ _ _ _ _ c.in-Number.ensures refl
-    _ _ _ c.in-Number-second.ensures refl
-    _ c.in_default-third.ensures refl
+pub returns-in_err-cells : goal.returns-in_err-cells
+returns-in_err-cells c =
+    form_none _ _ (search rules) (form_third _ _ _ c.in_ok-input.ensures _ _ c.in_ok-output.ensures (search rules))
 
-pub returns-then-word : goal.returns-then-word
-returns-then-word c =
-    form_yes _ _ _ _ _ c.in-Number.ensures refl
-    _ _ _ c.in-Number-second.ensures refl
-    _ _ _ _ c.in-Number-third.ensures refl c.word.ensures c.if-word.true
+pub returns-in_err-rest : goal.returns-in_err-rest
+returns-in_err-rest c =
+    form_none _ _ (search rules)
+    (form_end _ _ _ c.in_ok-input.ensures _ _ c.in_ok-output.ensures _ _ c.in_ok-cells.ensures
+    (λ t. begins_not (text "))\n") _ t c.in_err-rest.ensures.cases))
 
 pub returns : goal.returns
 returns c =
-    form_end _ _ _ _ _ c.in-Number.ensures refl
-    _ _ _ c.in-Number-second.ensures refl
-    _ _ _ _ c.in-Number-third.ensures refl c.word.ensures c.if-word.false
+    form_yes _ _ _ c.in_ok-input.ensures _ _ c.in_ok-output.ensures _ _ c.in_ok-cells.ensures
+    _ (begins (text "))\n") _ _ c.in_ok-rest.ensures.cases.0 c.in_ok-rest.ensures.cases.1)

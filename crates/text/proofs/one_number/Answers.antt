@@ -1,9 +1,7 @@
-use Rattle.text.proofs.Places.{line_yes, line_off}
-use Rattle.std.proofs.Common.{refl}
+use Rattle.std.proofs.Common.{rules}
+use Rattle.sheets.specs.Text.{text}
+use Rattle.text.proofs.Numbers.{begins_not, line_off}
 use Rattle.text.proofs.one_number.Goals as goal
 
-pub returns-then-word : goal.returns-then-word
-returns-then-word c = line_yes _ _ _ _ _ _ _ _ c.in-Number.ensures refl c.word.ensures c.if-word.true
-
-pub returns : goal.returns
-returns c = line_off _ _ _ _ _ _ _ _ c.in-Number.ensures refl c.word.ensures c.if-word.false
+pub returns-in_err-rest : goal.returns-in_err-rest
+returns-in_err-rest c = line_off _ _ _ _ _ _ c.in_ok-value.ensures (search rules) (λ t. begins_not (text ")\n") _ t c.in_err-rest.ensures.cases)

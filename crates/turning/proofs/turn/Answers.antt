@@ -1,32 +1,49 @@
 use Rattle.std.proofs.Common.{rules}
-use Rattle.checks.proofs.Listed.{list_well, list_fits, frame_fits}
-use Rattle.entries.proofs.Found.{flow_frame}
-use Rattle.turning.proofs.Answered.{done, list_done, frame_done, second_done, wrong_done, twice_done, turnable, turns}
+use Rattle.calls.specs.Sides.{side_of}
+use Rattle.turning.proofs.Answered.{flows_alone, list_done, frame_done, second_done, wrong_done, twice_done, turnable, turns}
 use Rattle.turning.proofs.turn.Goals as goal
 
-pub returns-in-Refused : goal.returns-in-Refused
-returns-in-Refused c = done _ _ _ _ _ _ _ _ (search (rules, list_done))
+pub returns-in_err-of : goal.returns-in_err-of
+returns-in_err-of c =
+    let a = c.args in
+    let done = list_done (side_of a.side) a.ports a.slots a.list.now a.frame.now a.second.now c.in_err-of.field-0.0 c.in_err-of.ensures.refused in
+    search rules
 
-pub returns-then-bad_length : goal.returns-then-bad_length
-returns-then-bad_length c = done _ _ _ _ _ _ _ _ (search (rules, frame_done))
+pub returns-in_err-frame : goal.returns-in_err-frame
+returns-in_err-frame c =
+    let a = c.args in
+    let done = frame_done (side_of a.side) a.ports a.slots a.list.now a.frame.now a.second.now c.in_ok-of.ensures.clear c.in_ok-of.ensures.passed c.in_err-frame.field-0.0 c.in_err-frame.ensures.refused in
+    search rules
 
 pub returns-then-second-frame : goal.returns-then-second-frame
-returns-then-second-frame c = done _ _ _ _ _ _ _ _ (second_done _ _ _ c.check_list.ensures c.in_default.is c.bad_length.ensures c.if-bad_length.false c.if-second-frame.true)
+returns-then-second-frame c =
+    let a = c.args in
+    let done = second_done (side_of a.side) a.ports a.slots a.list.now a.frame.now a.second.now c.in_ok-of.ensures.clear c.in_ok-of.ensures.passed c.in_ok-frame.frame.size c.in_ok-frame.ensures.passed c.if-second-frame.true in
+    search rules
 
-pub first_wrong-requires : goal.first_wrong-requires
-first_wrong-requires c = (list_fits c.check_list.ensures c.in_default.is, frame_fits c.check_list.ensures c.in_default.is c.bad_length.ensures c.if-bad_length.false)
+pub returns-then-is_some : goal.returns-then-is_some
+returns-then-is_some c =
+    let a = c.args in
+    let done = wrong_done (side_of a.side) a.ports a.slots a.list.now a.frame.now a.second.now c.in_ok-of.ensures.clear c.in_ok-of.ensures.passed c.in_ok-frame.frame.size c.in_ok-frame.ensures.passed c.if-second-frame.false _ c.first_wrong.ensures (search rules) in
+    search rules
 
-pub returns-then-first_wrong-frame : goal.returns-then-first_wrong-frame
-returns-then-first_wrong-frame c = done _ _ _ _ _ _ _ _ (wrong_done _ _ _ c.check_list.ensures c.in_default.is c.bad_length.ensures c.if-bad_length.false c.if-second-frame.false _ c.first_wrong.ensures c.if-first_wrong-frame.true)
+pub invariant_of-frame : goal.invariant_of-frame
+invariant_of-frame c =
+    record { each_flow = flows_alone _ _ _ _ _ c.in_ok-frame.frame.size _ c.first_wrong.ensures (search rules) }
 
-pub first_twice-requires : goal.first_twice-requires
-first_twice-requires c = let list = c.check_list.ensures in flow_frame _ (list_fits list c.in_default.is) (frame_fits list c.in_default.is c.bad_length.ensures c.if-bad_length.false) c.first_wrong.ensures c.if-first_wrong-frame.false
-
-pub returns-then-first_twice-frame : goal.returns-then-first_twice-frame
-returns-then-first_twice-frame c = done _ _ _ _ _ _ _ _ (twice_done _ _ _ c.check_list.ensures c.in_default.is c.bad_length.ensures c.if-bad_length.false c.if-second-frame.false _ c.first_wrong.ensures c.if-first_wrong-frame.false _ c.first_twice.ensures (search rules))
+pub returns-then-is_some-2 : goal.returns-then-is_some-2
+returns-then-is_some-2 c =
+    let a = c.args in
+    let done = twice_done (side_of a.side) a.ports a.slots a.list.now a.frame.now a.second.now c.in_ok-of.ensures.clear c.in_ok-of.ensures.passed c.in_ok-frame.frame.size c.in_ok-frame.ensures.passed c.if-second-frame.false _ c.first_wrong.ensures (search rules) _ c.first_twice.ensures (search rules) in
+    search rules
 
 pub turn_frame-requires : goal.turn_frame-requires
-turn_frame-requires c = let list = c.check_list.ensures in let accepted = c.in_default.is in (turnable _ (list_well list accepted) (frame_fits list accepted c.bad_length.ensures c.if-bad_length.false) c.first_wrong.ensures c.if-first_wrong-frame.false c.first_twice.ensures (search rules), c.if-second-frame.false)
+turn_frame-requires c =
+    let a = c.args in
+    (turnable (side_of a.side) a.ports a.slots a.list.now a.frame.now a.second.now c.in_ok-of.ensures.clear c.in_ok-of.ensures.passed c.in_ok-frame.frame.size c.in_ok-frame.ensures.passed c.if-second-frame.false _ c.first_wrong.ensures (search rules) _ c.first_twice.ensures (search rules), c.if-second-frame.false)
 
 pub returns : goal.returns
-returns c = done _ _ _ _ _ _ _ _ (turns _ _ _ c.check_list.ensures c.in_default.is c.bad_length.ensures c.if-bad_length.false c.if-second-frame.false _ c.first_wrong.ensures c.if-first_wrong-frame.false _ c.first_twice.ensures (search rules) c.turn_frame.ensures)
+returns c =
+    let a = c.args in
+    let done = turns (side_of a.side) a.ports a.slots a.list.now a.frame.now a.second.now c.in_ok-of.ensures.clear c.in_ok-of.ensures.passed c.in_ok-frame.frame.size c.in_ok-frame.ensures.passed c.if-second-frame.false _ c.first_wrong.ensures (search rules) _ c.first_twice.ensures (search rules) c.turn_frame.ensures in
+    search rules

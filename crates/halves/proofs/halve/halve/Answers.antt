@@ -1,13 +1,12 @@
 use Rattle.std.proofs.Common.{rules}
-use native.Mathlib.Omega.{arith}
 use Rattle.halves.proofs.Halved.{halving_start, halving_on, halving_end}
 use Rattle.halves.proofs.halve.halve.Goals as goal
 
 pub loop-w-init : goal.loop-w-init
-loop-w-init c = (omega arith, search (rules, halving_start))
+loop-w-init c = search (rules, halving_start)
 
 pub loop-w-preserved : goal.loop-w-preserved
-loop-w-preserved c = (omega arith, search (rules, halving_on))
+loop-w-preserved c = search (rules, halving_on)
 
 pub returns : goal.returns
 returns c = (search rules, search (rules, halving_end))

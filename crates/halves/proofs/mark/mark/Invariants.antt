@@ -1,9 +1,6 @@
-use Prim.Native.Nat.{◌≤◌, ◌-◌}
+use Rattle.planes.specs.Favours.{favour_numbers}
 use Rattle.halves.proofs.Marked.{Marking}
 use Rattle.halves.proofs.mark.mark.Given as goal
 
 abbrev pub invariant-loop-w : goal.invariant-loop-w
-invariant-loop-w l = (l.w ≤ l.words) × Marking l.planes l.favoured l.initial.mask l.w l.mask
-
-abbrev pub decreases-loop-w : goal.decreases-loop-w
-decreases-loop-w l = l.words - l.w
+invariant-loop-w l = Marking l.planes.words.now (favour_numbers l.favoured) l.initial.mask l.w l.mask

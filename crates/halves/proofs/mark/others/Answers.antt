@@ -1,13 +1,11 @@
 use Rattle.std.proofs.Common.{rules}
 use native.Mathlib.Omega.{arith}
-use Rattle.halves.proofs.Marked.{complementing_start, complementing_on, complementing_end}
+use Rattle.planes.proofs.Counts.{lowest_at}
+use Rattle.halves.proofs.Marked.{complementing_on}
 use Rattle.halves.proofs.mark.others.Goals as goal
 
-pub loop-w-init : goal.loop-w-init
-loop-w-init c = (omega arith, search (rules, complementing_start))
-
 pub loop-w-preserved : goal.loop-w-preserved
-loop-w-preserved c = (omega arith, search (rules, complementing_on))
-
-pub returns : goal.returns
-returns c = search (rules, complementing_end)
+loop-w-preserved c =
+    let on = complementing_on c.loop-w.invariant c.requires (omega (arith, c.loop-w-test.true, c.lowest-word-items.ensures.len, c.args.planes.ends.few))
+    (lowest_at _ _ _ c.lowest-word-items.ensures.words _ (omega (arith, c.loop-w-test.true, c.lowest-word-items.ensures.len))) in
+    search rules

@@ -1,8 +1,6 @@
+use Rattle.planes.specs.Favours.{favour_numbers}
 use Rattle.halves.proofs.Marked.{Picking}
 use Rattle.halves.proofs.mark.pick.Given as goal
 
-abbrev pub invariant-loop-rest : goal.invariant-loop-rest
-invariant-loop-rest l = Picking l.x l.base l.favoured l.rest l.picked
-
-abbrev pub decreases-loop-rest : goal.decreases-loop-rest
-decreases-loop-rest l = l.rest
+abbrev pub invariant-loop-t : goal.invariant-loop-t
+invariant-loop-t l = Picking l.x l.base (favour_numbers l.favoured) l.t-iterator.word l.picked

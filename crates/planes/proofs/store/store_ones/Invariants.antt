@@ -1,8 +1,5 @@
 use Rattle.planes.proofs.Stored.{Storing}
 use Rattle.planes.proofs.store.store_ones.Given as goal
 
-abbrev pub invariant-loop-rest : goal.invariant-loop-rest
-invariant-loop-rest l = Storing l.x l.rest l.p l.initial.planes l.planes
-
-abbrev pub decreases-loop-rest : goal.decreases-loop-rest
-decreases-loop-rest l = l.rest
+abbrev pub invariant-loop-b : goal.invariant-loop-b
+invariant-loop-b l = Storing l.x l.b-iterator.word l.p l.initial.planes l.planes
