@@ -6,7 +6,7 @@ use mathlib.Core.List.{List, [], ◌∷◌, map}
 use mathlib.Core.Bool.{Bool}
 use native.Mathlib.Omega.{arith}
 use native.Mathlib.Nat.{pow-suc, min-zero}
-use lib.Dec.{eqb}
+use lib.Dec.{eqb, eqb-zero-suc, eqb-suc-zero, eqb-suc-suc}
 use lib.ListN.{length}
 use lib.Bits.{bit_and, and_step, and_self}
 use lib.Count.{count_trailing_zeros}
@@ -39,6 +39,37 @@ zeros_odd n x e = rw e
 zeros_even : (n x : ℕ) → x % 2 ≡ 0 → count_trailing_zeros (suc n) x ≡ suc (count_trailing_zeros n (x / 2))
 unfolding count_trailing_zeros
 zeros_even n x e = rw e
+
+pub zeros_less : (n x : ℕ) → 0 < x → x < 2 ^ n → count_trailing_zeros n x < n
+zeros_less zero x h l = absurd (omega arith)
+zeros_less (suc n) x h l =
+    by_eq (x % 2) 1
+    (λ e. omega (arith, zeros_odd n x e))
+    (λ e.
+    let z : x % 2 ≡ 0 = omega arith in
+    omega (arith, zeros_even n x z, zeros_less n (x / 2) (omega arith) (omega (arith, pow-suc 2 n))))
+
+-- the lowest digit goes, and no other
+pub rest_digit : (n x i : ℕ) → 0 < x → x < 2 ^ n → digit (rest x) i + if (eqb i (count_trailing_zeros n x)) 1 0 ≡ digit x i
+rest_digit zero x i h l = absurd (omega arith)
+rest_digit (suc n) x zero h l =
+    by_eq (x % 2) 1
+    (λ e. rw (zeros_odd n x e) (omega (arith, rest_odd x e, digit_first (rest x), digit_first x)))
+    (λ e.
+    let z : x % 2 ≡ 0 = omega arith in
+    rw (zeros_even n x z, eqb-zero-suc (count_trailing_zeros n (x / 2))) (omega (arith, rest_even x h z, digit_first (rest x), digit_first x)))
+rest_digit (suc n) x (suc i) h l =
+    by_eq (x % 2) 1
+    (λ e.
+    let r = rest_odd x e in
+    let half : rest x / 2 ≡ x / 2 = omega arith in
+    rw (zeros_odd n x e, eqb-suc-zero i) (omega (arith, digit_half (rest x) i, digit_half x i, ap (λ (z : ℕ). digit z i) half)))
+    (λ e.
+    let z : x % 2 ≡ 0 = omega arith in
+    let r = rest_even x h z in
+    let half : rest x / 2 ≡ rest (x / 2) = omega arith in
+    rw (zeros_even n x z, eqb-suc-suc i (count_trailing_zeros n (x / 2)))
+    (omega (arith, digit_half (rest x) i, digit_half x i, ap (λ (y : ℕ). digit y i) half, rest_digit n (x / 2) i (omega arith) (omega (arith, pow-suc 2 n)))))
 
 -- ---- the places of the digits
 places_odd : (base n x : ℕ) → x % 2 ≡ 1 → places base (suc n) x ≡ base ∷ places (suc base) n (x / 2)

@@ -3,28 +3,27 @@ ghost use Rattle.std.specs.Prelude.{◌≤◌, ◌<◌};
 ghost use Rattle.rules.specs.Words.{Every};
 ghost use Rattle.bits.specs.Digits.{places};
 ghost use Rattle.planes.specs.Planes.{Mask};
-ghost use Rattle.planes.specs.Favours.{favour_numbers};
 ghost use Rattle.halves.specs.Steps.{Picked, Marked, Others};
 
 use bits::{ones_of, put_digit};
-use planes::favours::Favour;
-use planes::{PLANE_WORDS, POSITIONS, Planes};
+use planes::favours::FavourTable;
+use planes::{PLANE_WORDS, Planes};
 
 // The word is made in a register: digits put into a mask one after the other would wait for each store.
-fn pick(x: u64, base: usize, favoured: &[Favour; POSITIONS]) -> u64
+fn pick<F: FavourTable>(x: u64, base: usize, favoured: &F) -> u64
     requires { (base ≤ 512) × Every (λ p. p < 528) (places base 64 x) }
-    ensures { Picked x base (favour_numbers favoured.now) result }
+    ensures { Picked x base (F.numbers favoured.now) result }
 {
     let mut picked: u64 = 0;
     for t in ones_of(x) {
-        picked = put_digit(picked, t, favoured[base + t].digit());
+        picked = put_digit(picked, t, favoured.digit(base + t));
     }
     picked
 }
 
 // The odd counts that favour the first half.
-pub fn mark(planes: Planes<'_>, favoured: &[Favour; POSITIONS], mask: &mut [u64; PLANE_WORDS])
-    ensures { Marked planes.entry.positions planes.entry.words.now (favour_numbers favoured.now) mask.old mask.new }
+pub fn mark<F: FavourTable>(planes: Planes<'_>, favoured: &F, mask: &mut [u64; PLANE_WORDS])
+    ensures { Marked planes.entry.positions planes.entry.words.now (F.numbers favoured.now) mask.old mask.new }
 {
     for (w, &word) in planes.lowest().iter().enumerate() {
         mask[w] = pick(word, w * 64, favoured);

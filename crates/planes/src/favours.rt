@@ -1,6 +1,8 @@
 // The half that a count favours.
-ghost use Rattle.std.specs.Prelude.{◌≡◌, ◌%◌, ◌≤◌, not, eqb};
-ghost use Rattle.planes.specs.Favours.{favour_number, other_half};
+ghost use Rattle.std.specs.Prelude.{ℕ, ◌≡◌, ◌%◌, ◌<◌, ◌≤◌, List, get_or, not, eqb};
+ghost use Rattle.planes.specs.Favours.{favour_number, favour_numbers, other_half};
+
+use crate::POSITIONS;
 
 // An odd count favours a half once it is settled; an even one never does.
 #[derive(Clone, Copy, Debug, PartialEq, Eq)]
@@ -41,5 +43,33 @@ impl Favour {
             Favour::First => Favour::Second,
             Favour::Unsettled | Favour::Second => Favour::First,
         }
+    }
+}
+
+// What tells the half that the count at each position favours by a number, odd for the first half: halves, or bytes that are the numbers.
+pub trait FavourTable {
+    ghost numbers: { Self → List ℕ };
+
+    // 1 for an odd number at a position, 0 for any other.
+    fn digit(&self, p: usize) -> u64
+        requires { p < 528 }
+        ensures { (result ≡ get_or (numbers self.now) p 0 % 2) × (result ≤ 1) };
+}
+
+impl FavourTable for [Favour; POSITIONS] {
+    ghost numbers = { favour_numbers };
+
+    #[inline]
+    fn digit(&self, p: usize) -> u64 {
+        self[p].digit()
+    }
+}
+
+impl FavourTable for [u8; POSITIONS] {
+    ghost numbers = { λ bytes. bytes };
+
+    #[inline]
+    fn digit(&self, p: usize) -> u64 {
+        u64::from(self[p] % 2)
     }
 }

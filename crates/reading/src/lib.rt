@@ -8,7 +8,7 @@ ghost use Rattle.reading.specs.Reading.{FormOf, PortsOf, SlotsOf, PairOf, SheetO
 
 use calls::Refusal;
 use flows::{LIST_MOST, put_flow};
-use text::{NumberRead, number_after, one_number};
+use text::{NumberRead, behind, number_after, one_number};
 
 // The largest number of a sheet.
 const NUMBER_MOST: usize = 65535;
@@ -40,7 +40,7 @@ fn pair_form(bytes: &[u8]) -> Option<Pair<'_>>
         rest,
     } = number_after(rest, b") (out ", NUMBER_MOST)?;
     let NumberRead { value: cells, rest } = number_after(rest, b") (cells ", NUMBER_MOST)?;
-    let rest = rest.strip_prefix(b"))\n")?;
+    let rest = behind(rest, b"))\n")?;
     Some(Pair {
         input,
         output,

@@ -144,3 +144,10 @@ module _ (s frame : List ℕ) (r : Result Loads Refusal) (x : Answered (read_she
       let l = response_most s in
       let stands = response_in one new n (omega arith) y ∙ ap (λ k. response s ++ drop k one) (sym c) in
       record { size = c; most = omega arith; is = search stands }
+
+-- the whole response lies in its buffer
+pub whole_inside : {bytes out new : List ℕ} {r : ℕ} → Whole bytes out new r → r ≤ length new
+whole_inside {bytes} {out} {new} {r} x =
+    let a = x.size in
+    let e = ap length x.is ∙ length-append bytes (drop r out) in
+    omega arith

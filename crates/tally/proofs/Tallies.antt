@@ -36,7 +36,7 @@ in_place l total of = tt
 number_at : (n : ℕ) (g : ℕ → ℕ) (x : ℕ) → x < n → get_or (map g (up_from 0 n)) x 0 ≡ g x
 number_at n g x h = map_at g 0 n x h ∙ ap g (omega arith)
 
-tally_number : (list entries : List ℕ) (c : Class) → Placed c → number_in (tally_of list entries) c ≡ flow_cells list c entries
+pub tally_number : (list entries : List ℕ) (c : Class) → Placed c → number_in (tally_of list entries) c ≡ flow_cells list c entries
 unfolding tally_of
 tally_number list entries (flow f) h = omega (arith, number_at 512 (λ f. flow_cells list (flow f) entries) f h)
 tally_number list entries (port_on input i) h = number_at 16 (λ i. flow_cells list (port_on input i) entries) i h

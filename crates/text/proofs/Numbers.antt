@@ -1,10 +1,7 @@
 -- Words and numbers at the front of some bytes.
-use Rattle.std.proofs.Common.{◌≡◌, ℕ, ◌+◌, ◌*◌, ◌≤◌, ◌<◌, ◌≢◌, List, [], ◌∷◌, ◌++◌, true, false, length, get_or, take, drop, None, Some, refl, sym, ap, ◌∙◌, arith, append_assoc, true≢false}
-use Rattle.std.proofs.lemmas.List.{append_cancel_left, take-append-drop}
-use Rattle.std.proofs.Math.Seq.{take-append_seam}
+use Rattle.std.proofs.Common.{◌≡◌, ℕ, ◌+◌, ◌*◌, ◌-◌, ◌≤◌, ◌<◌, ◌≢◌, List, [], ◌∷◌, ◌++◌, true, false, length, get_or, take, drop, None, Some, refl, sym, ap, ◌∙◌, arith, append_assoc, true≢false}
+use Rattle.std.proofs.lemmas.List.{append_cancel_left, take-append-drop, take_all, length-drop}
 use Rattle.std.specs.declared.option.Option.{Option}
-use Rattle.std.specs.Str.{bytes_eq}
-use Rattle.std.proofs.lemmas.Slice.Eq.{bytes_eq-Decides}
 use Rattle.rules.specs.Words.{within}
 use Rattle.sheets.specs.Text.{text, decimal, numbers_from}
 use Rattle.rules.proofs.Cases.{by_lt, within_yes}
@@ -93,17 +90,17 @@ number_end most s v rest x y =
     }
 
 -- ---- a word and what stands behind it
--- the bytes begin with the word, or with no bytes as they are
-pub begins : (w s t : List ℕ) → bytes_eq (take (length w) s) w ≡ true → t ≡ drop (length w) s → s ≡ w ++ t
-begins w s t e f =
-    sym (take-append-drop (length w) s) ∙ (ap (λ z. z ++ drop (length w) s) ((bytes_eq-Decides (take (length w) s) w).0 e) ∙ ap (λ z. w ++ z) (sym f))
+-- every byte of the word has been compared
+pub word_passed : (w s : List ℕ) (i : ℕ) → length w ≤ i → i ≤ length w → take i s ≡ take i w → s ≡ w ++ take (length s - length w) (drop (length w) s)
+word_passed w s i g h e =
+    let same : i ≡ length w = omega arith in
+    let front : take (length w) s ≡ w = ap (λ n. take n s) (sym same) ∙ (e ∙ take_all i w g) in
+    sym (take-append-drop (length w) s)
+    ∙ (ap (λ z. z ++ drop (length w) s) front
+    ∙ ap (λ z. w ++ z) (sym (take_all (length s - length w) (drop (length w) s) (omega (arith, length-drop (length w) s)))))
 
-pub begins_not : (w s t : List ℕ) → bytes_eq (take (length w) s) w ≡ false → s ≢ w ++ t
-begins_not w s t e f =
-    true≢false (sym ((bytes_eq-Decides (take (length w) s) w).1 (ap (take (length w)) f ∙ take-append_seam w t)) ∙ e)
-
-pub after_none : (most : ℕ) (w s : List ℕ) (r : Option NumberRead) → r ≡ None → bytes_eq (take (length w) s) w ≡ false → NumberOf most w s r
-after_none most w s r n e = rw n (record { never = λ u t h k g. begins_not w s (decimal u ++ t) e g })
+pub after_none : (most : ℕ) (w s : List ℕ) (r : Option NumberRead) → r ≡ None → ((t : List ℕ) → s ≢ w ++ t) → NumberOf most w s r
+after_none most w s r n e = rw n (record { never = λ u t h k g. e (decimal u ++ t) g })
 
 pub after_some : (most : ℕ) (w s t : List ℕ) (r : Option NumberRead) → s ≡ w ++ t → NumberOf most [] t r → NumberOf most w s r
 after_some most w s t None k x =

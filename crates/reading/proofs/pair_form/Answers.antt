@@ -1,6 +1,4 @@
 use Rattle.std.proofs.Common.{rules}
-use Rattle.sheets.specs.Text.{text}
-use Rattle.text.proofs.Numbers.{begins, begins_not}
 use Rattle.reading.proofs.Pairs.{form_none, form_first, form_second, form_third, form_end, form_yes}
 use Rattle.reading.proofs.pair_form.Goals as goal
 
@@ -18,9 +16,9 @@ pub returns-in_err-rest : goal.returns-in_err-rest
 returns-in_err-rest c =
     form_none _ _ (search rules)
     (form_end _ _ _ c.in_ok-input.ensures _ _ c.in_ok-output.ensures _ _ c.in_ok-cells.ensures
-    (λ t. begins_not (text "))\n") _ t c.in_err-rest.ensures.cases))
+    c.in_err-rest.ensures.cases)
 
 pub returns : goal.returns
 returns c =
     form_yes _ _ _ c.in_ok-input.ensures _ _ c.in_ok-output.ensures _ _ c.in_ok-cells.ensures
-    _ (begins (text "))\n") _ _ c.in_ok-rest.ensures.cases.0 c.in_ok-rest.ensures.cases.1)
+    _ c.in_ok-rest.ensures.cases

@@ -1,0 +1,2 @@
+-- Lemmas about the numbers of answers.
+pub mod Told
